@@ -1,0 +1,15 @@
+pub mod Test
+pub mod Xor
+pub mod Product
+pub mod Laws
+pub mod Powers
+pub mod Cells
+pub mod Sums
+pub mod Filter
+pub mod Solve
+pub mod Words
+pub mod Decode
+pub mod Search
+pub mod Locate
+pub mod Theorems
+pub mod Generator

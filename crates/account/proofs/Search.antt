@@ -1,0 +1,159 @@
+-- The search for what is wrong: a guess is a list of unmarked cells. With the marked cells it holds all that is wrong exactly
+-- where it fits: where the sums that are left, with the guess filtered out, are nothing.
+use mathlib.Core.Path.{_≡_, refl, sym, ap, ap₂, _∙_, subst}
+use mathlib.Core.Logic.{_≢_}
+use mathlib.Core.Bool.{Bool, true, false, not}
+use mathlib.Core.List.{List, [], _∷_, _++_, map}
+use Prim.Native.Nat.{ℕ, zero, suc, _+_, _*_, _-_, _≤_, _<_}
+use native.Mathlib.Omega.{arith}
+use lib.Dec.{T}
+use lib.ListN.{length, getD, length-append}
+use Rattle.account.specs.Field.{Ops, In, IsField}
+use Rattle.account.specs.Code.{Cells, Clean}
+use Rattle.account.specs.Reach.{countTo, isMarked, differsAt, marked, differing, Reach}
+use Rattle.account.proofs.Powers as powers
+use Rattle.account.proofs.Cells.{Outside, Below, Distinct, Falling, places, outside-left, outside-right, outside-append, below-append, below-places, outside-places, places-outside, distinct-places, falling-places, count-places, count-most, marked-not, marked-differs, differs-unmarked, same-at, not-differs}
+use Rattle.account.proofs.Filter as filter
+use Rattle.account.proofs.Filter.{filt}
+use Rattle.account.proofs.Solve as solve
+use Rattle.account.proofs.Words.{sumsOf}
+use Rattle.account.proofs.Decode as decode
+use Rattle.account.proofs.Decode.{Fixes, Applied, values}
+
+-- the marked cells, the last first
+abbrev pub erasures : List ℕ → List ℕ
+erasures marks = places (isMarked marks) (length marks)
+
+-- the first k of t are nothing
+abbrev pub Zeros : ℕ → (ℕ → ℕ) → Type 0
+Zeros k t = (m : ℕ) → m < k → t m ≡ 0
+
+-- none of the cells is marked
+abbrev pub Unmarked : List ℕ → List ℕ → Type 0
+Unmarked marks [] = Unit {0}
+Unmarked marks (p ∷ ps) = (getD marks p 0 ≡ 0) × Unmarked marks ps
+
+unmarked-outside : (marks : List ℕ) (i : ℕ) → T (isMarked marks i) → (ps : List ℕ) → Unmarked marks ps → Outside ps i
+unmarked-outside marks i t [] u = tt
+unmarked-outside marks i t (p ∷ ps) u = (marked-not marks i p t (u .0), unmarked-outside marks i t ps (u .1))
+
+pub distinct-guess : (marks bs : List ℕ) → Distinct bs → Unmarked marks bs → Distinct (erasures marks ++ bs)
+distinct-guess marks bs d u = distinct-places (isMarked marks) (length marks) bs d (λ i l t. unmarked-outside marks i t bs u)
+
+module _ (O : Ops) (F : IsField O) where
+  open Ops O using (_⊕_, _⊗_, order)
+
+  infixl 60 _⊕_
+  infixl 70 _⊗_
+  -- the guess bs fits: with its cells filtered out the first k of t are nothing
+  pub record Fits (marks : List ℕ) (t : ℕ → ℕ) (k : ℕ) (bs : List ℕ) : Type 0 where
+    pub unmarked : Unmarked marks bs
+    pub none : Zeros k (filt O (map (powers.place O F (length marks)) bs) t)
+
+  -- what is known once the f marked cells are filtered out of the sums
+  pub record Ready (marks r : List ℕ) (t : ℕ → ℕ) (f : ℕ) : Type 0 where
+    pub matched : length r ≡ length marks
+    pub short : length marks ≤ order
+    pub cells : Cells O r
+    pub count : f ≡ length (erasures marks)
+    pub left : (m : ℕ) → m + f < 5 → t m ≡ filt O (map (powers.place O F (length marks)) (erasures marks)) (sumsOf O r) m
+
+  module _ (marks r : List ℕ) (t : ℕ → ℕ) (f : ℕ) (R : Ready marks r t f) where
+    abbrev n : ℕ
+    n = length marks
+
+    abbrev X : ℕ → ℕ
+    X = powers.place O F (length marks)
+
+    -- the guess bs, by the sums that are left
+    fit-at : (bs : List ℕ) (m : ℕ) → m + length (erasures marks ++ bs) < 5
+        → filt O (map X (erasures marks ++ bs)) (sumsOf O r) m ≡ filt O (map X bs) t m
+    fit-at bs m l =
+        ap (λ (xs : List ℕ). filt O xs (sumsOf O r) m) (filter.map-append X (erasures marks) bs)
+        ∙ filter.filt-append O (map X (erasures marks)) (map X bs) (sumsOf O r) m
+        ∙ sym (filter.filt-near O (map X bs) t (filt O (map X (erasures marks)) (sumsOf O r)) (5 - f) (λ i j. R .left i (omega arith)) m
+        (rw (filter.length-map X bs) (omega (arith, length-append (erasures marks) bs, R .count))))
+
+    f-is : marked marks r ≡ f
+    f-is = ap (countTo (isMarked marks)) (R .matched) ∙ sym (count-places (isMarked marks) n) ∙ sym (R .count)
+
+    -- a guess that fits, with the solved values, gives a clean word within reach
+    pub mended : (bs : List ℕ) → Below bs n → Distinct bs → 2 * length bs + f ≤ 5 → Fits marks t (5 - f - length bs) bs
+        → (w : List ℕ) → Applied O (erasures marks ++ bs) (values O F (erasures marks ++ bs) r) r w → Clean O w × Reach marks r w
+    mended bs bb db few fit w a = (clean, record { same-length = a .same-length; few = near })
+      where
+        ps : List ℕ
+        ps = erasures marks ++ bs
+
+        below : Below (erasures marks ++ bs) (length r)
+        below = subst (Below (erasures marks ++ bs)) (sym (R .matched)) (below-append (erasures marks) bs n (below-places (isMarked marks) n) bb)
+
+        clean : Clean O w
+        clean =
+            decode.sound O F r (erasures marks ++ bs) (omega (arith, R .matched, R .short)) below (distinct-guess marks bs db (fit .unmarked))
+            (subst (λ (k : ℕ). (m : ℕ) → m + length (erasures marks ++ bs) < 5 → filt O (map (powers.place O F k) (erasures marks ++ bs)) (sumsOf O r) m ≡ 0) (sym (R .matched))
+            (λ m l. fit-at bs m l ∙ fit .none m (omega (arith, length-append (erasures marks) bs, R .count))))
+            w a
+
+        right : (p : ℕ) → p < length r → Outside bs p → T (not (differsAt marks r w p))
+        right p l o = go (isMarked marks p) refl
+          where
+            go : (b : Bool) → isMarked marks p ≡ b → T (not (differsAt marks r w p))
+            go true e = marked-differs marks r w p (subst T (sym e) tt)
+            go false e =
+                not-differs marks r w p
+                (a .cell p l
+                ∙ ap (λ (x : ℕ). getD r p 0 ⊕ x)
+                (solve.added-off O F (erasures marks ++ bs) (values O F (erasures marks ++ bs) r) p
+                (outside-append (erasures marks) bs p (places-outside (isMarked marks) n p (subst (λ (b : Bool). T (not b)) (sym e) tt)) o))
+                ∙ F .add-zero (getD r p 0))
+
+        near : 2 * differing marks r w + marked marks r ≤ 5
+        near = omega (arith, count-most (differsAt marks r w) (length r) bs right, f-is)
+
+    -- what is within reach has at most two wrong cells, and each guess of as many has failed
+    pub refuted : (v : List ℕ) → Cells O v → Reach marks r v → Clean O v
+        → (Zeros (5 - f) t → ⊥)
+        → (2 + f ≤ 5 → (p : ℕ) → p < n → Fits marks t (5 - f - 1) (p ∷ []) → ⊥)
+        → (4 + f ≤ 5 → (p q : ℕ) → p < n → q < p → Fits marks t (5 - f - 2) (p ∷ q ∷ []) → ⊥)
+        → ⊥
+    refuted v cv hv kv e0 e1 e2 =
+        go (places wrong n) (falling-places wrong n) few
+        (decode.complete O F n r (erasures marks ++ places wrong n) v (R .matched)
+        (record {
+          same-length = hv .same-length;
+          cells = cv;
+          clean = kv;
+          rest = λ p l o.
+              same-at marks r v p (outside-places (isMarked marks) n p (omega (arith, R .matched)) (outside-left (erasures marks) (places wrong n) p o))
+              (outside-places wrong n p (omega (arith, R .matched)) (outside-right (erasures marks) (places wrong n) p o));
+        }))
+      where
+        wrong : ℕ → Bool
+        wrong = differsAt marks r v
+
+        few : 2 * length (places wrong n) + f ≤ 5
+        few =
+            omega (arith, count-places wrong n, f-is, ap (countTo wrong) (R .matched), hv .few)
+
+        plain : (p : ℕ) → T (wrong p) → getD marks p 0 ≡ 0
+        plain p u = differs-unmarked marks r v p u
+
+        go : (ws : List ℕ) → Falling wrong ws n → 2 * length ws + f ≤ 5
+            → ((m : ℕ) → m + length (erasures marks ++ ws) < 5 → filt O (map X (erasures marks ++ ws)) (sumsOf O r) m ≡ 0) → ⊥
+        go [] d l z = e0 (λ m h. sym (fit-at [] m (near m h)) ∙ z m (near m h))
+          where
+            near : (m : ℕ) → m < 5 - f → m + length (erasures marks ++ []) < 5
+            near m h = omega (arith, length-append (erasures marks) [], R .count)
+        go (p ∷ []) d l z =
+            e1 (omega arith) p (d .0) (record { unmarked = (plain p (d .1), tt); none = λ m h. sym (fit-at (p ∷ []) m (near m h)) ∙ z m (near m h) })
+          where
+            near : (m : ℕ) → m < 5 - f - 1 → m + length (erasures marks ++ p ∷ []) < 5
+            near m h = omega (arith, length-append (erasures marks) (p ∷ []), R .count)
+        go (p ∷ q ∷ []) d l z =
+            e2 (omega arith) p q (d .0) (d .2 .0)
+            (record { unmarked = (plain p (d .1), (plain q (d .2 .1), tt)); none = λ m h. sym (fit-at (p ∷ q ∷ []) m (near m h)) ∙ z m (near m h) })
+          where
+            near : (m : ℕ) → m < 5 - f - 2 → m + length (erasures marks ++ p ∷ q ∷ []) < 5
+            near m h = omega (arith, length-append (erasures marks) (p ∷ q ∷ []), R .count)
+        go (p ∷ q ∷ x ∷ ws) d l z = omega arith

@@ -1,0 +1,35 @@
+-- The code, over any field: sums, clean words.
+use mathlib.Core.Path.{_≡_}
+use mathlib.Core.List.{List, [], _∷_}
+use Prim.Native.Nat.{ℕ, zero, suc, _+_, _*_, _-_, _≤_, _<_}
+use lib.IntN.{ℤ, pos, negsuc, _*ℤ_}
+use lib.Signed.{_≤ℤ_}
+use lib.ListN.{length, getD}
+use Rattle.account.specs.Field.{Ops, In, power, sumTo}
+
+module _ (O : Ops) where
+  open Ops O using (_⊗_, α, α⁻¹)
+
+  infixl 70 _⊗_
+  -- α^j; "a negative power is a power of the inverse"
+  unfoldable pub alphaTo : ℤ → ℕ
+  unfolding power
+  alphaTo (pos m) = power O α m
+  alphaTo (negsuc m) = power O α⁻¹ (suc m)
+
+  -- the cells of w are elements of the field
+  pub record Cells (w : List ℕ) : Type 0 where
+    pub cell : (p : ℕ) → p < length w → In O (getD w p 0)
+
+  -- "The last byte has power 0, the first power n − 1. .. the sum S_j adds byte times α^(ji) over all powers i"
+  unfoldable pub S : ℤ → List ℕ → ℕ
+  unfolding sumTo alphaTo
+  S j w = sumTo O (length w) (λ p. getD w p 0 ⊗ alphaTo (j *ℤ pos (length w - suc p)))
+
+  -- the syndrome: the five sums S_-2 to S_2
+  abbrev pub syndrome : List ℕ → List ℕ
+  syndrome w = S (negsuc 1) w ∷ S (negsuc 0) w ∷ S (pos 0) w ∷ S (pos 1) w ∷ S (pos 2) w ∷ []
+
+  -- "The five sums S_-2 to S_2 are all zero in a clean word, and only there"
+  abbrev pub Clean : List ℕ → Type 0
+  Clean w = (j : ℤ) → negsuc 1 ≤ℤ j → j ≤ℤ pos 2 → S j w ≡ 0

@@ -1,0 +1,5 @@
+pub mod Field
+pub mod Product
+pub mod Code
+pub mod Reach
+pub mod Generator

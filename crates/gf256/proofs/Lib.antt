@@ -1,0 +1,3 @@
+pub mod Field256
+pub mod Tables
+pub mod Signs

@@ -1,0 +1,11 @@
+-- "The product is taken modulo t^8 + t^4 + t^3 + t^2 + 1; α is 02", its inverse 8E, and it has 255 powers.
+use Prim.Native.Nat.{ℕ}
+use Rattle.account.specs.Field.{Ops}
+use Rattle.account.specs.Product.{product, binary}
+
+abbrev pub gf256 : Ops
+gf256 = binary 7 0x11D 0x8E 255
+
+-- the product of two bytes
+abbrev pub times : ℕ → ℕ → ℕ
+times = product 7 0x11D

@@ -1,0 +1,2 @@
+pub mod Gf256
+pub mod Tables

@@ -1,0 +1,190 @@
+-- A word's remainder: nothing only where the word is clean; and the check bytes.
+use mathlib.Core.Path.{_≡_, refl, sym, ap, ap₂, _∙_, subst}
+use mathlib.Core.List.{List, [], _∷_, _++_, append-assoc, append-nil}
+use Prim.Native.Nat.{ℕ, zero, suc, _+_, _*_, _-_, _/_, _%_, _<_, _≤_}
+use native.Mathlib.Nat.{mod-lt, zero-lt-suc}
+use native.Mathlib.Numerals.{add-one}
+use native.Mathlib.Omega.{arith}
+use lib.IntN.{ℤ, pos, negsuc}
+use lib.Signed.{_≤ℤ_, leZ-yes}
+use lib.Bits.{bitXor}
+use lib.ListN.{length, getD, take}
+use lib.Seq.{take-suc, take-all}
+use Rattle.account.specs.Field.{power, sumTo}
+use Rattle.account.specs.Product.{product}
+use Rattle.account.specs.Code.{alphaTo, S, Cells, Clean, syndrome}
+use Rattle.account.proofs.Laws as laws
+use Rattle.account.proofs.Words as words
+use Rattle.account.proofs.Words.{value, five}
+use Rattle.account.proofs.Decode as decode
+use Rattle.gf256.specs.Gf256.{gf256, times}
+use Rattle.gf256.proofs.Field256.{field256}
+use Rattle.remainder.specs.Remainder.{unpacked, horn, hornAll, at5, Moved, Remains, Checks}
+use Rattle.remainder.proofs.Kernel.{AllBytes, bytes5, horn-zero, start}
+
+-- ---- sums by Horner's rule
+
+horn-value : (y : ℕ) (w bs : List ℕ) → AllBytes bs → hornAll y (value gf256 y w) bs ≡ value gf256 y (w ++ bs)
+horn-value y w [] h = ap (value gf256 y) (sym (append-nil w))
+horn-value y w (b ∷ bs) h =
+    ap (λ (u : ℕ). hornAll y u bs) (sym (words.value-snoc gf256 field256 y w b (h .0))) ∙ horn-value y (w ++ b ∷ []) bs (h .1)
+    ∙ ap (value gf256 y) (append-assoc w (b ∷ []) bs)
+
+pub at5-value : (y r : ℕ) → at5 y r ≡ value gf256 y (unpacked r)
+unfolding at5
+at5-value y r = ap (λ (u : ℕ). hornAll y u (unpacked r)) (sym (words.value-none gf256 field256 y)) ∙ horn-value y [] (unpacked r) (bytes5 r)
+
+-- the five packed bytes, at a root
+pub at5-sum : (j : ℤ) (r : ℕ) → at5 (alphaTo gf256 j) r ≡ S gf256 j (unpacked r)
+at5-sum j r = at5-value (alphaTo gf256 j) r ∙ sym (words.sum-value gf256 field256 j (unpacked r))
+
+pub at-five : (y r a1 a2 a3 a4 m1 m2 m3 m4 l0 : ℕ) → a4 ≡ r / 4294967296 % 256 → m1 ≡ times a4 y → a3 ≡ r / 16777216 % 256 → m2 ≡ times (bitXor m1 a3) y
+    → a2 ≡ r / 65536 % 256 → m3 ≡ times (bitXor m2 a2) y → a1 ≡ r / 256 % 256 → m4 ≡ times (bitXor m3 a1) y → l0 ≡ r % 256 → bitXor m4 l0 ≡ at5 y r
+unfolding at5
+at-five y r a1 a2 a3 a4 m1 m2 m3 m4 l0 e4 f1 e3 f2 e2 f3 e1 f4 e0 =
+    rw (f4, f3, f2, f1, e4, e3, e2, e1, e0) (ap (λ (u : ℕ). hornAll y u (r / 16777216 % 256 ∷ r / 65536 % 256 ∷ r / 256 % 256 ∷ r % 256 ∷ [])) (sym (horn-zero y (r / 4294967296 % 256))))
+
+-- ---- the loop
+
+pub begins : Remains [] 0
+unfolding S sumTo alphaTo power product
+begins = record {
+  small = omega arith;
+  sums = five (λ j. S gf256 j (unpacked 0) ≡ S gf256 j []) refl refl refl refl refl;
+}
+
+-- more bytes after a word
+pub goes-on : (w bs : List ℕ) (r x : ℕ) → AllBytes bs → Remains w r → Moved r bs x → Remains (w ++ bs) x
+goes-on w bs r x h R M = record {
+  small = M .small;
+  sums = λ j l u.
+      sym (at5-sum j x) ∙ M .roots j l u
+      ∙ ap (λ (v : ℕ). hornAll (alphaTo gf256 j) v bs) (at5-sum j r ∙ R .sums j l u ∙ words.sum-value gf256 field256 j w)
+      ∙ horn-value (alphaTo gf256 j) w bs h ∙ sym (words.sum-value gf256 field256 j (w ++ bs));
+}
+
+module _ (w : List ℕ) (h : (p : ℕ) → getD w p 0 < 256) where
+  take-one : (k : ℕ) → k < length w → take (k + 1) w ≡ take k w ++ getD w k 0 ∷ []
+  take-one k l = ap (λ (i : ℕ). take i w) (add-one k) ∙ take-suc w k 0 l
+
+  pub one-more : (k r x : ℕ) → k < length w → Remains (take k w) r → Moved r (getD w k 0 ∷ []) x → Remains (take (k + 1) w) x
+  one-more k r x l R M =
+      subst (λ (v : List ℕ). Remains v x) (sym (take-one k l)) (goes-on (take k w) (getD w k 0 ∷ []) r x (h k, tt) R M)
+
+  take-four : (k : ℕ) → k + 3 < length w → take (k + 4) w ≡ take k w ++ getD w k 0 ∷ getD w (k + 1) 0 ∷ getD w (k + 2) 0 ∷ getD w (k + 3) 0 ∷ []
+  take-four k l =
+      ap (λ (i : ℕ). take i w) (four 3) ∙ take-one (k + 3) (omega arith)
+      ∙ ap (λ (v : List ℕ). v ++ getD w (k + 3) 0 ∷ []) (ap (λ (i : ℕ). take i w) (four 2) ∙ take-one (k + 2) (omega arith)
+      ∙ ap (λ (v : List ℕ). v ++ getD w (k + 2) 0 ∷ []) (ap (λ (i : ℕ). take i w) (four 1) ∙ take-one (k + 1) (omega arith)
+      ∙ ap (λ (v : List ℕ). v ++ getD w (k + 1) 0 ∷ []) (take-one k (omega arith))))
+      ∙ simp append-assoc
+    where
+      four : (i : ℕ) → k + suc i ≡ k + i + 1
+      four i = omega arith
+
+  pub four-more : (k r x : ℕ) → k + 3 < length w → Remains (take k w) r
+      → Moved r (getD w k 0 ∷ getD w (k + 1) 0 ∷ getD w (k + 2) 0 ∷ getD w (k + 3) 0 ∷ []) x → Remains (take (k + 4) w) x
+  four-more k r x l R M =
+      subst (λ (v : List ℕ). Remains v x) (sym (take-four k l))
+      (goes-on (take k w) (getD w k 0 ∷ getD w (k + 1) 0 ∷ getD w (k + 2) 0 ∷ getD w (k + 3) 0 ∷ []) r x (h k, (h (k + 1), (h (k + 2), (h (k + 3), tt)))) R M)
+
+pub ends : (w : List ℕ) (k r : ℕ) → length w ≤ k → Remains (take k w) r → Remains w r
+ends w k r h R = subst (λ (v : List ℕ). Remains v r) (take-all k w h) R
+
+-- ---- nothing, and only there
+
+pub cells-of : (bs : List ℕ) → AllBytes bs → Cells gf256 bs
+cells-of bs h = record { cell = at bs h }
+  where
+    at : (l : List ℕ) → AllBytes l → (p : ℕ) → p < length l → getD l p 0 < 256
+    at [] h p k = absurd (omega arith)
+    at (b ∷ l) h zero k = h .0
+    at (b ∷ l) h (suc p) k = at l (h .1) p (omega arith)
+
+sum-none : (j : ℤ) → S gf256 j [] ≡ 0
+unfolding S sumTo
+sum-none j = refl
+
+none-clean : Clean gf256 (unpacked 0)
+none-clean j l u = begins .sums j l u ∙ sum-none j
+
+unpacked-none : (r : ℕ) → Clean gf256 (unpacked r) → unpacked r ≡ unpacked 0
+unpacked-none r c =
+    decode.same gf256 field256 5 (omega arith) (0 ∷ 1 ∷ 2 ∷ 3 ∷ 4 ∷ []) (unpacked r) (unpacked 0) refl refl
+    (omega arith, (omega arith, (omega arith, (omega arith, (omega arith, tt))))) (omega arith) (cells-of (unpacked r) (bytes5 r)) (cells-of (unpacked 0) (bytes5 0)) c none-clean
+    (λ p l o. absurd (nowhere p l (o .0) (o .1 .0) (o .1 .1 .0) (o .1 .1 .1 .0) (o .1 .1 .1 .1 .0)))
+  where
+    nowhere : (p : ℕ) → p < 5 → (p ≡ 0 → ⊥) → (p ≡ 1 → ⊥) → (p ≡ 2 → ⊥) → (p ≡ 3 → ⊥) → (p ≡ 4 → ⊥) → ⊥
+    nowhere zero l a b c d e = a refl
+    nowhere (suc zero) l a b c d e = b refl
+    nowhere (suc (suc zero)) l a b c d e = c refl
+    nowhere (suc (suc (suc zero))) l a b c d e = d refl
+    nowhere (suc (suc (suc (suc zero)))) l a b c d e = e refl
+    nowhere (suc (suc (suc (suc (suc p))))) l a b c d e = omega arith
+
+cut4 : (r : ℕ) → r < 1099511627776 → r / 4294967296 % 256 ≡ 0 → r < 4294967296
+cut4 r h e = omega arith
+
+cut3 : (r : ℕ) → r < 4294967296 → r / 16777216 % 256 ≡ 0 → r < 16777216
+cut3 r h e = omega arith
+
+cut2 : (r : ℕ) → r < 16777216 → r / 65536 % 256 ≡ 0 → r < 65536
+cut2 r h e = omega arith
+
+cut1 : (r : ℕ) → r < 65536 → r / 256 % 256 ≡ 0 → r < 256
+cut1 r h e = omega arith
+
+cut0 : (r : ℕ) → r < 256 → r % 256 ≡ 0 → r ≡ 0
+cut0 r h e = omega arith
+
+packed-none : (r : ℕ) → r < 1099511627776 → unpacked r ≡ unpacked 0 → r ≡ 0
+packed-none r h e = cut0 r (cut1 r (cut2 r (cut3 r (cut4 r h (at 0)) (at 1)) (at 2)) (at 3)) (at 4)
+  where
+    at : (i : ℕ) → getD (unpacked r) i 0 ≡ getD (unpacked 0) i 0
+    at i = ap (λ (l : List ℕ). getD l i 0) e
+
+pub clean-none : (w : List ℕ) (r : ℕ) → Remains w r → Clean gf256 w → r ≡ 0
+clean-none w r R c = packed-none r (R .small) (unpacked-none r (λ j l u. R .sums j l u ∙ c j l u))
+
+pub none-is-clean : (w : List ℕ) (r : ℕ) → Remains w r → r ≡ 0 → Clean gf256 w
+none-is-clean w r R e j l u = sym (R .sums j l u) ∙ ap (λ (x : ℕ). S gf256 j (unpacked x)) e ∙ none-clean j l u
+
+-- the syndrome of the remainder is the word's
+pub syndrome-same : (w : List ℕ) (r : ℕ) → Remains w r → syndrome gf256 (unpacked r) ≡ syndrome gf256 w
+syndrome-same w r R =
+    rw (
+      R .sums (negsuc 1) (leZ-yes tt) (leZ-yes tt),
+      R .sums (negsuc 0) (leZ-yes tt) (leZ-yes tt),
+      R .sums (pos 0) (leZ-yes tt) (leZ-yes tt),
+      R .sums (pos 1) (leZ-yes tt) (leZ-yes tt),
+      R .sums (pos 2) (leZ-yes tt) (leZ-yes tt),
+    )
+
+-- ---- the check bytes
+
+-- the remainder of the data with five zeros after it, put in their place, makes the word clean
+pub checked : (d : List ℕ) (r s x : ℕ) → Remains d r → Moved r (0 ∷ 0 ∷ 0 ∷ 0 ∷ []) s → Moved s (0 ∷ []) x → Checks d x
+unfolding at5
+checked d r s x R M N = record { small = N .small; clean = λ j l u. at j (alphaTo gf256 j) refl (sum j l u) }
+  where
+    sum : (j : ℤ) → negsuc 1 ≤ℤ j → j ≤ℤ pos 2 → at5 (alphaTo gf256 j) x ≡ hornAll (alphaTo gf256 j) (value gf256 (alphaTo gf256 j) d) (0 ∷ 0 ∷ 0 ∷ 0 ∷ 0 ∷ [])
+    sum j l u =
+        N .roots j l u
+        ∙ ap (λ (v : ℕ). hornAll (alphaTo gf256 j) v (0 ∷ []))
+        (M .roots j l u
+        ∙ ap (λ (v : ℕ). hornAll (alphaTo gf256 j) v (0 ∷ 0 ∷ 0 ∷ 0 ∷ [])) (at5-sum j r ∙ R .sums j l u ∙ words.sum-value gf256 field256 j d))
+
+    zeros : (y : ℕ) → hornAll y 0 (0 ∷ 0 ∷ 0 ∷ 0 ∷ 0 ∷ []) ≡ 0
+    zeros y = simp (laws.zero-mul gf256 field256)
+
+    at : (j : ℤ) (y : ℕ) → y ≡ alphaTo gf256 j → at5 y x ≡ hornAll y (value gf256 y d) (0 ∷ 0 ∷ 0 ∷ 0 ∷ 0 ∷ []) → S gf256 j (d ++ unpacked x) ≡ 0
+    at j y ey e =
+        words.sum-value gf256 field256 j (d ++ unpacked x) ∙ ap (λ (z : ℕ). value gf256 z (d ++ unpacked x)) (sym ey)
+        ∙ sym (horn-value y d (unpacked x) (bytes5 x))
+        ∙ start y v (unpacked x) (words.value-in gf256 field256 y d) (bytes5 x)
+        ∙ ap (bitXor (times v (power gf256 y 5)))
+        (e ∙ start y v (0 ∷ 0 ∷ 0 ∷ 0 ∷ 0 ∷ []) (words.value-in gf256 field256 y d) (bytes5 0) ∙ ap (bitXor (times v (power gf256 y 5))) (zeros y) ∙ field256 .add-zero (times v (power gf256 y 5)))
+        ∙ field256 .add-self (times v (power gf256 y 5))
+      where
+        v : ℕ
+        v = value gf256 y d

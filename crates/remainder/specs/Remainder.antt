@@ -1,0 +1,57 @@
+-- The remainder of a word by the generator: five packed bytes with the word's five sums.
+use mathlib.Core.Path.{_≡_}
+use mathlib.Core.List.{List, [], _∷_, _++_}
+use Prim.Native.Nat.{ℕ, _+_, _*_, _/_, _%_, _<_}
+use lib.Bits.{bitXor}
+use lib.IntN.{ℤ, pos, negsuc}
+use lib.Signed.{_≤ℤ_}
+use lib.ListN.{getD}
+use Rattle.account.specs.Field.{power}
+use Rattle.account.specs.Code.{alphaTo, Clean, S}
+use Rattle.gf256.specs.Gf256.{gf256, times}
+
+-- the five bytes, the highest power first
+abbrev pub unpacked : ℕ → List ℕ
+unpacked r = r / 4294967296 % 256 ∷ r / 16777216 % 256 ∷ r / 65536 % 256 ∷ r / 256 % 256 ∷ r % 256 ∷ []
+
+-- P holds at the five roots of the generator
+abbrev pub AtRoots : (ℕ → Type 0) → Type 0
+AtRoots P = (j : ℤ) → negsuc 1 ≤ℤ j → j ≤ℤ pos 2 → P (alphaTo gf256 j)
+
+-- one step of Horner's rule at y
+abbrev pub horn : ℕ → ℕ → ℕ → ℕ
+horn y u b = bitXor (times u y) b
+
+-- and as many as there are bytes
+abbrev pub hornAll : ℕ → ℕ → List ℕ → ℕ
+hornAll y u [] = u
+hornAll y u (b ∷ bs) = hornAll y (horn y u b) bs
+
+-- the polynomial of the five bytes at y
+unfoldable pub at5 : ℕ → ℕ → ℕ
+at5 y r = hornAll y 0 (unpacked r)
+
+-- x is a at the power 5 + k, modulo the generator
+pub record Reduced (k a x : ℕ) : Type 0 where
+  pub small : x < 1099511627776
+  pub roots : AtRoots (λ y. at5 y x ≡ times a (power gf256 y (5 + k)))
+
+-- the lent table: half bytes, low ones first, at the powers 5, 6, 7 and 8
+pub record Reductions (t : List ℕ) : Type 0 where
+  pub low : (k v : ℕ) → k < 4 → v < 16 → Reduced k v (getD t (32 * k + v) 0)
+  pub high : (k v : ℕ) → k < 4 → v < 16 → Reduced k (16 * v) (getD t (32 * k + 16 + v) 0)
+
+-- x is r with the bytes bs after it, modulo the generator
+pub record Moved (r : ℕ) (bs : List ℕ) (x : ℕ) : Type 0 where
+  pub small : x < 1099511627776
+  pub roots : AtRoots (λ y. at5 y x ≡ hornAll y (at5 y r) bs)
+
+-- the five sums of r are those of w
+pub record Remains (w : List ℕ) (r : ℕ) : Type 0 where
+  pub small : r < 1099511627776
+  pub sums : (j : ℤ) → negsuc 1 ≤ℤ j → j ≤ℤ pos 2 → S gf256 j (unpacked r) ≡ S gf256 j w
+
+-- the five packed bytes x complete the data d to a clean word
+pub record Checks (d : List ℕ) (x : ℕ) : Type 0 where
+  pub small : x < 1099511627776
+  pub clean : Clean gf256 (d ++ unpacked x)

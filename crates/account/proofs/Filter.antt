@@ -52,6 +52,11 @@ module _ (O : Ops) (F : IsField O) where
   weight-in [] y = F .in-one
   weight-in (x ∷ xs) y = F .in-mul (y ⊕ x) (weight O xs y)
 
+  pub filt-in : (xs : List ℕ) (s : ℕ → ℕ) → ((m : ℕ) → In O (s m)) → (m : ℕ) → In O (filt O xs s m)
+  filt-in [] s h m = h m
+  filt-in (x ∷ xs) s h m =
+      filt-in xs (λ k. s (suc k) ⊕ (x ⊗ s k)) (λ k. F .in-add (s (suc k)) (x ⊗ s k) (h (suc k)) (F .in-mul x (s k))) m
+
   pub weight-append : (xs ys : List ℕ) (y : ℕ) → weight O (xs ++ ys) y ≡ weight O xs y ⊗ weight O ys y
   weight-append [] ys y = sym (F .mul-comm 1 (weight O ys y) ∙ F .mul-one (weight O ys y) (weight-in ys y))
   weight-append (x ∷ xs) ys y = ap (λ (z : ℕ). (y ⊕ x) ⊗ z) (weight-append xs ys y) ∙ sym (F .mul-assoc (y ⊕ x) (weight O xs y) (weight O ys y))

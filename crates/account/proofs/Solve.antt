@@ -128,6 +128,14 @@ module _ (O : Ops) (F : IsField O) where
         divided-in x xs (solve xs (λ m. s (suc m) ⊕ (x ⊗ s m))),
       )
 
+  -- solve looks at as many moments as there are places
+  pub solve-near : (xs : List ℕ) (s t : ℕ → ℕ) → ((m : ℕ) → m < length xs → s m ≡ t m) → solve xs s ≡ solve xs t
+  solve-near [] s t h = refl
+  solve-near (x ∷ xs) s t h =
+      ap₂ (λ (a : ℕ) (vs : List ℕ). (a ⊕ total O (divided x xs vs)) ∷ divided x xs vs) (h 0 (omega arith))
+      (solve-near xs (λ m. s (suc m) ⊕ (x ⊗ s m)) (λ m. t (suc m) ⊕ (x ⊗ t m))
+      (λ m l. ap₂ (λ (a b : ℕ). a ⊕ (x ⊗ b)) (h (suc m) (omega arith)) (h m (omega arith))))
+
   pub unweighed-in : (xs us : List ℕ) → AllIn (unweighed xs us)
   unweighed-in [] us = tt
   unweighed-in (x ∷ xs) [] = tt

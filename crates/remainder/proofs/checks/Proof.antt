@@ -14,7 +14,7 @@ step-requires c κs = search needs
 
 returns : tie.Need-returns
 returns c =
-    checked (c .before .before .before .args .«data» .now) (c .before .before .of-word .result) (c .before .step4 .result) (c .step .result)
+    checked (c .before .before .before .before .args .«data» .now) (c .before .before .of-word .result) (c .before .step4 .result) (c .step .result)
     (c .before .before .of-word .ensures) (c .before .step4 .ensures) (c .step .ensures)
 
 pub checks-spec : {M : Type 1} → statement M

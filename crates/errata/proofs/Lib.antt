@@ -1,0 +1,5 @@
+pub mod Halves
+pub mod Sums
+pub mod Marks
+pub mod Values
+pub mod Guesses

@@ -1,0 +1,87 @@
+-- The filter on five sums, and cells filtered out one after the other.
+use mathlib.Core.Path.{_≡_, refl, sym, ap, ap₂, _∙_, subst}
+use mathlib.Core.Bool.{Bool, true, false}
+use mathlib.Core.List.{List, [], _∷_, _++_, map}
+use Prim.Native.Nat.{ℕ, zero, suc, _+_, _-_, _<_, _≤_}
+use native.Mathlib.Numerals.{add-one}
+use native.Mathlib.Omega.{arith}
+use native.Mathlib.Decide.{ℕ-discrete}
+use lib.Bits.{bitXor}
+use lib.ListN.{length, getD, take, length-append}
+use lib.Seq.{take-suc, getD-take, length-take-le}
+use Rattle.account.proofs.Cells.{below-at}
+use Rattle.account.proofs.Filter as filter
+use Rattle.account.proofs.Filter.{filt}
+use Rattle.account.proofs.Search.{Zeros}
+use Rattle.gf256.specs.Gf256.{gf256, times}
+use Rattle.gf256.specs.Tables.{placeOf}
+use Rattle.errata.specs.Errata.{Says, at, Filtered, Listed, Drained}
+
+pub said : (P : Type 0) (b : Bool) → b ≡ true → Says b P → P
+said P b e s = subst (λ (x : Bool). Says x P) e s
+
+pub denied : (P : Type 0) (b : Bool) → b ≡ false → Says b P → P → ⊥
+denied P b e s = subst (λ (x : Bool). Says x P) e s
+
+pub filtered : (x a b c d : ℕ) (s : List ℕ) → a ≡ bitXor (at s 1) (times x (at s 0)) → b ≡ bitXor (at s 2) (times x (at s 1))
+    → c ≡ bitXor (at s 3) (times x (at s 2)) → d ≡ bitXor (at s 4) (times x (at s 3)) → Filtered x s (a ∷ b ∷ c ∷ d ∷ 0 ∷ [])
+filtered x a b c d s ea eb ec ed = record { sum = go }
+  where
+    go : (m : ℕ) → m < 4 → at (a ∷ b ∷ c ∷ d ∷ 0 ∷ []) m ≡ bitXor (at s (suc m)) (times x (at s m))
+    go zero l = ea
+    go (suc zero) l = eb
+    go (suc (suc zero)) l = ec
+    go (suc (suc (suc zero))) l = ed
+    go (suc (suc (suc (suc m)))) l = absurd (omega arith)
+
+-- one place, and then another
+pub filter-one : (x : ℕ) (s r : List ℕ) → Filtered x s r → (m : ℕ) → m < 4 → at r m ≡ filt gf256 (x ∷ []) (at s) m
+filter-one x s r f m l = f .sum m l
+
+pub filter-two : (x y : ℕ) (s r u : List ℕ) → Filtered x s r → Filtered y r u → (m : ℕ) → m < 3 → at u m ≡ filt gf256 (x ∷ y ∷ []) (at s) m
+filter-two x y s r u f g m l =
+    g .sum m (omega arith) ∙ ap₂ (λ (a b : ℕ). bitXor a (times y b)) (f .sum (suc m) (omega arith)) (f .sum m (omega arith))
+
+-- a test of what is left, as a test of the filter
+pub zeros-to : (k : ℕ) (f g : ℕ → ℕ) → ((m : ℕ) → m < k → f m ≡ g m) → Zeros k f → Zeros k g
+zeros-to k f g e z m l = sym (e m l) ∙ z m l
+
+pub zeros-from : (k : ℕ) (f g : ℕ → ℕ) → ((m : ℕ) → m < k → f m ≡ g m) → (Zeros k f → ⊥) → Zeros k g → ⊥
+zeros-from k f g e n z = n (λ m l. e m l ∙ z m l)
+
+pub zeros-more : (s : List ℕ) (i : ℕ) → Zeros i (at s) → at s i ≡ 0 → Zeros (i + 1) (at s)
+zeros-more s i z e m l = go (ℕ-discrete m i)
+  where
+    go : Dec (m ≡ i) → at s m ≡ 0
+    go (yes q) = ap (at s) q ∙ e
+    go (no ne) = z m (omega arith)
+
+-- ---- cells, one after the other
+
+pub drain-starts : (n : ℕ) (cells s : List ℕ) → Drained n (take 0 cells) s s
+drain-starts n cells s = record { sum = λ m l. refl }
+
+pub cell-below : (n : ℕ) (cells : List ℕ) (k : ℕ) → Listed n cells k → (i : ℕ) → i < k → getD cells i 0 < n
+cell-below n cells k L i h =
+    subst (λ (x : ℕ). x < n) (getD-take k cells i 0 h) (below-at (take k cells) n i (L .below) (omega (arith, length-take-le k cells (omega (arith, L .few, L .room)))))
+
+pub drain-goes : (n : ℕ) (cells s r u : List ℕ) (i x : ℕ) → i < length cells → Drained n (take i cells) s r → x ≡ placeOf n (getD cells i 0)
+    → Filtered x r u → Drained n (take (i + 1) cells) s u
+drain-goes n cells s r u i x l D ex f = subst (λ (ps : List ℕ). Drained n ps s u) (sym longer) (record { sum = sum })
+  where
+    ps : List ℕ
+    ps = take i cells
+
+    p : ℕ
+    p = getD cells i 0
+
+    longer : take (i + 1) cells ≡ ps ++ p ∷ []
+    longer = ap (λ (k : ℕ). take k cells) (add-one i) ∙ take-suc cells i 0 l
+
+    sum : (m : ℕ) → m + length (ps ++ p ∷ []) < 5 → at u m ≡ filt gf256 (map (placeOf n) (ps ++ p ∷ [])) (at s) m
+    sum m h =
+        f .sum m (omega (arith, length-append ps (p ∷ [])))
+        ∙ ap₂ (λ (a b : ℕ). bitXor a (times x b)) (D .sum (suc m) (omega (arith, length-append ps (p ∷ [])))) (D .sum m (omega (arith, length-append ps (p ∷ []))))
+        ∙ ap (λ (z : ℕ). bitXor (filt gf256 (map (placeOf n) ps) (at s) (suc m)) (times z (filt gf256 (map (placeOf n) ps) (at s) m))) ex
+        ∙ sym (filter.filt-append gf256 (map (placeOf n) ps) (placeOf n p ∷ []) (at s) m)
+        ∙ ap (λ (l : List ℕ). filt gf256 l (at s) m) (sym (filter.map-append (placeOf n) ps (p ∷ [])))

@@ -1,0 +1,221 @@
+-- The values at listed cells, by loops and by recursion.
+use mathlib.Core.Path.{_≡_, refl, sym, ap, ap₂, _∙_, subst}
+use mathlib.Core.Logic.{_≢_}
+use mathlib.Core.List.{List, [], _∷_, _++_, map, append-assoc, append-nil}
+use Prim.Native.Nat.{ℕ, zero, suc, _+_, _-_, _<_, _≤_}
+use native.Mathlib.Numerals.{add-one}
+use native.Mathlib.Omega.{arith}
+use lib.Bits.{bitXor}
+use lib.ListN.{length, getD, take, drop, set, length-set}
+use lib.Seq.{slice, slice-empty, slice-cons, length-slice, take-suc-set, take-set-lt, take-set-le, drop-set-lt, drop-append-le, getD-set-same, length-take-le, getD-take, take-suc}
+use Rattle.account.proofs.Cells.{Distinct, Outside, outside-right}
+use Rattle.account.proofs.Laws as laws
+use Rattle.account.proofs.Powers as powers
+use Rattle.account.proofs.Filter as filter
+use Rattle.account.proofs.Solve as solve
+use Rattle.account.proofs.Solve.{total}
+use Rattle.gf256.specs.Gf256.{gf256, times}
+use Rattle.gf256.specs.Tables.{placeOf}
+use Rattle.gf256.proofs.Field256.{field256}
+use Rattle.errata.specs.Errata.{at, Filtered, Listed, Divided, Solved, Unweighed}
+use Rattle.errata.proofs.Sums.{cell-below}
+
+abbrev div : ℕ → List ℕ → List ℕ → List ℕ
+div = solve.divided gf256 field256
+
+-- dividing by a is multiplying with any inverse of it
+same-quotient : (u a i : ℕ) → a < 256 → a ≢ 0 → times a i ≡ 1 → times u i ≡ times u (field256 .inv a)
+same-quotient u a i ha na e =
+    sym (field256 .mul-one (times u i) (field256 .in-mul u i)) ∙ ap (times (times u i)) (sym (field256 .mul-inv a ha na))
+    ∙ field256 .mul-assoc u i (times a (field256 .inv a))
+    ∙ ap (times u) (sym (field256 .mul-assoc i a (field256 .inv a)) ∙ ap (λ (y : ℕ). times y (field256 .inv a)) (field256 .mul-comm i a ∙ e) ∙ field256 .mul-comm 1 (field256 .inv a))
+    ∙ sym (field256 .mul-assoc u (field256 .inv a) 1) ∙ field256 .mul-one (times u (field256 .inv a)) (field256 .in-mul u (field256 .inv a))
+
+-- ---- parts of a list that is written to
+
+-- behind the cell that is set
+after : (j k : ℕ) (l : List ℕ) (v : ℕ) → j < k → slice (j + 1) k (set l j v) ≡ slice (j + 1) k l
+after j k l v h = ap (drop (j + 1)) (take-set-lt k l j v h) ∙ drop-set-lt (j + 1) (take k l) j v (omega arith)
+
+-- up to it
+up-to : (i j : ℕ) (l : List ℕ) (v : ℕ) → i ≤ j → j < length l → slice i (j + 1) (set l j v) ≡ slice i j l ++ v ∷ []
+up-to i j l v h lt =
+    ap (λ (m : ℕ). slice i m (set l j v)) (add-one j) ∙ ap (drop i) (take-suc-set l j v lt)
+    ∙ drop-append-le i (take j l) (v ∷ []) (omega (arith, length-take-le j l (omega arith)))
+
+-- from it on
+pub from : (i k : ℕ) (l : List ℕ) → i < k → k ≤ length l → slice i k l ≡ getD l i 0 ∷ slice (i + 1) k l
+from i k l h e = slice-cons i k l 0 h e ∙ ap (λ (m : ℕ). getD l i 0 ∷ slice m k l) (sym (add-one i))
+
+set-from : (i k : ℕ) (l : List ℕ) (v : ℕ) → i < k → k ≤ length l → slice i k (set l i v) ≡ v ∷ slice (i + 1) k l
+set-from i k l v h e =
+    from i k (set l i v) h (omega (arith, length-set l i v))
+    ∙ ap₂ (λ (x : ℕ) (xs : List ℕ). x ∷ xs) (getD-set-same l i v 0 (omega arith)) (after i k l v h)
+
+-- ---- two listed cells
+
+-- a later cell's place differs from an earlier one's
+distinct-at : (l : List ℕ) (i j : ℕ) → Distinct l → i < j → j < length l → getD l i 0 ≢ getD l j 0
+distinct-at [] i j d h k = absurd (omega arith)
+distinct-at (p ∷ l) zero zero d h k = absurd (omega arith)
+distinct-at (p ∷ l) zero (suc j) d h k = outside-at l j p (d .0) (omega arith)
+  where
+    outside-at : (qs : List ℕ) (m i : ℕ) → Outside qs i → m < length qs → i ≢ getD qs m 0
+    outside-at [] m i o k = absurd (omega arith)
+    outside-at (q ∷ qs) zero i o k = o .0
+    outside-at (q ∷ qs) (suc m) i o k = outside-at qs m i (o .1) (omega arith)
+distinct-at (p ∷ l) (suc i) zero d h k = absurd (omega arith)
+distinct-at (p ∷ l) (suc i) (suc j) d h k = distinct-at l i j (d .1) (omega arith) (omega arith)
+
+-- the place of the i-th listed cell, and of the cells j .. k - 1
+abbrev P : ℕ → List ℕ → ℕ → ℕ
+P n cells i = placeOf n (getD cells i 0)
+
+abbrev ys : ℕ → List ℕ → ℕ → ℕ → List ℕ
+ys n cells k j = map (placeOf n) (slice j k cells)
+
+abbrev unw : List ℕ → List ℕ → List ℕ
+unw = solve.unweighed gf256 field256
+
+-- the cells before j are divided
+pub record Dividing (n : ℕ) (cells : List ℕ) (k i : ℕ) (v : List ℕ) (s0 : ℕ) (r : List ℕ) (sum j : ℕ) : Type 0 where
+  pub low : i < j
+  pub high : j ≤ k
+  pub room : length r ≡ 5
+  pub list : slice (i + 1) j r ++ div (P n cells i) (ys n cells k j) (slice j k r) ≡ div (P n cells i) (ys n cells k (i + 1)) (slice (i + 1) k v)
+  pub rest : bitXor sum (total gf256 (div (P n cells i) (ys n cells k j) (slice j k r))) ≡ bitXor s0 (total gf256 (div (P n cells i) (ys n cells k (i + 1)) (slice (i + 1) k v)))
+
+-- the cells before j have their weights off
+pub record Unweighing (n : ℕ) (cells : List ℕ) (k : ℕ) (u r : List ℕ) (j : ℕ) : Type 0 where
+  pub high : j ≤ k
+  pub room : length r ≡ 5
+  pub list : slice 0 j r ++ unw (ys n cells k j) (slice j k r) ≡ unw (ys n cells k 0) (slice 0 k u)
+
+module _ (n : ℕ) (cells : List ℕ) (k : ℕ) (L : Listed n cells k) where
+  P-in : (i : ℕ) → P n cells i < 256
+  P-in i = powers.pow-in gf256 field256 2 (n - suc (getD cells i 0))
+
+  apart : (i j : ℕ) → i < j → j < k → bitXor (P n cells j) (P n cells i) ≢ 0
+  apart i j h l =
+      filter.apart-some gf256 field256 n (L .short) (getD cells j 0) (getD cells i 0) (cell-below n cells k L j l) (cell-below n cells k L i (omega arith))
+      (λ e. distinct-at (take k cells) i j (L .distinct) h (omega (arith, length-take-le k cells (omega (arith, L .few, L .room))))
+      (getD-take k cells i 0 (omega arith) ∙ sym e ∙ sym (getD-take k cells j 0 l)))
+
+  pub apart-by : (i j x y : ℕ) → i < j → j < k → x ≡ P n cells i → y ≡ P n cells j → 0 < bitXor y x
+  apart-by i j x y h l ex ey = positive (bitXor y x) (λ e. apart i j h l (ap₂ bitXor (sym ey) (sym ex) ∙ e))
+    where
+      positive : (a : ℕ) → a ≢ 0 → 0 < a
+      positive zero ne = absurd (ne refl)
+      positive (suc a) ne = omega arith
+
+  -- ---- dividing
+
+  ys-cons : (j : ℕ) → j < k → ys n cells k j ≡ P n cells j ∷ ys n cells k (j + 1)
+  ys-cons j h = ap (map (placeOf n)) (from j k cells h (omega (arith, L .few, L .room)))
+
+  pub divide-starts : (i : ℕ) (v : List ℕ) (s0 : ℕ) → i < k → length v ≡ 5 → Dividing n cells k i v s0 v s0 (i + 1)
+  divide-starts i v s0 h e = record {
+    low = omega arith;
+    high = omega arith;
+    room = e;
+    list = ap (λ (l : List ℕ). l ++ div (P n cells i) (ys n cells k (i + 1)) (slice (i + 1) k v)) (slice-empty (i + 1) v);
+    rest = refl;
+  }
+
+  pub divide-goes : (i : ℕ) (v : List ℕ) (s0 : ℕ) (r : List ℕ) (sum j x y iv u : ℕ) → j < k → Dividing n cells k i v s0 r sum j → x ≡ P n cells i → y ≡ P n cells j
+      → times (bitXor y x) iv ≡ 1 → u ≡ times (getD r j 0) iv → Dividing n cells k i v s0 (set r j u) (bitXor sum u) (j + 1)
+  divide-goes i v s0 r sum j x y iv u l D ex ey ei eu = record {
+    low = omega (arith, D .low);
+    high = omega arith;
+    room = length-set r j u ∙ D .room;
+    list =
+        ap₂ (λ (a b : List ℕ). a ++ div (P n cells i) (ys n cells k (j + 1)) b) (up-to (i + 1) j r u (omega (arith, D .low)) (omega (arith, D .room, L .few))) (after j k r u l)
+        ∙ append-assoc (slice (i + 1) j r) (u ∷ []) rest ∙ ap (λ (b : List ℕ). slice (i + 1) j r ++ b) (sym here) ∙ D .list;
+    rest =
+        ap (λ (b : List ℕ). bitXor (bitXor sum u) (total gf256 (div (P n cells i) (ys n cells k (j + 1)) b))) (after j k r u l)
+        ∙ field256 .add-assoc sum u (total gf256 rest) ∙ ap (λ (b : List ℕ). bitXor sum (total gf256 b)) (sym here) ∙ D .rest;
+  }
+    where
+      rest : List ℕ
+      rest = div (P n cells i) (ys n cells k (j + 1)) (slice (j + 1) k r)
+
+      quotient : u ≡ times (getD r j 0) (field256 .inv (bitXor (P n cells j) (P n cells i)))
+      quotient =
+          eu ∙ same-quotient (getD r j 0) (bitXor (P n cells j) (P n cells i)) iv (field256 .in-add (P n cells j) (P n cells i) (P-in j) (P-in i)) (apart i j (D .low) l)
+          (ap₂ (λ (a b : ℕ). times (bitXor a b) iv) (sym ey) (sym ex) ∙ ei)
+
+      here : div (P n cells i) (ys n cells k j) (slice j k r) ≡ u ∷ rest
+      here =
+          ap₂ (div (P n cells i)) (ys-cons j l) (from j k r l (omega (arith, D .room, L .few)))
+          ∙ ap (λ (a : ℕ). a ∷ rest) (sym quotient)
+
+  pub divide-ends : (i : ℕ) (v : List ℕ) (s0 : ℕ) (r : List ℕ) (sum j : ℕ) → i < k → k ≤ j → Dividing n cells k i v s0 r sum j → Divided n cells i k v s0 (set r i sum)
+  divide-ends i v s0 r sum j h g D =
+      set-from i k r sum h (omega (arith, D .room, L .few))
+      ∙ ap₂ (λ (a : ℕ) (b : List ℕ). a ∷ b)
+      (sym (field256 .add-zero sum) ∙ ap (λ (b : List ℕ). bitXor sum (total gf256 b)) (sym none) ∙ D .rest)
+      (sym (append-nil (slice (i + 1) k r)) ∙ ap₂ (λ (m : ℕ) (b : List ℕ). slice (i + 1) m r ++ b) same (sym none) ∙ D .list)
+    where
+      same : k ≡ j
+      same = omega (arith, D .high)
+
+      empty : slice j k cells ≡ []
+      empty = ap (λ (m : ℕ). slice m k cells) (sym same) ∙ slice-empty k cells
+
+      none : div (P n cells i) (ys n cells k j) (slice j k r) ≡ []
+      none = ap (λ (l : List ℕ). div (P n cells i) (map (placeOf n) l) (slice j k r)) empty
+
+  -- ---- solving
+
+  pub solve-none : (i : ℕ) (s r : List ℕ) → k ≤ i → i ≤ k → Solved n cells i k s r
+  solve-none i s r h g = none r ∙ sym (ap (λ (l : List ℕ). solve.solve gf256 field256 (map (placeOf n) l) (at s)) (none cells))
+    where
+      same : i ≡ k
+      same = omega arith
+
+      none : (l : List ℕ) → slice i k l ≡ []
+      none l = ap (λ (m : ℕ). slice m k l) same ∙ slice-empty k l
+
+  pub solve-step : (i x : ℕ) (s t v r : List ℕ) → i < k → x ≡ P n cells i → Filtered x s t → Solved n cells (i + 1) k t v → Divided n cells i k v (at s 0) r
+      → Solved n cells i k s r
+  solve-step i x s t v r h ex f S D =
+      D ∙ ap (λ (vs : List ℕ). bitXor (at s 0) (total gf256 (div (P n cells i) (ys n cells k (i + 1)) vs)) ∷ div (P n cells i) (ys n cells k (i + 1)) vs) inner
+      ∙ ap (λ (xs : List ℕ). solve.solve gf256 field256 xs (at s)) (sym (ys-cons i h))
+    where
+      inner : slice (i + 1) k v ≡ solve.solve gf256 field256 (ys n cells k (i + 1)) (λ m. bitXor (at s (suc m)) (times (P n cells i) (at s m)))
+      inner =
+          S ∙ solve.solve-near gf256 field256 (ys n cells k (i + 1)) (at t) (λ m. bitXor (at s (suc m)) (times (P n cells i) (at s m)))
+          (λ m l. f .sum m (omega (arith, filter.length-map (placeOf n) (slice (i + 1) k cells), length-slice (i + 1) k cells (omega (arith, L .few, L .room)), L .few))
+          ∙ ap (λ (z : ℕ). bitXor (at s (suc m)) (times z (at s m))) ex)
+
+  -- ---- the weights taken off
+
+  pub unweigh-starts : (u : List ℕ) → length u ≡ 5 → Unweighing n cells k u u 0
+  unweigh-starts u e = record { high = omega arith; room = e; list = refl }
+
+  pub unweigh-goes : (u r : List ℕ) (j x v w : ℕ) → j < k → Unweighing n cells k u r j → x ≡ P n cells j → v ≡ times (getD r j 0) x → w ≡ times v x → Unweighing n cells k u (set r j w) (j + 1)
+  unweigh-goes u r j x v w l U ex ev ew = record {
+    high = omega arith;
+    room = length-set r j w ∙ U .room;
+    list =
+        ap₂ (λ (a b : List ℕ). a ++ unw (ys n cells k (j + 1)) b) (up-to 0 j r w (omega arith) (omega (arith, U .room, L .few))) (after j k r w l)
+        ∙ append-assoc (slice 0 j r) (w ∷ []) rest ∙ ap (λ (b : List ℕ). slice 0 j r ++ b) (sym here) ∙ U .list;
+  }
+    where
+      rest : List ℕ
+      rest = unw (ys n cells k (j + 1)) (slice (j + 1) k r)
+
+      here : unw (ys n cells k j) (slice j k r) ≡ w ∷ rest
+      here =
+          ap₂ unw (ys-cons j l) (from j k r l (omega (arith, U .room, L .few)))
+          ∙ ap (λ (a : ℕ). a ∷ rest) (sym (ew ∙ ap₂ times (ev ∙ ap (times (getD r j 0)) ex) ex))
+
+  pub unweigh-ends : (u r : List ℕ) (j : ℕ) → k ≤ j → Unweighing n cells k u r j → Unweighed n cells k u r
+  unweigh-ends u r j g U =
+      sym (append-nil (take k r)) ∙ ap₂ (λ (m : ℕ) (b : List ℕ). slice 0 m r ++ b) same (sym none) ∙ U .list
+    where
+      same : k ≡ j
+      same = omega (arith, U .high)
+
+      none : unw (ys n cells k j) (slice j k r) ≡ []
+      none = ap (λ (l : List ℕ). unw (map (placeOf n) l) (slice j k r)) (ap (λ (m : ℕ). slice m k cells) (sym same) ∙ slice-empty k cells)

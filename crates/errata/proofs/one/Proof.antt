@@ -1,0 +1,85 @@
+use Prim.Native.Nat.{ℕ}
+use native.Mathlib.Omega.{arith}
+use mathlib.Core.List.{_∷_, []}
+use Rattle.account.proofs.Filter.{filt}
+use Rattle.account.proofs.Search.{Zeros}
+use Rattle.account.proofs.Locate.{first-none, out-of-range, it-fits, it-fails}
+use Rattle.gf256.specs.Gf256.{gf256}
+use Rattle.gf256.proofs.Field256.{field256}
+use Rattle.errata.specs.Errata.{at}
+use Rattle.errata.proofs.Sums.{said, denied, filter-one, zeros-to, zeros-from}
+use borrow.Author.Needs.{needs}
+use Rattle.errata.proofs.one.Statement.{statement}
+use Rattle.errata.proofs.one.Tie as tie
+
+array-read-if1 : tie.Need-array-read-if1
+array-read-if1 c = search needs
+
+returns : tie.Need-returns
+returns c =
+    let s = c .before .before in
+    first-none gf256 field256 (at (s .args .t3)) (s .args .k) (s .args .marks .now) (s .pre .4) (c .if1 .taken)
+
+array-read-product : tie.Need-array-read-product
+array-read-product c = search needs
+
+array-read-inverse : tie.Need-array-read-inverse
+array-read-inverse c = search needs
+
+inverse-requires : tie.Need-inverse-requires
+inverse-requires c κs = search needs
+
+product-requires : tie.Need-product-requires
+product-requires c κs = search needs
+
+cell-requires : tie.Need-cell-requires
+cell-requires c κs = search needs
+
+returns-2 : tie.Need-returns-2
+returns-2 c =
+    let s = c .before .before .before .before .before .before in
+    out-of-range gf256 field256 (at (s .args .t3)) (s .args .k) (s .args .marks .now) (c .before .before .product .result) (c .before .before .before .inverse .result) (c .before .cell .result) (search needs) (c .before .before .before .inverse .ensures) (c .before .before .product .ensures)
+    (c .before .cell .ensures) (search needs)
+
+filter-requires : tie.Need-filter-requires
+filter-requires c κs = search needs
+
+zeros-requires : tie.Need-zeros-requires
+zeros-requires c κs = search needs
+
+returns-3 : tie.Need-returns-3
+returns-3 c =
+    let s = c .before .before .before .before .before .before .before .before .before in
+    let x = c .before .before .before .before .before .product .result in
+    let u = c .before .before .filter .result in
+    it-fits gf256 field256 (at (s .args .t3)) (s .args .k) (s .args .marks .now) x (c .before .before .before .before .before .before .inverse .result) (c .before .before .before .before .cell .result) (search needs) (c .before .before .before .before .before .before .inverse .ensures) (c .before .before .before .before .before .product .ensures)
+    (c .before .before .before .before .cell .ensures) (search needs)
+    (zeros-to (s .args .k) (at u) (filt gf256 (x ∷ []) (at (s .args .t3))) (λ m l. filter-one x (s .args .t3) u (c .before .before .filter .ensures) m (omega arith))
+    (said (Zeros (s .args .k) (at u)) (c .before .zeros .result) (c .if3 .taken) (c .before .zeros .ensures)))
+
+returns-4 : tie.Need-returns-4
+returns-4 c =
+    let s = c .before .before .before .before .before .before .before .before .before in
+    let x = c .before .before .before .before .before .product .result in
+    let u = c .before .before .filter .result in
+    it-fails gf256 field256 (at (s .args .t3)) (s .args .k) (s .args .marks .now) x (c .before .before .before .before .before .before .inverse .result) (c .before .before .before .before .cell .result) (search needs) (c .before .before .before .before .before .before .inverse .ensures) (c .before .before .before .before .before .product .ensures)
+    (c .before .before .before .before .cell .ensures) (search needs)
+    (zeros-from (s .args .k) (at u) (filt gf256 (x ∷ []) (at (s .args .t3))) (λ m l. filter-one x (s .args .t3) u (c .before .before .filter .ensures) m (omega arith))
+    (denied (Zeros (s .args .k) (at u)) (c .before .zeros .result) (c .if3 .left) (c .before .zeros .ensures)))
+
+pub one-spec : {M : Type 1} → statement M
+one-spec =
+    tie.close
+    (tie.spec
+    array-read-if1
+    returns
+    array-read-product
+    array-read-inverse
+    inverse-requires
+    product-requires
+    cell-requires
+    returns-2
+    filter-requires
+    zeros-requires
+    returns-3
+    returns-4)

@@ -1,0 +1,151 @@
+use mathlib.Core.Path.{_≡_, refl, sym, ap, ap₂, _∙_}
+use Prim.Native.Nat.{ℕ, _<_}
+use lib.Bits.{bitXor}
+use Rattle.account.proofs.Locate.{det-some, sum-some, nowhere, proposed, found}
+use Rattle.gf256.specs.Gf256.{gf256, times}
+use Rattle.gf256.proofs.Field256.{field256}
+use Rattle.errata.specs.Errata.{at}
+use borrow.Author.Needs.{needs}
+use Rattle.errata.proofs.two.Statement.{statement}
+use Rattle.errata.proofs.two.Tie as tie
+
+array-read-product : tie.Need-array-read-product
+array-read-product c = search needs
+
+array-read-product-2 : tie.Need-array-read-product-2
+array-read-product-2 c = search needs
+
+product-requires : tie.Need-product-requires
+product-requires c κs = search needs
+
+array-read-product-3 : tie.Need-array-read-product-3
+array-read-product-3 c = search needs
+
+array-read-product-4 : tie.Need-array-read-product-4
+array-read-product-4 c = search needs
+
+product-requires-2 : tie.Need-product-requires-2
+product-requires-2 c κs = search needs
+
+returns : tie.Need-returns
+returns c =
+    let s = c .before .before .before .before in
+    let t = at (s .args .t4) in
+    let k = s .args .k in
+    let marks = s .args .marks .now in
+    nowhere gf256 field256 t k marks (s .pre .2) (s .pre .3) (s .pre .5) (s .pre .6)
+    (λ p q lp lq f. det-some gf256 field256 t k marks (s .pre .2) (s .pre .3) (s .pre .5) (s .pre .6) p q lp lq f (sym (ap₂ bitXor (c .before .before .product .ensures) (c .before .product2 .ensures)) ∙ c .if1 .taken))
+
+inverse-requires : tie.Need-inverse-requires
+inverse-requires c κs = search needs
+
+array-read-product-5 : tie.Need-array-read-product-5
+array-read-product-5 c = search needs
+
+array-read-product-6 : tie.Need-array-read-product-6
+array-read-product-6 c = search needs
+
+product-requires-3 : tie.Need-product-requires-3
+product-requires-3 c κs = search needs
+
+array-read-product-7 : tie.Need-array-read-product-7
+array-read-product-7 c = search needs
+
+array-read-product-8 : tie.Need-array-read-product-8
+array-read-product-8 c = search needs
+
+product-requires-4 : tie.Need-product-requires-4
+product-requires-4 c κs = search needs
+
+product-requires-5 : tie.Need-product-requires-5
+product-requires-5 c κs = search needs
+
+returns-2 : tie.Need-returns-2
+returns-2 c =
+    let s = c .before .before .before .before .before .before .before .before .before in
+    let t = at (s .args .t4) in
+    let k = s .args .k in
+    let marks = s .args .marks .now in
+    let i = c .before .before .before .before .inverse .result in
+    nowhere gf256 field256 t k marks (s .pre .2) (s .pre .3) (s .pre .5) (s .pre .6)
+    (λ p q lp lq f. sum-some gf256 field256 t k marks (s .pre .2) (s .pre .3) (s .pre .5) (s .pre .6) p q lp lq f
+    (bitXor (c .before .before .before .before .before .before .before .product .result) (c .before .before .before .before .before .before .product2 .result)) i (ap₂ bitXor (c .before .before .before .before .before .before .before .product .ensures) (c .before .before .before .before .before .before .product2 .ensures)) (c .before .before .before .before .inverse .ensures)
+    (c .before .product5 .result) (c .before .product5 .ensures ∙ ap (λ (z : ℕ). times z i) (ap₂ bitXor (c .before .before .before .product3 .ensures) (c .before .before .product4 .ensures))) (c .if2 .taken))
+
+array-read-product-9 : tie.Need-array-read-product-9
+array-read-product-9 c = search needs
+
+array-read-product-10 : tie.Need-array-read-product-10
+array-read-product-10 c = search needs
+
+product-requires-6 : tie.Need-product-requires-6
+product-requires-6 c κs = search needs
+
+array-read-product-11 : tie.Need-array-read-product-11
+array-read-product-11 c = search needs
+
+array-read-product-12 : tie.Need-array-read-product-12
+array-read-product-12 c = search needs
+
+product-requires-7 : tie.Need-product-requires-7
+product-requires-7 c κs = search needs
+
+product-requires-8 : tie.Need-product-requires-8
+product-requires-8 c κs = search needs
+
+split-requires : tie.Need-split-requires
+split-requires c κs = search needs
+
+both-requires : tie.Need-both-requires
+both-requires c κs = search needs
+
+returns-3 : tie.Need-returns-3
+returns-3 c =
+    let s = c .before .before .before .before .before .before .before .before .before .before .before .before .before .before in
+    let t = at (s .args .t4) in
+    let k = s .args .k in
+    let marks = s .args .marks .now in
+    let i = c .before .before .before .before .before .before .before .before .before .inverse .result in
+    let u = c .before .before .before .before .before .before .product5 .result in
+    let v = c .before .before .product8 .result in
+    let x = c .before .split .result in
+    let a = c .both .result .p in
+    let b = c .both .result .q in
+    found gf256 field256 t k marks (s .pre .2) (s .pre .3) (s .pre .5) (s .pre .6) x (bitXor x u) u a b refl (c .before .before .before .before .before .if2 .left) (search needs) (c .both .ensures)
+    (λ e p q lp lq f. proposed gf256 field256 t k marks (s .pre .2) (s .pre .3) (s .pre .5) (s .pre .6) p q lp lq f
+    (bitXor (c .before .before .before .before .before .before .before .before .before .before .before .before .product .result) (c .before .before .before .before .before .before .before .before .before .before .before .product2 .result)) i (ap₂ bitXor (c .before .before .before .before .before .before .before .before .before .before .before .before .product .ensures) (c .before .before .before .before .before .before .before .before .before .before .before .product2 .ensures)) (c .before .before .before .before .before .before .before .before .before .inverse .ensures)
+    u v x (bitXor x u) a b
+    (c .before .before .before .before .before .before .product5 .ensures ∙ ap (λ (z : ℕ). times z i) (ap₂ bitXor (c .before .before .before .before .before .before .before .before .product3 .ensures) (c .before .before .before .before .before .before .before .product4 .ensures)))
+    (c .before .before .product8 .ensures ∙ ap (λ (z : ℕ). times z i) (ap₂ bitXor (c .before .before .before .before .product6 .ensures) (c .before .before .before .product7 .ensures)))
+    (c .before .split .ensures) refl (c .both .ensures) e)
+
+pub two-spec : {M : Type 1} → statement M
+two-spec =
+    tie.close
+    (tie.spec
+    array-read-product
+    array-read-product-2
+    product-requires
+    array-read-product-3
+    array-read-product-4
+    product-requires-2
+    returns
+    inverse-requires
+    array-read-product-5
+    array-read-product-6
+    product-requires-3
+    array-read-product-7
+    array-read-product-8
+    product-requires-4
+    product-requires-5
+    returns-2
+    array-read-product-9
+    array-read-product-10
+    product-requires-6
+    array-read-product-11
+    array-read-product-12
+    product-requires-7
+    product-requires-8
+    split-requires
+    both-requires
+    returns-3)

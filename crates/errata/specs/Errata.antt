@@ -1,0 +1,161 @@
+-- What the parts of the search promise each other, and what errata are.
+use mathlib.Core.Path.{_≡_}
+use mathlib.Core.Bool.{Bool, true, false}
+use mathlib.Core.List.{List, [], _∷_, _++_, map}
+use Prim.Native.Nat.{ℕ, suc, _+_, _*_, _-_, _<_, _≤_}
+use lib.Bits.{bitXor}
+use lib.ListN.{length, getD, take, set}
+use lib.Seq.{slice}
+use Rattle.account.specs.Code.{Cells, Clean, syndrome}
+use Rattle.account.specs.Reach.{Reach}
+use Rattle.account.proofs.Cells.{Below, Distinct}
+use Rattle.account.proofs.Filter.{filt}
+use Rattle.account.proofs.Solve as solve
+use Rattle.account.proofs.Solve.{total}
+use Rattle.account.proofs.Decode.{Applied}
+use Rattle.account.proofs.Search.{Zeros, Fits, erasures}
+use Rattle.account.proofs.Locate.{CellOf, Found1, Found2, Joined, Halves, Splits}
+use Rattle.gf256.specs.Gf256.{gf256, times}
+use Rattle.gf256.specs.Tables.{placeOf}
+use Rattle.gf256.proofs.Field256.{field256}
+use Rattle.errata.specs.declared.Errata.{Errata}
+use Rattle.errata.specs.declared.Pair.{Pair}
+
+-- what a test's answer says
+abbrev pub Says : Bool → Type 0 → Type 0
+Says true P = P
+Says false P = P → ⊥
+
+-- the sums that a syndrome holds, counted from 0
+abbrev pub at : List ℕ → ℕ → ℕ
+at s m = getD s m 0
+
+-- ---- the filter
+
+pub record Filtered (x : ℕ) (s r : List ℕ) : Type 0 where
+  pub sum : (m : ℕ) → m < 4 → at r m ≡ bitXor (at s (suc m)) (times x (at s m))
+
+-- the first k of five are cells of a word of n, no two alike
+pub record Listed (n : ℕ) (cells : List ℕ) (k : ℕ) : Type 0 where
+  pub short : n ≤ 255
+  pub room : length cells ≡ 5
+  pub few : k ≤ 5
+  pub below : Below (take k cells) n
+  pub distinct : Distinct (take k cells)
+
+-- the cells ps of a word of n filtered out of s
+pub record Drained (n : ℕ) (ps s r : List ℕ) : Type 0 where
+  pub sum : (m : ℕ) → m + length ps < 5 → at r m ≡ filt gf256 (map (placeOf n) ps) (at s) m
+
+-- ---- marks
+
+-- j is put after the first k, if it is marked
+abbrev pub Pushed : Bool → List ℕ → ℕ → ℕ → List ℕ → ℕ → Type 0
+Pushed true p k j q r = (q ≡ set p k j) × (r ≡ k + 1)
+Pushed false p k j q r = (q ≡ p) × (r ≡ k)
+
+pub record Gathered (marks cells : List ℕ) (f : ℕ) : Type 0 where
+  pub room : length cells ≡ 5
+  pub list : take f cells ≡ erasures marks
+
+-- ---- wrong cells
+
+abbrev pub CellAt : ℕ → List ℕ → ℕ → Type 0
+CellAt = CellOf gf256 field256
+
+abbrev pub FitsAlone : List ℕ → ℕ → List ℕ → ℕ → Type 0
+FitsAlone t k marks p = Fits gf256 field256 marks (at t) k (p ∷ [])
+
+abbrev pub One : List ℕ → ℕ → List ℕ → ℕ → Type 0
+One t = Found1 gf256 field256 (at t)
+
+abbrev pub Two : List ℕ → ℕ → List ℕ → Pair → Type 0
+Two t k marks r = Found2 gf256 field256 (at t) k marks (r .p) (r .q)
+
+abbrev pub Both : ℕ → ℕ → List ℕ → ℕ → List ℕ → Pair → Type 0
+Both x y t k marks r = Joined gf256 field256 x y (at t) k marks (r .p) (r .q)
+
+abbrev pub Halving : List ℕ → Type 0
+Halving = Halves gf256 field256
+
+abbrev pub Split : ℕ → ℕ → ℕ → Type 0
+Split = Splits gf256 field256
+
+-- t are the sums that are left when the f marked cells are filtered out. A guess of wrong cells that fits, listed after the marked ones
+pub record Guess (marks t : List ℕ) (f count : ℕ) (cells : List ℕ) : Type 0 where
+  pub wrong : List ℕ
+  pub below : Below wrong (length marks)
+  pub distinct : Distinct wrong
+  pub few : 2 * length wrong + f ≤ 5
+  pub fits : Fits gf256 field256 marks (at t) (5 - f - length wrong) wrong
+  pub counted : count ≡ f + length wrong
+  pub room : length cells ≡ 5
+  pub list : take count cells ≡ erasures marks ++ wrong
+
+-- no guess of none, one or two cells fits, where so many may be wrong
+pub record NoGuess (marks t : List ℕ) (f : ℕ) : Type 0 where
+  pub not-none : Zeros (5 - f) (at t) → ⊥
+  pub not-one : 2 + f ≤ 5 → (p : ℕ) → p < length marks → Fits gf256 field256 marks (at t) (5 - f - 1) (p ∷ []) → ⊥
+  pub not-two : 4 + f ≤ 5 → (p q : ℕ) → p < length marks → q < p → Fits gf256 field256 marks (at t) (5 - f - 2) (p ∷ q ∷ []) → ⊥
+
+abbrev pub GuessedAs : Bool → List ℕ → List ℕ → ℕ → ℕ → List ℕ → Type 0
+GuessedAs true marks t f count cells = Guess marks t f count cells
+GuessedAs false marks t f count cells = NoGuess marks t f
+
+-- ---- values
+
+-- the values at the cells after i, divided, and before them what is left of the first sum
+abbrev pub Divided : ℕ → List ℕ → ℕ → ℕ → List ℕ → ℕ → List ℕ → Type 0
+Divided n cells i k v s0 r =
+    slice i k r ≡ bitXor s0 (total gf256 (solve.divided gf256 field256 (placeOf n (getD cells i 0)) (map (placeOf n) (slice (i + 1) k cells)) (slice (i + 1) k v)))
+    ∷ solve.divided gf256 field256 (placeOf n (getD cells i 0)) (map (placeOf n) (slice (i + 1) k cells)) (slice (i + 1) k v)
+
+abbrev pub Solved : ℕ → List ℕ → ℕ → ℕ → List ℕ → List ℕ → Type 0
+Solved n cells i k s r = slice i k r ≡ solve.solve gf256 field256 (map (placeOf n) (slice i k cells)) (at s)
+
+abbrev pub Unweighed : ℕ → List ℕ → ℕ → List ℕ → List ℕ → Type 0
+Unweighed n cells k u r = take k r ≡ solve.unweighed gf256 field256 (map (placeOf n) (take k cells)) (take k u)
+
+-- ---- errata
+
+-- all five are bytes
+abbrev pub Bytes5 : List ℕ → Type 0
+Bytes5 s = (m : ℕ) → at s m < 256
+
+-- the first k cells, with the values that give the sums s
+pub record Valued (n : ℕ) (cells : List ℕ) (k : ℕ) (s : List ℕ) (e : Errata) : Type 0 where
+  pub count : e .count ≡ k
+  pub same-cells : e .cells ≡ cells
+  pub room : length (e .values) ≡ 5
+  pub values : take k (e .values) ≡ solve.unweighed gf256 field256 (map (placeOf n) (take k cells)) (solve.solve gf256 field256 (map (placeOf n) (take k cells)) (at s))
+
+abbrev pub cellsOf : Errata → List ℕ
+cellsOf e = take (e .count) (e .cells)
+
+abbrev pub valuesOf : Errata → List ℕ
+valuesOf e = take (e .count) (e .values)
+
+-- e is for a word of n: at most five cells of it, no two alike
+pub record ErrataFor (n : ℕ) (e : Errata) : Type 0 where
+  pub few : e .count ≤ 5
+  pub room : length (e .cells) ≡ 5
+  pub values-room : length (e .values) ≡ 5
+  pub below : Below (cellsOf e) n
+  pub distinct : Distinct (cellsOf e)
+
+-- e mends r: with it, r becomes a clean word within reach
+pub record Mends (marks r : List ℕ) (e : Errata) : Type 0 where
+  pub listed : ErrataFor (length r) e
+  pub mends : (w : List ℕ) → Applied gf256 (cellsOf e) (valuesOf e) r w → Clean gf256 w × Reach marks r w
+
+-- no clean word is within reach of r
+abbrev pub Beyond : List ℕ → List ℕ → Type 0
+Beyond marks r = (w : List ℕ) → Cells gf256 w → Clean gf256 w → Reach marks r w → ⊥
+
+abbrev pub SearchedAs : Bool → List ℕ → List ℕ → Errata → Type 0
+SearchedAs true marks r e = Mends marks r e
+SearchedAs false marks r e = Beyond marks r
+
+-- what is found from a syndrome holds of every word that has it
+abbrev pub FoundFor : List ℕ → List ℕ → Bool → Errata → Type 0
+FoundFor s marks good e = (r : List ℕ) → length r ≡ length marks → Cells gf256 r → s ≡ syndrome gf256 r → SearchedAs good marks r e

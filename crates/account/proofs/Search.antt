@@ -16,6 +16,7 @@ use Rattle.account.proofs.Cells.{Outside, Below, Distinct, Falling, pla
 use Rattle.account.proofs.Filter as filter
 use Rattle.account.proofs.Filter.{filt}
 use Rattle.account.proofs.Solve as solve
+use Rattle.account.proofs.Solve.{added}
 use Rattle.account.proofs.Words.{sumsOf}
 use Rattle.account.proofs.Decode as decode
 use Rattle.account.proofs.Decode.{Fixes, Applied, values}
@@ -79,8 +80,8 @@ module _ (O : Ops) (F : IsField O) where
 
     -- a guess that fits, with the solved values, gives a clean word within reach
     pub mended : (bs : List ℕ) → Below bs n → Distinct bs → 2 * length bs + f ≤ 5 → Fits marks t (5 - f - length bs) bs
-        → (w : List ℕ) → Applied O (erasures marks ++ bs) (values O F (erasures marks ++ bs) r) r w → Clean O w × Reach marks r w
-    mended bs bb db few fit w a = (clean, record { same-length = a .same-length; few = near })
+        → (w : List ℕ) → Applied O (erasures marks ++ bs) (values O F (erasures marks ++ bs) r) r w → Clean O w × Reach marks r w × Cells O w
+    mended bs bb db few fit w a = (clean, record { same-length = a .same-length; few = near }, record { cell = cell })
       where
         ps : List ℕ
         ps = erasures marks ++ bs
@@ -94,6 +95,12 @@ module _ (O : Ops) (F : IsField O) where
             (subst (λ (k : ℕ). (m : ℕ) → m + length (erasures marks ++ bs) < 5 → filt O (map (powers.place O F k) (erasures marks ++ bs)) (sumsOf O r) m ≡ 0) (sym (R .matched))
             (λ m l. fit-at bs m l ∙ fit .none m (omega (arith, length-append (erasures marks) bs, R .count))))
             w a
+
+        cell : (p : ℕ) → p < length w → In O (getD w p 0)
+        cell p l =
+            subst (In O) (sym (a .cell p (omega (arith, a .same-length))))
+            (F .in-add (getD r p 0) (added O (erasures marks ++ bs) (values O F (erasures marks ++ bs) r) p) (R .cells .cell p (omega (arith, a .same-length)))
+            (solve.added-in O F (erasures marks ++ bs) (values O F (erasures marks ++ bs) r) p (decode.values-in O F (erasures marks ++ bs) r)))
 
         right : (p : ℕ) → p < length r → Outside bs p → T (not (differsAt marks r w p))
         right p l o = go (isMarked marks p) refl

@@ -10,7 +10,7 @@ use lib.Dec.{T}
 use lib.ListN.{length, getD, take, length-append, replicate, getD-replicate, List·getD-append}
 use lib.Seq.{ext-getD, getD-take, length-take-le, getD-append-add}
 use Rattle.account.specs.Field.{Ops, In, IsField}
-use Rattle.account.specs.Code.{Cells, Clean}
+use Rattle.account.specs.Code.{Cells, Clean, WordOf}
 use Rattle.account.specs.Reach.{countTo, isMarked, differsAt, marked, differing, Reach}
 use Rattle.account.proofs.Cells.{Outside, Below, Distinct, places, outside-left, outside-right, below-append, below-places, outside-places, count-places, count-none, same-at, not-differs}
 use Rattle.account.proofs.Solve as solve
@@ -133,22 +133,17 @@ module _ (O : Ops) (F : IsField O) where
       omega arith
 
   -- Exactly one clean word has given data in front: no two ..
-  pub one-with-data : (m : ℕ) (v w : List ℕ) → m + 5 ≤ order → length v ≡ m + 5 → length w ≡ m + 5 → Cells O v → Cells O w → Clean O v → Clean O w
-      → take m v ≡ take m w → v ≡ w
-  one-with-data m v w short ev ew iv iw cv cw e =
-      decode.same O F (m + 5) short (checks m) v w ev ew (omega arith, (omega arith, (omega arith, (omega arith, (omega arith, tt))))) (omega arith) iv iw cv cw
+  pub one-with-data : (d v w : List ℕ) → length d + 5 ≤ order → Cells O v → Cells O w → WordOf O d v → WordOf O d w → v ≡ w
+  one-with-data d v w short iv iw A B =
+      decode.same O F (length d + 5) short (checks (length d)) v w (A .size) (B .size) (omega arith, (omega arith, (omega arith, (omega arith, (omega arith, tt))))) (omega arith) iv iw
+      (A .clean) (B .clean)
       (λ p l o.
-      sym (getD-take m v p 0 (outside-checks m p l o)) ∙ ap (λ (x : List ℕ). getD x p 0) e ∙ getD-take m w p 0 (outside-checks m p l o))
+      let h : p < length d = outside-checks (length d) p l o in
+      sym (getD-take (length d) v p 0 h) ∙ ap (λ (x : List ℕ). getD x p 0) (A .front ∙ sym (B .front)) ∙ getD-take (length d) w p 0 h)
 
   -- .. and one.
-  pub record WithData (data' w : List ℕ) : Type 0 where
-    pub size : length w ≡ length data' + 5
-    pub cells : Cells O w
-    pub clean : Clean O w
-    pub front : take (length data') w ≡ data'
-
-  pub some-with-data : (data' : List ℕ) → length data' + 5 ≤ order → Cells O data' → (w : List ℕ) × WithData data' w
-  some-with-data data' short id = (w, record { size = size; cells = cells; clean = clean; front = front })
+  pub some-with-data : (data' : List ℕ) → length data' + 5 ≤ order → Cells O data' → (w : List ℕ) × WordOf O data' w × Cells O w
+  some-with-data data' short id = (w, record { size = size; front = front; clean = clean }, cells)
     where
       m : ℕ
       m = length data'

@@ -4,7 +4,7 @@ use mathlib.Core.List.{List, [], _∷_}
 use Prim.Native.Nat.{ℕ, zero, suc, _+_, _*_, _-_, _≤_, _<_}
 use lib.IntN.{ℤ, pos, negsuc, _*ℤ_}
 use lib.Signed.{_≤ℤ_}
-use lib.ListN.{length, getD}
+use lib.ListN.{length, getD, take}
 use Rattle.account.specs.Field.{Ops, In, power, sumTo}
 
 module _ (O : Ops) where
@@ -33,3 +33,9 @@ module _ (O : Ops) where
   -- "The five sums S_-2 to S_2 are all zero in a clean word, and only there"
   abbrev pub Clean : List ℕ → Type 0
   Clean w = (j : ℤ) → negsuc 1 ≤ℤ j → j ≤ℤ pos 2 → S j w ≡ 0
+
+  -- "Writing puts the data first unchanged": w is a clean word of n bytes, n - 5 data bytes d and then five check bytes
+  pub record WordOf (d w : List ℕ) : Type 0 where
+    pub size : length w ≡ length d + 5
+    pub front : take (length d) w ≡ d
+    pub clean : Clean w

@@ -146,7 +146,7 @@ pub record ErrataFor (n : ℕ) (e : Errata) : Type 0 where
 -- e mends r: with it, r becomes a clean word within reach
 pub record Mends (marks r : List ℕ) (e : Errata) : Type 0 where
   pub listed : ErrataFor (length r) e
-  pub mends : (w : List ℕ) → Applied gf256 (cellsOf e) (valuesOf e) r w → Clean gf256 w × Reach marks r w
+  pub mends : (w : List ℕ) → Applied gf256 (cellsOf e) (valuesOf e) r w → Clean gf256 w × Reach marks r w × Cells gf256 w
 
 -- no clean word is within reach of r
 abbrev pub Beyond : List ℕ → List ℕ → Type 0

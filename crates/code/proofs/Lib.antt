@@ -1,0 +1,5 @@
+pub mod Applying
+pub mod Tally
+pub mod Writing
+pub mod Repairing
+pub mod Lanes

@@ -1,0 +1,27 @@
+use native.Mathlib.Omega.{arith}
+use Rattle.remainder.proofs.Whole.{none-is-clean}
+use Rattle.code.proofs.Repairing.{as-is}
+use borrow.Author.Needs.{needs}
+use Rattle.code.proofs.repair.search.Statement.{statement}
+use Rattle.code.proofs.repair.search.Tie as tie
+
+remainder-requires : tie.Need-remainder-requires
+remainder-requires c κs = search needs
+
+returns : tie.Need-returns
+returns c =
+    let s = c .before .before .before .before in
+    let w = s .args .word .now in
+    as-is (s .args .marks .now) w (s .args .f) _ _ (s .pre .0) (s .pre .2) (s .pre .3) (record { cell = λ j l. omega (arith, c .before .before .before .shared-slice-known .given j) })
+    (none-is-clean w (c .before .remainder .result) (c .before .remainder .ensures) (c .if1 .taken)) (search needs) (search needs)
+
+errata-of-requires : tie.Need-errata-of-requires
+errata-of-requires c κs = search needs
+
+returns-2 : tie.Need-returns-2
+returns-2 c =
+    let s = c .before .before .before .before .before in
+    c .errata-of .ensures (s .args .word .now) (s .pre .0) (record { cell = λ j l. omega (arith, c .before .before .before .before .shared-slice-known .given j) }) (c .before .before .remainder .ensures)
+
+pub search-spec : {M : Type 1} → statement M
+search-spec = tie.close (tie.spec remainder-requires returns errata-of-requires returns-2)

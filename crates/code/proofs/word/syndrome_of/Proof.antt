@@ -1,0 +1,18 @@
+use mathlib.Core.Path.{_≡_, _∙_}
+use Rattle.gf256.proofs.Tables.{tables}
+use Rattle.remainder.proofs.Whole.{syndrome-same}
+use borrow.Author.Needs.{needs}
+use Rattle.code.proofs.word.syndrome_of.Statement.{statement}
+use Rattle.code.proofs.word.syndrome_of.Tie as tie
+
+remainder-requires : tie.Need-remainder-requires
+remainder-requires c κs = search needs
+
+syndrome-of-requires : tie.Need-syndrome-of-requires
+syndrome-of-requires c κs = tables
+
+returns : tie.Need-returns
+returns c = c .syndrome-of .ensures ∙ syndrome-same (c .before .before .before .before .before .args .word .now) (c .before .remainder .result) (c .before .remainder .ensures)
+
+pub syndrome-of-spec : {M : Type 1} → statement M
+syndrome-of-spec = tie.close (tie.spec remainder-requires syndrome-of-requires returns)

@@ -1,0 +1,53 @@
+use native.Mathlib.Omega.{arith}
+use Rattle.code.proofs.Writing.{wrote, refused-1, refused-4}
+use borrow.Author.Needs.{needs}
+use Rattle.code.proofs.word.write.Statement.{statement}
+use Rattle.code.proofs.word.write.Tie as tie
+
+returns : tie.Need-returns
+returns c = refused-1 (c .before .before .before .args .«data» .now) (c .before .before .before .args .word .now) (λ w. omega (arith, w .from, c .if1 .taken))
+
+returns-2 : tie.Need-returns-2
+returns-2 c = refused-1 (c .before .before .before .before .args .«data» .now) (c .before .before .before .before .args .word .now) (λ w. omega (arith, w .to, c .if2 .taken))
+
+add-if3 : tie.Need-add-if3
+add-if3 c = search needs
+
+returns-3 : tie.Need-returns-3
+returns-3 c = refused-4 (c .before .before .before .before .before .args .«data» .now) (c .before .before .before .before .before .args .word .now) (search needs) (search needs) (c .if3 .taken)
+
+checks-requires : tie.Need-checks-requires
+checks-requires c κs = search needs
+
+put-data-requires : tie.Need-put-data-requires
+put-data-requires c κs = search needs
+
+put-checks-requires : tie.Need-put-checks-requires
+put-checks-requires c κs = search needs
+
+add-t6 : tie.Need-add-t6
+add-t6 c = search needs
+
+same-length : tie.Need-same-length
+same-length c = search needs
+
+returns-4 : tie.Need-returns-4
+returns-4 c =
+    let s = c .before .before .before .before .before .before .before .before .before .before .before .before .before .before in
+    wrote (s .args .«data» .now) (s .args .word .now) (c .before .before .before .before .before .before .put-data .last .1 .0) (c .before .before .put-checks .last .0) (c .before .before .before .before .before .before .before .before .checks .result) (search needs) (search needs) (c .before .before .before .before .before .before .before .before .before .if3 .left) (c .before .before .before .before .before .before .before .before .checks .ensures)
+    (c .before .before .before .before .before .before .put-data .ensures) (c .before .before .put-checks .ensures)
+
+pub write-spec : {M : Type 1} → statement M
+write-spec =
+    tie.close
+    (tie.spec
+    returns
+    returns-2
+    add-if3
+    returns-3
+    checks-requires
+    put-data-requires
+    put-checks-requires
+    add-t6
+    same-length
+    returns-4)

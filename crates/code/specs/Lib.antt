@@ -1,0 +1,4 @@
+pub mod Refusal
+pub mod Word
+pub mod Repair
+pub mod Lane

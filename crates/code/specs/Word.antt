@@ -1,0 +1,50 @@
+-- Words of bytes: writing and testing.
+use mathlib.Core.Path.{_≡_}
+use mathlib.Core.List.{List, [], _∷_}
+use Prim.Native.Nat.{ℕ, _+_, _≤_}
+use lib.ListN.{length}
+use Rattle.account.specs.Code.{Clean, WordOf}
+use Rattle.gf256.specs.Gf256.{gf256}
+use Rattle.code.specs.Refusal.{Rule, unless, First, Numbers, done, refused}
+use Rattle.code.specs.declared.word.Written.{Written}
+use Rattle.code.specs.declared.word.Written.the-variants as written
+use Rattle.code.specs.declared.word.Tested.{Tested}
+use Rattle.code.specs.declared.word.Tested.the-variants as tested
+
+-- a length from a to b
+pub record Within (a b n : ℕ) : Type 0 where
+  pub from : a ≤ n
+  pub to : n ≤ b
+
+-- ---- writing: n is returned
+
+abbrev pub writtenNumbers : Written → Numbers
+writtenNumbers (written.Length n) = done n
+writtenNumbers (written.Refused c) = refused c
+
+-- 1: "data not 1–250"; 4: "word buffer not data + 5"
+abbrev pub writing : List ℕ → List ℕ → List Rule
+writing d old = unless 1 (Within 1 250 (length d)) ∷ unless 4 (length old ≡ length d + 5) ∷ []
+
+pub record WritesAs (d old new : List ℕ) (a : Written) : Type 0 where
+  pub code : First (writing d old) (writtenNumbers a .code)
+  pub word : writtenNumbers a .code ≡ 0 → WordOf gf256 d new
+  pub value : writtenNumbers a .code ≡ 0 → writtenNumbers a .value ≡ length new
+  pub kept : (writtenNumbers a .code ≡ 0 → ⊥) → new ≡ old
+
+-- ---- testing: 1 for clean, 0 for not
+
+abbrev pub testedNumbers : Tested → Numbers
+testedNumbers tested.Clean = done 1
+testedNumbers tested.Damaged = done 0
+testedNumbers (tested.Refused c) = refused c
+
+-- 1: "word not 6–255"
+abbrev pub testing : List ℕ → List Rule
+testing w = unless 1 (Within 6 255 (length w)) ∷ []
+
+-- "a word is called clean only if all five sums are zero, and always then"
+pub record TestsAs (w : List ℕ) (a : Tested) : Type 0 where
+  pub code : First (testing w) (testedNumbers a .code)
+  pub only : testedNumbers a .value ≡ 1 → Clean gf256 w
+  pub always : testedNumbers a .code ≡ 0 → Clean gf256 w → testedNumbers a .value ≡ 1

@@ -1,0 +1,169 @@
+// Repair of a word in place: find the errata, count, apply.
+ghost use mathlib.Core.Path.{_≡_};
+ghost use mathlib.Core.Bool.{not};
+ghost use mathlib.Core.List.{List};
+ghost use Prim.Native.Nat.{ℕ, _+_, _<_, _≤_};
+ghost use lib.Dec.{eqb};
+ghost use lib.ListN.{length, getD};
+ghost use Rattle.account.specs.Code.{Cells};
+ghost use Rattle.account.specs.Reach.{countTo, isMarked, oneIf, and};
+ghost use Rattle.account.proofs.Decode.{Applied};
+ghost use Rattle.gf256.specs.Gf256.{gf256};
+ghost use Rattle.remainder.specs.Remainder.{Remains};
+ghost use Rattle.errata.specs.Errata.{cellsOf, valuesOf, ErrataFor, SearchedAs};
+ghost use Rattle.code.specs.Repair.{Tallied, EntersAs, countedOf, RepairsAs};
+
+// What repairing a word answers: how many unmarked cells were mended, or a refusal's number.
+pub enum Repaired {
+    Mended(usize),
+    Refused(u8),
+}
+
+// All marks or-ed together, and their sum.
+pub struct Marked {
+    pub any: u8,
+    pub sum: usize,
+}
+
+// One pass with no branch, so that it can run wide.
+fn tally(marks: &[u8]) -> Marked
+    requires { ⌜ length (now marks) ≤ 255 ⌝ }
+    ensures { λ r. ⌜ Tallied (now (marks .entry)) r ⌝ }
+{
+    let mut any: u8 = 0;
+    let mut sum: usize = 0;
+    let mut i = 0;
+    while i < marks.len() {
+        any = any | marks[i];
+        sum += marks[i] as usize;
+        i += 1;
+    }
+    Marked { any, sum }
+}
+
+// Refusals 1 to 3, and how many cells are marked.
+pub struct Entered {
+    pub code: u8,
+    pub marked: usize,
+}
+
+fn enter(n: usize, marks: &[u8]) -> Entered
+    ensures { λ r. ⌜ EntersAs n (now (marks .entry)) r ⌝ }
+{
+    if n < 6 {
+        return Entered { code: 1, marked: 0 };
+    }
+    if 255 < n {
+        return Entered { code: 1, marked: 0 };
+    }
+    if marks.len() != n {
+        return Entered { code: 2, marked: 0 };
+    }
+    let t = tally(marks);
+    let any = t.any;
+    if 1 < any {
+        return Entered { code: 3, marked: 0 };
+    }
+    let marked = t.sum;
+    Entered { code: 0, marked }
+}
+
+// The errata of a word with the remainder r, with the tables made here.
+fn errata_of(r: u64, marks: &[u8], f: usize) -> errata::Found
+    requires { ⌜ (r < 1099511627776) × (length (now marks) ≤ 255) × (f ≡ countTo (isMarked (now marks)) (length (now marks))) × (f ≤ 5) ⌝ }
+    ensures { λ x. ⌜ ((w : List ℕ) → length w ≡ length (now (marks .entry)) → Cells gf256 w → Remains w r → SearchedAs (x .good) (now (marks .entry)) w (x .errata)) ⌝ }
+{
+    let powers = gf256::POWERS;
+    let logs = gf256::LOGS;
+    let halves = errata::HALVES;
+    let s = remainder::syndrome_of(&powers, &logs, r);
+    errata::find(&powers, &logs, &halves, s, marks, f)
+}
+
+// The errata of a word of which f cells are marked. A clean word costs no more than its test.
+pub fn search(word: &[u8], marks: &[u8], f: usize) -> errata::Found
+    requires { ⌜ (length (now word) ≡ length (now marks)) × (length (now marks) ≤ 255) × (f ≡ countTo (isMarked (now marks)) (length (now marks))) × (f ≤ 5) ⌝ }
+    ensures { λ x. ⌜ SearchedAs (x .good) (now (marks .entry)) (now (word .entry)) (x .errata) ⌝ }
+{
+    let r = super::word::remainder(word);
+    if r == 0 {
+        return errata::Found {
+            good: true,
+            errata: errata::Errata {
+                count: 0,
+                cells: [0; 5],
+                values: [0; 5],
+            },
+        };
+    }
+    errata_of(r, marks, f)
+}
+
+// 1 where an erratum is at an unmarked cell and changes it.
+fn changes(marks: &[u8], p: usize, v: u8) -> usize
+    requires { ⌜ p < length (now marks) ⌝ }
+    ensures { λ r. ⌜ r ≡ oneIf (and (not (isMarked (now (marks .entry)) p)) (not (eqb v 0))) ⌝ }
+{
+    if marks[p] != 0 {
+        return 0;
+    }
+    if v == 0 {
+        return 0;
+    }
+    1
+}
+
+// How many unmarked cells the errata change.
+pub fn count(e: errata::Errata, marks: &[u8]) -> usize
+    requires { ⌜ ErrataFor (length (now marks)) e ⌝ }
+    ensures { λ r. ⌜ r ≡ countedOf (now (marks .entry)) (cellsOf e) (valuesOf e) ⌝ }
+{
+    let cells = e.cells;
+    let values = e.values;
+    let mut c = 0;
+    let mut i = e.count;
+    while 0 < i {
+        i -= 1;
+        c += changes(marks, cells[i], values[i]);
+    }
+    c
+}
+
+// The errata, added to the word.
+pub fn apply(e: errata::Errata, word: &mut [u8])
+    requires { ⌜ ErrataFor (length (now word)) e ⌝ }
+    ensures { λ _. ⌜ Applied gf256 (cellsOf e) (valuesOf e) (now (word .entry)) (now (word .exit)) ⌝ }
+{
+    let cells = e.cells;
+    let values = e.values;
+    let mut i = e.count;
+    while 0 < i {
+        i -= 1;
+        let p = cells[i];
+        word[p] = word[p] ^ values[i];
+    }
+}
+
+// The word becomes the clean word within reach, if there is one.
+pub fn repair(word: &mut [u8], marks: &[u8]) -> Repaired
+    ensures { λ r. ⌜ RepairsAs (now (marks .entry)) (now (word .entry)) (now (word .exit)) r ⌝ }
+{
+    let entered = enter(word.len(), marks);
+    let code = entered.code;
+    if code != 0 {
+        return Repaired::Refused(code);
+    }
+    let f = entered.marked;
+    if 5 < f {
+        return Repaired::Refused(6);
+    }
+    let found = search(word, marks, f);
+    let good = found.good;
+    if !good {
+        return Repaired::Refused(6);
+    }
+    let errata = found.errata;
+    let mended = count(errata, marks);
+    apply(errata, word);
+    Repaired::Mended(mended)
+}

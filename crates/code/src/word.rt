@@ -1,0 +1,114 @@
+// Words: n bytes, 6 to 255, of which the last five are check bytes.
+ghost use mathlib.Core.Path.{_≡_};
+ghost use mathlib.Core.List.{_++_};
+ghost use Prim.Native.Nat.{_+_, _%_, _≤_};
+ghost use lib.ListN.{length, drop};
+ghost use lib.Seq.{sets};
+ghost use Rattle.account.specs.Code.{syndrome};
+ghost use Rattle.gf256.specs.Gf256.{gf256};
+ghost use Rattle.remainder.specs.Remainder.{Remains, Checks, unpacked};
+ghost use Rattle.code.specs.Word.{WritesAs, TestsAs};
+
+// What writing a word answers: the length written, or a refusal's number.
+pub enum Written {
+    Length(usize),
+    Refused(u8),
+}
+
+// What testing a word answers.
+pub enum Tested {
+    Clean,
+    Damaged,
+    Refused(u8),
+}
+
+// The remainder of w, with the table made here.
+pub fn remainder(w: &[u8]) -> u64
+    ensures { λ r. ⌜ Remains (now (w .entry)) r ⌝ }
+{
+    let t = remainder::REDUCTIONS;
+    remainder::of_word(&t, w)
+}
+
+fn checks(data: &[u8]) -> u64
+    ensures { λ x. ⌜ Checks (now («data» .entry)) x ⌝ }
+{
+    let t = remainder::REDUCTIONS;
+    remainder::checks(&t, data)
+}
+
+// The data, in front of a longer word.
+fn put_data(data: &[u8], word: &mut [u8])
+    requires { ⌜ length (now «data») ≤ length (now word) ⌝ }
+    ensures { λ _. ⌜ now (word .exit) ≡ now («data» .entry) ++ drop (length (now («data» .entry))) (now (word .entry)) ⌝ }
+{
+    let mut i = 0;
+    while i < data.len() {
+        word[i] = data[i];
+        i += 1;
+    }
+}
+
+fn low(x: u64) -> u8
+    ensures { λ r. ⌜ r ≡ x % 256 ⌝ }
+{
+    (x % 256) as u8
+}
+
+// Five packed bytes, from cell k on.
+fn put_checks(word: &mut [u8], k: usize, x: u64)
+    requires { ⌜ k + 5 ≤ length (now word) ⌝ }
+    ensures { λ _. ⌜ now (word .exit) ≡ sets (now (word .entry)) k (unpacked x) ⌝ }
+{
+    word[k] = low(x / 4294967296);
+    word[k + 1] = low(x / 16777216);
+    word[k + 2] = low(x / 65536);
+    word[k + 3] = low(x / 256);
+    word[k + 4] = low(x);
+}
+
+// Writes the one clean word with the data in front.
+pub fn write(data: &[u8], word: &mut [u8]) -> Written
+    ensures { λ r. ⌜ WritesAs (now («data» .entry)) (now (word .entry)) (now (word .exit)) r ⌝ }
+{
+    let m = data.len();
+    if m < 1 {
+        return Written::Refused(1);
+    }
+    if 250 < m {
+        return Written::Refused(1);
+    }
+    if word.len() != m + 5 {
+        return Written::Refused(4);
+    }
+    let x = checks(data);
+    put_data(data, word);
+    put_checks(word, m, x);
+    Written::Length(m + 5)
+}
+
+// Whether a word is clean.
+pub fn test(word: &[u8]) -> Tested
+    ensures { λ r. ⌜ TestsAs (now (word .entry)) r ⌝ }
+{
+    let n = word.len();
+    if n < 6 {
+        return Tested::Refused(1);
+    }
+    if 255 < n {
+        return Tested::Refused(1);
+    }
+    if remainder(word) == 0 {
+        return Tested::Clean;
+    }
+    Tested::Damaged
+}
+
+// The five sums S_-2 to S_2 of a word of any length.
+pub fn syndrome_of(word: &[u8]) -> [u8; 5]
+    ensures { λ s. ⌜ s ≡ syndrome gf256 (now (word .entry)) ⌝ }
+{
+    let powers = gf256::POWERS;
+    let logs = gf256::LOGS;
+    remainder::syndrome_of(&powers, &logs, remainder(word))
+}

@@ -1,0 +1,38 @@
+-- The numbers of an answer, packed in one.
+use mathlib.Core.Path.{_≡_}
+use mathlib.Core.List.{List}
+use Prim.Native.Nat.{ℕ, _+_, _*_, _%_, _^_}
+use lib.ListN.{getD}
+use Rattle.code.specs.Refusal.{Numbers}
+use Rattle.code.specs.Word.{writtenNumbers, testedNumbers, WritesAs, TestsAs}
+use Rattle.code.specs.Repair.{repairedNumbers, RepairsAs}
+use Rattle.code.specs.declared.word.Written.{Written}
+use Rattle.code.specs.declared.word.Tested.{Tested}
+use Rattle.code.specs.declared.repair.Repaired.{Repaired}
+
+-- the code in bits 0 to 4, and a value below 512 from bit k on
+abbrev pub packedAt : ℕ → ℕ → ℕ → ℕ
+packedAt k code value = code % 32 + value % 512 * 2 ^ k
+
+abbrev pub packed : ℕ → Numbers → ℕ
+packed k a = packedAt k (a .code) (a .value)
+
+-- five bytes, the first in the lowest place
+abbrev pub packedSums : List ℕ → ℕ
+packedSums s = getD s 0 0 + getD s 1 0 * 256 + getD s 2 0 * 65536 + getD s 3 0 * 16777216 + getD s 4 0 * 4294967296
+
+-- an answer of the entry, and its packing
+pub record WriteExport (d old new : List ℕ) (r : ℕ) : Type 0 where
+  pub answer : Written
+  pub writes : WritesAs d old new answer
+  pub is : r ≡ packed 55 (writtenNumbers answer)
+
+pub record TestExport (w : List ℕ) (r : ℕ) : Type 0 where
+  pub answer : Tested
+  pub tests : TestsAs w answer
+  pub is : r ≡ packed 55 (testedNumbers answer)
+
+pub record RepairExport (marks old new : List ℕ) (r : ℕ) : Type 0 where
+  pub answer : Repaired
+  pub repairs : RepairsAs marks old new answer
+  pub is : r ≡ packed 31 (repairedNumbers answer)

@@ -58,7 +58,7 @@ module _ (O : Ops) (F : IsField O) where
   sum-first (suc n) f = ap (λ (y : ℕ). y ⊕ f (suc n)) (sum-first n f) ∙ F .add-assoc (f 0) (sumTo O n (λ i. f (suc i))) (f (suc n))
 
   -- values: the first cell has the highest power
-  value-cons : (x b : ℕ) (q : List ℕ) → value O x (b ∷ q) ≡ (b ⊗ power O x (length q)) ⊕ value O x q
+  pub value-cons : (x b : ℕ) (q : List ℕ) → value O x (b ∷ q) ≡ (b ⊗ power O x (length q)) ⊕ value O x q
   unfolding value
   value-cons x b q =
       sum-first (length q) (λ p. getD (b ∷ q) p 0 ⊗ power O x (suc (length q) - suc p))

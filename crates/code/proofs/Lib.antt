@@ -3,3 +3,5 @@ pub mod Tally
 pub mod Writing
 pub mod Repairing
 pub mod Lanes
+pub mod Theorems
+pub mod Cells

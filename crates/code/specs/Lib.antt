@@ -2,3 +2,4 @@ pub mod Refusal
 pub mod Word
 pub mod Repair
 pub mod Lane
+pub mod Cells

@@ -2,10 +2,13 @@
 use mathlib.Core.Path.{_≡_}
 use mathlib.Core.List.{List}
 use Prim.Native.Nat.{ℕ, _+_, _*_, _%_, _^_}
-use lib.ListN.{getD}
-use Rattle.code.specs.Refusal.{Numbers}
+use lib.ListN.{length, getD}
+use Rattle.account.specs.Code.{Clean}
+use Rattle.account.specs.Reach.{differing, Reach}
+use Rattle.gf256.specs.Gf256.{gf256}
+use Rattle.code.specs.Refusal.{First, Numbers}
 use Rattle.code.specs.Word.{writtenNumbers, testedNumbers, WritesAs, TestsAs}
-use Rattle.code.specs.Repair.{repairedNumbers, RepairsAs}
+use Rattle.code.specs.Repair.{repairedNumbers, repairing, RepairsAs}
 use Rattle.code.specs.declared.word.Written.{Written}
 use Rattle.code.specs.declared.word.Tested.{Tested}
 use Rattle.code.specs.declared.repair.Repaired.{Repaired}
@@ -35,4 +38,14 @@ pub record TestExport (w : List ℕ) (r : ℕ) : Type 0 where
 pub record RepairExport (marks old new : List ℕ) (r : ℕ) : Type 0 where
   pub answer : Repaired
   pub repairs : RepairsAs marks old new answer
+  pub is : r ≡ packed 31 (repairedNumbers answer)
+
+-- the repair of a word, of at most 96 bytes
+pub record LaneExport (marks old new : List ℕ) (r : ℕ) : Type 0 where
+  pub answer : Repaired
+  pub code : First (repairing 96 (length old) (length marks) marks old) (repairedNumbers answer .code)
+  pub clean : repairedNumbers answer .code ≡ 0 → Clean gf256 new
+  pub reach : repairedNumbers answer .code ≡ 0 → Reach marks old new
+  pub value : repairedNumbers answer .code ≡ 0 → repairedNumbers answer .value ≡ differing marks old new
+  pub kept : (repairedNumbers answer .code ≡ 0 → ⊥) → new ≡ old
   pub is : r ≡ packed 31 (repairedNumbers answer)

@@ -1,11 +1,14 @@
 // What C sees of the words: numbers and byte slices, the numbers of an answer packed in one. docs/C-INTERFACE.md has the layout.
 ghost use mathlib.Core.Path.{_≡_};
-ghost use Prim.Native.Nat.{_<_};
+ghost use Prim.Native.Nat.{_<_, _≤_};
+ghost use lib.ListN.{length};
 ghost use Rattle.account.specs.Code.{alphaTo, syndrome};
 ghost use Rattle.gf256.specs.Gf256.{gf256, times};
 ghost use Rattle.code.specs.Word.{writtenNumbers, testedNumbers};
 ghost use Rattle.code.specs.Repair.{repairedNumbers};
-ghost use Rattle.host.specs.Packed.{packedAt, packed, packedSums, WriteExport, TestExport, RepairExport};
+ghost use Rattle.code.specs.Lane.{wordOf};
+ghost use Rattle.host.specs.Packed.{packedAt, packed, packedSums, WriteExport, TestExport, RepairExport, LaneExport};
+use code::lane::Lane;
 use code::repair::Repaired;
 use code::word::Tested;
 use code::word::Written;
@@ -74,6 +77,59 @@ pub extern "C" fn zav_word_repair(word: &mut [u8], marks: &[u8]) -> u64
     ensures { λ r. ⌜ RepairExport (now (marks .entry)) (now (word .entry)) (now (word .exit)) r ⌝ }
 {
     pack_repaired(code::repair::repair(word, marks))
+}
+
+// A slice as a lane by value.
+fn lane_of(s: &[u8]) -> Lane
+    requires { ⌜ length (now s) ≤ 96 ⌝ }
+    ensures { λ r. ⌜ (r .len ≡ length (now (s .entry))) × (wordOf r ≡ now (s .entry)) ⌝ }
+{
+    let mut bytes = [0u8; 96];
+    let mut i = 0;
+    while i < s.len() {
+        bytes[i] = s[i];
+        i += 1;
+    }
+    Lane {
+        bytes,
+        len: s.len(),
+    }
+}
+
+// A lane, written over a slice of its length.
+fn put_back(lane: Lane, s: &mut [u8])
+    requires { ⌜ (lane .len ≡ length (now s)) × (length (now s) ≤ 96) ⌝ }
+    ensures { λ _. ⌜ now (s .exit) ≡ wordOf lane ⌝ }
+{
+    let n = lane.len;
+    let bytes = lane.bytes;
+    let mut i = 0;
+    while i < n {
+        s[i] = bytes[i];
+        i += 1;
+    }
+}
+
+// Repairs a lane of at most 96 bytes in place.
+#[no_mangle]
+pub extern "C" fn zav_lane_repair(lane: &mut [u8], marks: &[u8]) -> u64
+    ensures { λ r. ⌜ LaneExport (now (marks .entry)) (now (lane .entry)) (now (lane .exit)) r ⌝ }
+{
+    let n = lane.len();
+    if 96 < n {
+        return pack_repaired(Repaired::Refused(1));
+    }
+    if n < 6 {
+        return pack_repaired(Repaired::Refused(1));
+    }
+    if marks.len() != n {
+        return pack_repaired(Repaired::Refused(2));
+    }
+    let r = code::lane::repair_lane(lane_of(lane), lane_of(marks));
+    let mended = r.lane;
+    let answer = r.answer;
+    put_back(mended, lane);
+    pack_repaired(answer)
 }
 
 // The product of two bytes.

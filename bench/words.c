@@ -1,0 +1,323 @@
+/*
+ * words.c - the word library beside libfec, timed in one run.
+ *
+ * First ns per word for both and how many times faster ours is, then what
+ * each accepts of damage beyond reach. Only the ratios travel to another
+ * machine.
+ */
+#define _POSIX_C_SOURCE 199309L /* for clock_gettime */
+#include <fec.h>
+#include <stdbool.h>
+#include <stdio.h>
+#include <stdlib.h>
+#include <string.h>
+#include <time.h>
+
+#include "draw.h"
+#include "reference.h"
+#include "zavullimen_words.h"
+
+#define COUNT(array) (sizeof(array) / sizeof *(array))
+
+enum {
+    WORDS = 64,    /* words per pass: few enough for the cache */
+    ROUNDS = 200,  /* passes of each, in turn; the quickest counts */
+    DRAWN = 20000, /* damaged words per line of the second table */
+    FULL = 255     /* length of a word that is not shortened */
+};
+
+struct damage {
+    const char *name;
+    int wrong;
+    int marked;
+};
+
+/* ---- libfec ---- */
+
+/* The same code: field 0x11D, first root alpha^253 = alpha^-2, five roots. */
+static void *new_fec(size_t len)
+{
+    void *fec = init_rs_char(8, 0x11D, 253, 1, REF_CHECK_BYTES,
+                             FULL - (int)len);
+
+    if (fec == NULL) {
+        fprintf(stderr, "libfec did not accept the code\n");
+        exit(1);
+    }
+    return fec;
+}
+
+/*
+ * libfec takes the places of the marks, counted in the shortened word. (Other
+ * copies of this decoder count the leading pad too; they would fail below.)
+ */
+static void find_erasures(const uint8_t *marks, size_t len,
+                          int erasures[REF_CHECK_BYTES])
+{
+    int count = 0;
+
+    for (size_t i = 0; i < len; i++)
+        if (marks[i])
+            erasures[count++] = (int)i;
+}
+
+/* ---- a batch of words with one kind of damage ---- */
+
+/* New words in every round, so that no branch can be learnt by heart. */
+
+struct batch {
+    void *fec;
+    size_t len;
+    int marked;
+    uint8_t written[WORDS][FULL];
+    uint8_t damaged[WORDS][FULL];
+    uint8_t marks[WORDS][FULL];
+    uint8_t work[WORDS][FULL];             /* what a pass changes */
+    int erasures[WORDS][REF_CHECK_BYTES];
+    int work_erasures[WORDS][REF_CHECK_BYTES];
+    uint64_t result[WORDS];
+};
+
+static void fill(struct batch *b, const struct damage *d)
+{
+    b->marked = d->marked;
+    for (int i = 0; i < WORDS; i++) {
+        struct sample s;
+
+        draw_clean(&s, b->len);
+        memcpy(b->written[i], s.word, b->len);
+        draw_damage(&s, (size_t)d->wrong, (size_t)d->marked, WRONG_BYTE);
+        memcpy(b->damaged[i], s.word, b->len);
+        memcpy(b->marks[i], s.marks, b->len);
+        find_erasures(s.marks, b->len, b->erasures[i]);
+    }
+}
+
+static void restore(struct batch *b)
+{
+    memcpy(b->work, b->damaged, sizeof b->work);
+    memcpy(b->work_erasures, b->erasures, sizeof b->work_erasures);
+}
+
+/* ---- passes over a batch ---- */
+
+typedef void pass(struct batch *b);
+
+static void our_write(struct batch *b)
+{
+    for (int i = 0; i < WORDS; i++)
+        b->result[i] = zav_word_write(b->written[i], b->len - REF_CHECK_BYTES,
+                                      b->work[i], b->len);
+}
+
+static void fec_write(struct batch *b)
+{
+    for (int i = 0; i < WORDS; i++)
+        encode_rs_char(b->fec, b->work[i],
+                       b->work[i] + b->len - REF_CHECK_BYTES);
+}
+
+static void our_test(struct batch *b)
+{
+    for (int i = 0; i < WORDS; i++)
+        b->result[i] = zav_word_test(b->work[i], b->len);
+}
+
+static void our_repair(struct batch *b)
+{
+    for (int i = 0; i < WORDS; i++)
+        b->result[i] =
+            zav_word_repair(b->work[i], b->len, b->marks[i], b->len);
+}
+
+static void fec_repair(struct batch *b)
+{
+    for (int i = 0; i < WORDS; i++)
+        b->result[i] = (uint64_t)decode_rs_char(
+            b->fec, b->work[i], b->marked > 0 ? b->work_erasures[i] : NULL,
+            b->marked);
+}
+
+/* ---- timing ---- */
+
+static double now(void)
+{
+    struct timespec t;
+
+    clock_gettime(CLOCK_MONOTONIC, &t);
+    return (double)t.tv_sec * 1e9 + (double)t.tv_nsec;
+}
+
+static void time_pass(struct batch *b, pass *run, double *least)
+{
+    restore(b);
+
+    const double start = now();
+
+    run(b);
+
+    const double each = (now() - start) / WORDS;
+
+    if (each < *least)
+        *least = each;
+}
+
+/* A pass that gives wrong words is not worth timing. */
+static void require_words(const struct batch *b, uint8_t (*expected)[FULL],
+                          const char *who)
+{
+    for (int i = 0; i < WORDS; i++)
+        if (memcmp(b->work[i], expected[i], b->len) != 0) {
+            fprintf(stderr, "%s: word %d is not as it must be\n", who, i);
+            exit(1);
+        }
+}
+
+static void require_code(const struct batch *b, unsigned code)
+{
+    for (int i = 0; i < WORDS; i++)
+        if (zav_code(b->result[i]) != code) {
+            fprintf(stderr, "ours: code %u\n", zav_code(b->result[i]));
+            exit(1);
+        }
+}
+
+static void compare(struct batch *b, const struct damage *d, pass *ours,
+                    pass *theirs)
+{
+    const bool reached = 2 * d->wrong + d->marked <= REF_REACH;
+    double our_ns = 1e18, fec_ns = 1e18;
+
+    for (int round = 0; round < ROUNDS; round++) {
+        fill(b, d);
+        time_pass(b, theirs, &fec_ns);
+        if (reached)
+            require_words(b, b->written, "libfec");
+        time_pass(b, ours, &our_ns);
+        require_words(b, reached ? b->written : b->damaged, "ours");
+        require_code(b, reached ? ZAV_DONE : ZAV_BEYOND_REACH);
+    }
+    printf("%5zu  %-20s %8.0f %8.0f %7.1f x\n", b->len, d->name, fec_ns,
+           our_ns, fec_ns / our_ns);
+}
+
+static void time_length(size_t len)
+{
+    static const struct damage none_written = {"encode", 0, 0};
+    static const struct damage none_tested = {"clean test", 0, 0};
+    static const struct damage damages[] = {
+        {"1 wrong", 1, 0},
+        {"2 wrong", 2, 0},
+        {"5 marked", 0, 5},
+        {"1 marked + 2 wrong", 2, 1},
+        {"3 wrong, refused", 3, 0},
+    };
+    static struct batch b;
+
+    b.fec = new_fec(len);
+    b.len = len;
+    compare(&b, &none_written, our_write, fec_write);
+    compare(&b, &none_tested, our_test, fec_repair);
+    for (size_t k = 0; k < COUNT(damages); k++)
+        compare(&b, &damages[k], our_repair, fec_repair);
+    free_rs_char(b.fec);
+}
+
+/* ---- damage beyond reach ---- */
+
+/* How often a library accepted, and how often not as the definition says. */
+struct verdict {
+    int accepted;
+    int amiss;
+};
+
+/* At 6 the definition refuses, always; above 6 the reference decides. */
+static bool define(const struct damage *d, const struct sample *s,
+                   uint8_t expected[FULL])
+{
+    memcpy(expected, s->word, s->len);
+    if (2 * d->wrong + d->marked == REF_REACH + 1)
+        return false;
+    return ref_word_repair(expected, s->len, s->marks, s->len).code == 0;
+}
+
+static void judge(struct verdict *v, bool accepted, bool defined, bool same)
+{
+    v->accepted += accepted;
+    v->amiss += accepted != defined || (accepted && !same);
+}
+
+static void judge_both(void *fec, const struct damage *d,
+                       const struct sample *s, struct verdict *theirs,
+                       struct verdict *ours)
+{
+    uint8_t expected[FULL], word[FULL];
+    int erasures[REF_CHECK_BYTES] = {0};
+    const bool defined = define(d, s, expected);
+    bool accepted;
+
+    find_erasures(s->marks, s->len, erasures);
+    memcpy(word, s->word, s->len);
+    accepted = decode_rs_char(fec, word, erasures, d->marked) >= 0;
+    judge(theirs, accepted, defined, memcmp(word, expected, s->len) == 0);
+
+    memcpy(word, s->word, s->len);
+    accepted = zav_code(zav_word_repair(word, s->len, s->marks, s->len)) == 0;
+    judge(ours, accepted, defined, memcmp(word, expected, s->len) == 0);
+}
+
+/* Returns how often ours was amiss, which must be never. */
+static int accept_beyond(void *fec, size_t len, const struct damage *d)
+{
+    struct verdict theirs = {0, 0}, ours = {0, 0};
+
+    for (int k = 0; k < DRAWN; k++) {
+        struct sample s;
+
+        draw_clean(&s, len);
+        draw_damage(&s, (size_t)d->wrong, (size_t)d->marked, ANY_BYTE);
+        judge_both(fec, d, &s, &theirs, &ours);
+    }
+    printf("%5zu  %-20s %8d %8d %8d %8d\n", len, d->name, theirs.accepted,
+           theirs.amiss, ours.accepted, ours.amiss);
+    return ours.amiss;
+}
+
+static int accept_length(size_t len)
+{
+    static const struct damage damages[] = {
+        {"3 wrong", 3, 0},
+        {"2 marked + 2 wrong", 2, 2},
+        {"4 marked + 1 wrong", 1, 4},
+        {"5 marked + 1 wrong", 1, 5},
+    };
+    void *fec = new_fec(len);
+    int amiss = 0;
+
+    for (size_t k = 0; k < COUNT(damages); k++)
+        amiss += accept_beyond(fec, len, &damages[k]);
+    free_rs_char(fec);
+    return amiss;
+}
+
+int main(void)
+{
+    static const size_t lengths[] = {96, 255};
+    int amiss = 0;
+
+    draw_seed(1);
+    printf("ns per word\n");
+    printf("%5s  %-20s %8s %8s\n", "n", "", "libfec", "ours");
+    for (size_t k = 0; k < COUNT(lengths); k++)
+        time_length(lengths[k]);
+
+    printf("\ndamage beyond reach, %d words each\n", DRAWN);
+    printf("%5s  %-20s %17s %17s\n", "", "", "libfec", "ours");
+    printf("%5s  %-20s %8s %8s %8s %8s\n", "n", "", "accepted", "amiss",
+           "accepted", "amiss");
+    for (size_t k = 0; k < COUNT(lengths); k++)
+        amiss += accept_length(lengths[k]);
+    printf("amiss: not what the definition says. With 5 marks a clean word is\n"
+           "always within reach, so there it is right to accept.\n");
+    return amiss == 0 ? 0 : 1;
+}

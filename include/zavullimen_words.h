@@ -1,0 +1,106 @@
+/*
+ * zavullimen_words.h - words with five check bytes, as a C host calls them.
+ *
+ * A word is 1 to 250 data bytes followed by five check bytes. Repair finds
+ * the clean word within reach: f marked cells and e wrong unmarked cells,
+ * 2e + f at most 5.
+ *
+ * Every buffer is a pointer followed by its length in bytes. NULL is allowed
+ * where the length is 0. The buffers of one call must not overlap. A refused
+ * call writes to no buffer.
+ */
+#ifndef ZAVULLIMEN_WORDS_H
+#define ZAVULLIMEN_WORDS_H
+
+#include <stddef.h>
+#include <stdint.h>
+
+#ifdef __cplusplus
+extern "C" {
+#endif
+
+#define ZAV_CHECK_BYTES 5   /* check bytes at the end of each word */
+#define ZAV_DATA_MIN 1      /* data bytes in a word */
+#define ZAV_DATA_MAX 250
+#define ZAV_WORD_MIN 6      /* bytes in a word */
+#define ZAV_WORD_MAX 255
+#define ZAV_LANE_MAX 96     /* cells in a lane; at least ZAV_WORD_MIN */
+
+/* The code of a result. Where several refusals apply, the lowest is given. */
+enum zav_result_code {
+    ZAV_DONE = 0,
+    ZAV_BAD_LENGTH = 1,        /* data, word or lane too short or too long */
+    ZAV_BAD_MARKS_LENGTH = 2,  /* not one mark per cell */
+    ZAV_BAD_MARK = 3,          /* a mark above 1 */
+    ZAV_BAD_BUFFER_LENGTH = 4, /* word buffer not data + 5 */
+    ZAV_BEYOND_REACH = 6       /* no clean word within reach */
+};
+
+/*
+ * Results are packed in one number: the code in bits 0 to 4, mended in bits
+ * 31 to 36, length in bits 55 to 63, all other bits zero. With a refusal
+ * everything but the code is zero.
+ */
+static inline unsigned zav_code(uint64_t result)
+{
+    return (unsigned)(result & 0x1F);
+}
+
+static inline unsigned zav_mended(uint64_t result)
+{
+    return (unsigned)(result >> 31 & 0x3F);
+}
+
+static inline unsigned zav_length(uint64_t result)
+{
+    return (unsigned)(result >> 55);
+}
+
+/*
+ * Write the data and its five check bytes to the word, and return the length
+ * written; nothing is written when refused (1: data not 1 to 250 bytes,
+ * 4: word_len not data_len + 5).
+ */
+uint64_t zav_word_write(const uint8_t *data, size_t data_len,
+                        uint8_t *word, size_t word_len);
+
+/*
+ * Return length 1 if the word is clean and 0 if it is not; nothing is ever
+ * written (1: word not 6 to 255 bytes).
+ */
+uint64_t zav_word_test(const uint8_t *word, size_t len);
+
+/*
+ * Replace the word by the clean word within reach, and return the number of
+ * unmarked cells changed as mended; nothing is written when refused (1: word
+ * not 6 to 255 bytes, 2: marks_len not len, 3: a mark above 1, 6: no clean
+ * word within reach), and the marks never are. A mark is 0 for a cell that
+ * was read and 1 for one that was not; the byte under a mark has no influence.
+ */
+uint64_t zav_word_repair(uint8_t *word, size_t len,
+                         const uint8_t *marks, size_t marks_len);
+
+/*
+ * The same repair for a lane of 6 to 96 cells; nothing is written when
+ * refused (1: lane not 6 to 96 cells; 2, 3 and 6 as above).
+ */
+uint64_t zav_lane_repair(uint8_t *lane, size_t len,
+                         const uint8_t *marks, size_t marks_len);
+
+/* The product of two field elements; nothing is written. */
+uint8_t zav_product(uint8_t a, uint8_t b);
+
+/* Alpha (02) to the exponent, which may be negative; nothing is written. */
+uint8_t zav_power(int32_t exponent);
+
+/*
+ * The five sums of a list of bytes of any length, S_-2 in bits 0 to 7 up to
+ * S_2 in bits 32 to 39; nothing is written.
+ */
+uint64_t zav_syndrome(const uint8_t *word, size_t len);
+
+#ifdef __cplusplus
+}
+#endif
+
+#endif

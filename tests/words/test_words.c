@@ -1,0 +1,429 @@
+/*
+ * test_words.c - the library's words against the second implementation.
+ *
+ * Usage: test_words [PERCENT]. PERCENT scales the number of random cases.
+ */
+#include <inttypes.h>
+#include <stdio.h>
+#include <stdlib.h>
+#include <string.h>
+
+#include "draw.h"
+#include "harness.h"
+#include "reference.h"
+#include "test_repair.h"
+#include "zavullimen_words.h"
+
+/* ---- the field ---- */
+
+static void test_products(void)
+{
+    group_begin("product", "every pair of bytes");
+    for (unsigned a = 0; a < 256; a++)
+        for (unsigned b = 0; b < 256; b++) {
+            char what[40];
+
+            group_case();
+            sprintf(what, "%02X times %02X", a, b);
+            check_number(zav_product((uint8_t)a, (uint8_t)b),
+                         ref_product((uint8_t)a, (uint8_t)b), what);
+        }
+    group_end();
+}
+
+static void check_power(int32_t exponent)
+{
+    char what[40];
+
+    group_case();
+    sprintf(what, "exponent %" PRId32, exponent);
+    check_number(zav_power(exponent), ref_power(exponent), what);
+}
+
+static void test_powers(void)
+{
+    group_begin("power", "exponents from -600 to 600, large and random ones");
+    for (int32_t exponent = -600; exponent <= 600; exponent++)
+        check_power(exponent);
+    for (int32_t k = 0; k < 300; k++) {
+        check_power(INT32_MIN + k);
+        check_power(INT32_MAX - k);
+    }
+    for (size_t k = 0; k < scaled(2000); k++)
+        check_power((int32_t)((int64_t)(draw_u64() >> 32) + INT32_MIN));
+    group_end();
+}
+
+/* ---- the syndrome ---- */
+
+static void check_syndrome(const uint8_t *word, size_t len)
+{
+    static struct lent lent;
+    uint8_t sums[REF_CHECK_BYTES];
+    uint64_t expected = 0;
+    char what[40];
+
+    group_case();
+    lend(&lent, word, len);
+    ref_sums(word, len, sums);
+    for (int row = 0; row < REF_CHECK_BYTES; row++)
+        expected |= (uint64_t)sums[row] << 8 * row;
+    sprintf(what, "list of %zu", len);
+    check_number(zav_syndrome(lent.bytes, len), expected, what);
+    if (word != NULL)
+        check_buffer(&lent, word, what);
+}
+
+static void test_syndromes(void)
+{
+    uint8_t list[5000];
+
+    group_begin("syndrome", "random lists of any length");
+    check_syndrome(NULL, 0);
+    for (size_t len = 0; len <= 300; len++)
+        for (size_t k = 0; k < scaled(20); k++) {
+            draw_bytes(list, len);
+            check_syndrome(list, len);
+        }
+    for (size_t k = 0; k < scaled(100); k++) {
+        const size_t len = draw_between(301, sizeof list);
+
+        draw_bytes(list, len);
+        check_syndrome(list, len);
+    }
+    group_end();
+}
+
+static void test_single_sums(void)
+{
+    struct sample s;
+
+    group_begin("syndrome", "clean words, and all sums zero but one");
+    for (size_t len = REF_WORD_MIN; len <= REF_WORD_MAX; len++) {
+        draw_clean(&s, len);
+        check_syndrome(s.word, len);
+        for (int row = 0; row < REF_CHECK_BYTES; row++) {
+            draw_all_sums_but(&s, len, row);
+            check_syndrome(s.word, len);
+        }
+    }
+    group_end();
+}
+
+/* ---- writing ---- */
+
+static void check_write(const uint8_t *data, size_t data_len, size_t word_len)
+{
+    static struct lent lent_data, lent_word;
+    uint8_t before[SAMPLE_MAX], expected[SAMPLE_MAX];
+    char what[80];
+
+    group_case();
+    draw_bytes(before, sizeof before);
+    memcpy(expected, before, sizeof before);
+    lend(&lent_data, data, data_len);
+    lend(&lent_word, before, word_len);
+    sprintf(what, "data %zu, buffer %zu", data_len, word_len);
+
+    const struct ref_result r =
+        ref_word_write(data, data_len, expected, word_len);
+
+    check_number(zav_word_write(lent_data.bytes, data_len, lent_word.bytes,
+                                word_len), packed(r), what);
+    check_buffer(&lent_word, expected, what);
+    if (data != NULL)
+        check_buffer(&lent_data, data, what);
+}
+
+static void test_writing(void)
+{
+    uint8_t data[SAMPLE_MAX];
+
+    group_begin("write", "data of every length");
+    for (size_t len = 1; len <= 250; len++) {
+        memset(data, 0, len);
+        check_write(data, len, len + REF_CHECK_BYTES);
+        memset(data, 0xFF, len);
+        check_write(data, len, len + REF_CHECK_BYTES);
+        for (size_t k = 0; k < scaled(20); k++) {
+            draw_bytes(data, len);
+            check_write(data, len, len + REF_CHECK_BYTES);
+        }
+    }
+    group_end();
+}
+
+static void test_single_data_bytes(void)
+{
+    uint8_t data[250];
+
+    group_begin("write", "a single byte that is not zero, at each place");
+    for (size_t place = 0; place < sizeof data; place++)
+        for (size_t k = 0; k < scaled(20); k++) {
+            memset(data, 0, sizeof data);
+            data[place] = draw_nonzero();
+            check_write(data, sizeof data, sizeof data + REF_CHECK_BYTES);
+        }
+    group_end();
+}
+
+/* Both lengths run over the limits, so that the order of refusals shows. */
+static void test_write_refusals(void)
+{
+    uint8_t data[SAMPLE_MAX];
+
+    group_begin("write", "lengths of every kind, right and wrong");
+    draw_bytes(data, sizeof data);
+    for (size_t len = 0; len <= 300; len++) {
+        for (size_t word_len = len; word_len <= len + 10; word_len++)
+            check_write(data, len, word_len);
+        check_write(data, len, 0);
+        check_write(data, len, 5);
+        check_write(data, len, 255);
+        check_write(data, len, 256);
+        check_write(data, len, draw_below(SAMPLE_MAX));
+    }
+    for (size_t word_len = 0; word_len < 10; word_len++)
+        check_write(NULL, 0, word_len);
+    group_end();
+}
+
+/* ---- testing ---- */
+
+static void check_test(const uint8_t *word, size_t len)
+{
+    static struct lent lent;
+    char what[40];
+
+    group_case();
+    lend(&lent, word, len);
+    sprintf(what, "word of %zu", len);
+    check_number(zav_word_test(lent.bytes, len),
+                 packed(ref_word_test(word, len)), what);
+    if (word != NULL)
+        check_buffer(&lent, word, what);
+}
+
+static void test_clean_words(void)
+{
+    struct sample s;
+
+    group_begin("test", "clean words, and clean words with one byte changed");
+    for (size_t len = REF_WORD_MIN; len <= REF_WORD_MAX; len++) {
+        draw_clean(&s, len);
+        check_test(s.word, len);
+        for (size_t k = 0; k < scaled(20); k++) {
+            draw_clean(&s, len);
+            draw_damage(&s, 1, 0, ANY_BYTE);
+            check_test(s.word, len);
+        }
+    }
+    group_end();
+}
+
+static void test_unclean_words(void)
+{
+    struct sample s;
+
+    group_begin("test", "random words, and all sums zero but one");
+    for (size_t len = REF_WORD_MIN; len <= REF_WORD_MAX; len++) {
+        draw_bytes(s.word, len);
+        check_test(s.word, len);
+        for (int row = 0; row < REF_CHECK_BYTES; row++)
+            for (size_t k = 0; k < scaled(10); k++) {
+                draw_all_sums_but(&s, len, row);
+                check_test(s.word, len);
+            }
+    }
+    group_end();
+}
+
+/* Zeros have zero sums at any length, so that only the length can refuse. */
+static void test_test_lengths(void)
+{
+    uint8_t word[SAMPLE_MAX] = {0};
+
+    group_begin("test", "lengths of every kind, right and wrong");
+    check_test(NULL, 0);
+    for (size_t len = 0; len <= SAMPLE_MAX; len++)
+        check_test(word, len);
+    group_end();
+}
+
+/* ---- lengths that a narrower number would cut ---- */
+
+/* Only refused calls: they write nothing, so read-only zeros can be lent. */
+static void check_huge_word(uint8_t *zeros, uint8_t *more, size_t past)
+{
+    group_case();
+    check_number(zav_word_test(zeros, past + 10),
+                 packed(ref_word_test(zeros, past + 10)), "test");
+    check_number(zav_word_write(zeros, past + 10, more, past + 15),
+                 packed(ref_word_write(zeros, past + 10, more, past + 15)),
+                 "write, both lengths");
+    check_number(zav_word_write(zeros, 10, more, past + 15),
+                 packed(ref_word_write(zeros, 10, more, past + 15)),
+                 "write, buffer length");
+}
+
+static void check_huge_repair(const struct repair *entry, uint8_t *zeros,
+                              size_t len, const uint8_t *marks,
+                              size_t marks_len)
+{
+    const struct ref_result r = entry->reference(zeros, len, marks, marks_len);
+
+    group_case();
+    check_number(entry->run(zeros, len, marks, marks_len), packed(r),
+                 entry->name);
+}
+
+static void test_huge_lengths(void)
+{
+    static const size_t past[] = {(size_t)1 << 8, (size_t)1 << 16,
+                                  (size_t)1 << 31, (size_t)1 << 32};
+    const size_t most = ((size_t)1 << 32) + 4096;
+    uint8_t *zeros = map_zeros(most);
+    uint8_t *more = map_zeros(most);
+
+    group_begin("all entries", "lengths past 2^8, 2^16, 2^31 and 2^32");
+    for (size_t k = 0; k < COUNT(past); k++) {
+        const size_t len = past[k] + 10;
+
+        check_huge_word(zeros, more, past[k]);
+        for (size_t e = 0; e < REPAIRS; e++) {
+            check_huge_repair(&repairs[e], zeros, len, more, len);
+            check_huge_repair(&repairs[e], zeros, 10, more, len);
+            check_huge_repair(&repairs[e], zeros, len, more, 10);
+        }
+    }
+    group_end();
+    unmap_zeros(zeros, most);
+    unmap_zeros(more, most);
+}
+
+/* ---- cells worked by hand in the paper ---- */
+
+static void check_worked_product(uint8_t a, uint8_t b, uint8_t product)
+{
+    group_case();
+    check_number(zav_product(a, b), product, "library, product");
+    check_number(ref_product(a, b), product, "reference, product");
+}
+
+static void check_worked_write(const uint8_t *word, size_t len)
+{
+    uint8_t got[10] = {0}, reference[10] = {0};
+    const size_t data_len = len - REF_CHECK_BYTES;
+    const struct ref_result expected = {.length = (unsigned)len};
+
+    group_case();
+    check_number(zav_word_write(word, data_len, got, len), packed(expected),
+                 "library, write");
+    check_number(packed(ref_word_write(word, data_len, reference, len)),
+                 packed(expected), "reference, write");
+    if (memcmp(got, word, len) != 0)
+        group_fail("library, write: wrong check bytes");
+    if (memcmp(reference, word, len) != 0)
+        group_fail("reference, write: wrong check bytes");
+    check_number(zav_length(zav_word_test(word, len)), 1, "library, test");
+}
+
+struct worked_repair {
+    uint8_t word[7];
+    uint8_t marks[7];
+    size_t len;
+    struct ref_result result;
+    uint8_t mended[7];
+};
+
+static void check_worked_repair(const struct worked_repair *w)
+{
+    struct sample s = {.len = w->len, .marks_len = w->len};
+    uint8_t reference[7];
+
+    memcpy(s.word, w->word, w->len);
+    memcpy(s.marks, w->marks, w->len);
+    for (size_t e = 0; e < REPAIRS; e++)
+        check_result(&repairs[e], &s, w->result, w->mended);
+
+    memcpy(reference, w->word, sizeof reference);
+    check_number(packed(ref_word_repair(reference, w->len, w->marks, w->len)),
+                 packed(w->result), "reference, repair");
+    if (memcmp(reference, w->mended, w->len) != 0)
+        group_fail("reference, repair: another word");
+}
+
+static const struct worked_repair worked_repairs[] = {
+    {{0x00, 0xCE, 0xE6}, {0}, 6, {.mended = 2}, {0}},
+    {{0x01, 0xCE, 0xE6}, {0}, 6, {.code = 6}, {0x01, 0xCE, 0xE6}},
+    {{0x01, 0xCE, 0xE6}, {0, 0, 0, 1}, 6, {.mended = 2},
+     {0x01, 0xCE, 0xE6, 0xE6, 0xCE, 0x01}},
+    {{0x02}, {0, 1, 1, 1, 1, 1}, 6, {.mended = 0},
+     {0x02, 0x81, 0xD1, 0xD1, 0x81, 0x02}},
+    {{0x02}, {1, 1, 1, 1, 1, 1}, 6, {.code = 6}, {0x02}},
+    {{0x00, 0x00, 0x6C, 0xAA, 0x82, 0x8B, 0xCE}, {0}, 7, {.mended = 1},
+     {0x01, 0x00, 0x6C, 0xAA, 0x82, 0x8B, 0xCE}},
+    {{0x00, 0x6C, 0xAA, 0x82, 0x8B, 0xCE}, {0}, 6, {.code = 6},
+     {0x00, 0x6C, 0xAA, 0x82, 0x8B, 0xCE}},
+};
+
+static void test_worked_cells(void)
+{
+    static const uint8_t one[] = {0x01, 0xCE, 0xE6, 0xE6, 0xCE, 0x01};
+    static const uint8_t two[] = {0x02, 0x81, 0xD1, 0xD1, 0x81, 0x02};
+    static const uint8_t one_zero[] = {0x01, 0x00, 0x6C, 0xAA,
+                                       0x82, 0x8B, 0xCE};
+
+    group_begin("worked cells", "as in the paper, library and reference");
+    check_worked_product(0x02, 0x8E, 0x01);
+    check_worked_product(0xCE, 0xCE, 0x8A);
+    check_worked_product(0xCE, 0xE6, 0x4C);
+    check_worked_write(one, sizeof one);
+    check_worked_write(two, sizeof two);
+    check_worked_write(one_zero, sizeof one_zero);
+    for (size_t k = 0; k < COUNT(worked_repairs); k++)
+        check_worked_repair(&worked_repairs[k]);
+    group_end();
+}
+
+/* ---- the header ---- */
+
+/* All other bits are set, to see that the unpackers leave them out. */
+static void test_unpackers(void)
+{
+    group_begin("header", "unpackers");
+    for (unsigned length = 0; length < 512; length++)
+        for (unsigned mended = 0; mended < 64; mended++) {
+            const unsigned code = (unsigned)draw_below(32);
+            const struct ref_result all = {31, 63, 511};
+            const struct ref_result r = {code, mended, length};
+            const uint64_t result = packed(r) | ~packed(all);
+
+            group_case();
+            check_number(zav_code(result), code, "code");
+            check_number(zav_mended(result), mended, "mended");
+            check_number(zav_length(result), length, "length");
+        }
+    group_end();
+}
+
+int main(int argc, char **argv)
+{
+    groups_start(argc > 1 ? (unsigned)strtoul(argv[1], NULL, 10) : 100);
+    test_unpackers();
+    test_worked_cells();
+    test_products();
+    test_powers();
+    test_syndromes();
+    test_single_sums();
+    test_writing();
+    test_single_data_bytes();
+    test_write_refusals();
+    test_clean_words();
+    test_unclean_words();
+    test_test_lengths();
+    for (size_t e = 0; e < REPAIRS; e++)
+        test_repair(&repairs[e]);
+    test_huge_lengths();
+    return groups_finish();
+}

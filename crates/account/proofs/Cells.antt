@@ -38,14 +38,6 @@ pub outside-append : (ps qs : List ℕ) (i : ℕ) → Outside ps i → Outside q
 outside-append [] qs i o u = u
 outside-append (p ∷ ps) qs i o u = (o .0, outside-append ps qs i (o .1) u)
 
-pub below-left : (ps qs : List ℕ) (n : ℕ) → Below (ps ++ qs) n → Below ps n
-below-left [] qs n b = tt
-below-left (p ∷ ps) qs n b = (b .0, below-left ps qs n (b .1))
-
-pub below-right : (ps qs : List ℕ) (n : ℕ) → Below (ps ++ qs) n → Below qs n
-below-right [] qs n b = b
-below-right (p ∷ ps) qs n b = below-right ps qs n (b .1)
-
 pub below-append : (ps qs : List ℕ) (n : ℕ) → Below ps n → Below qs n → Below (ps ++ qs) n
 below-append [] qs n b c = c
 below-append (p ∷ ps) qs n b c = (b .0, below-append ps qs n (b .1) c)
@@ -58,11 +50,6 @@ pub below-at : (ps : List ℕ) (n i : ℕ) → Below ps n → i < length ps → 
 below-at [] n i b h = absurd (omega arith)
 below-at (p ∷ ps) n zero b h = b .0
 below-at (p ∷ ps) n (suc i) b h = below-at ps n i (b .1) (omega arith)
-
--- a cell in the middle of a list without repeats is none of the others
-pub distinct-mid : (ps qs : List ℕ) (p : ℕ) → Distinct (ps ++ p ∷ qs) → Outside (ps ++ qs) p
-distinct-mid [] qs p d = d .0
-distinct-mid (a ∷ ps) qs p d = ((λ e. outside-right ps (p ∷ qs) a (d .0) .0 (sym e)), distinct-mid ps qs p (d .1))
 
 -- ---- the cells at which f passes, the highest first
 

@@ -48,18 +48,10 @@ module _ (O : Ops) (F : IsField O) where
 
   infixl 60 _⊕_
   infixl 70 _⊗_
-  pub weight-in : (xs : List ℕ) (y : ℕ) → In O (weight O xs y)
-  weight-in [] y = F .in-one
-  weight-in (x ∷ xs) y = F .in-mul (y ⊕ x) (weight O xs y)
-
   pub filt-in : (xs : List ℕ) (s : ℕ → ℕ) → ((m : ℕ) → In O (s m)) → (m : ℕ) → In O (filt O xs s m)
   filt-in [] s h m = h m
   filt-in (x ∷ xs) s h m =
       filt-in xs (λ k. s (suc k) ⊕ (x ⊗ s k)) (λ k. F .in-add (s (suc k)) (x ⊗ s k) (h (suc k)) (F .in-mul x (s k))) m
-
-  pub weight-append : (xs ys : List ℕ) (y : ℕ) → weight O (xs ++ ys) y ≡ weight O xs y ⊗ weight O ys y
-  weight-append [] ys y = sym (F .mul-comm 1 (weight O ys y) ∙ F .mul-one (weight O ys y) (weight-in ys y))
-  weight-append (x ∷ xs) ys y = ap (λ (z : ℕ). (y ⊕ x) ⊗ z) (weight-append xs ys y) ∙ sym (F .mul-assoc (y ⊕ x) (weight O xs y) (weight O ys y))
 
   -- a word of n cells, at their places
   module _ (n : ℕ) where
@@ -107,35 +99,10 @@ module _ (O : Ops) (F : IsField O) where
         filt-moment (map X ps) v vi m
         ∙ sums.moment-zero O F X n (λ i. v i ⊗ weight O (map X ps) (X i)) m (λ i l. filtered-out ps (v i) i (z i l))
 
-    -- with all but p filtered out, what stands at p is left, times the weight
-    pub filt-one : (p : ℕ) (ps : List ℕ) (v : ℕ → ℕ) → p < n → ((i : ℕ) → i < n → In O (v i)) → ((i : ℕ) → i < n → Outside (p ∷ ps) i → v i ≡ 0)
-        → filt O (map X ps) (M v) 0 ≡ v p ⊗ weight O (map X ps) (X p)
-    filt-one p ps v l vi z =
-        filt-moment (map X ps) v vi 0
-        ∙ sums.moment-at O F X n p (λ i. v i ⊗ weight O (map X ps) (X i)) l (F .in-mul (v p) (weight O (map X ps) (X p)))
-        (λ i k ne. filtered-out ps (v i) i (λ o. z i k (ne, o)))
-
     -- at distinct places the weight is something
     module _ (short : n ≤ order) where
       pub apart-some : (i p : ℕ) → i < n → p < n → i ≢ p → X i ⊕ X p ≢ 0
       apart-some i p l k ne e = powers.place-apart O F n short i p l k ne (laws.add-eq O F (X i) (X p) e)
-
-      pub weight-some : (p : ℕ) (ps : List ℕ) → p < n → Below ps n → Outside ps p → weight O (map X ps) (X p) ≢ 0
-      weight-some p [] l b o e = powers.one-some O F e
-      weight-some p (q ∷ ps) l b o e =
-          apart-some p q l (b .0) (o .0)
-          (laws.mul-cancel O F (weight O (map X ps) (X p)) (X p ⊕ X q) (weight-in (map X ps) (X p))
-          (F .in-add (X p) (X q) (powers.place-in O F n p) (powers.place-in O F n q)) (weight-some p ps l (b .1) (o .1)) e)
-
-      -- what stands at p: all other cells are filtered out, and the weight divided off
-      pub recovered : (p : ℕ) (ps : List ℕ) (v : ℕ → ℕ) → p < n → Below ps n → Outside ps p → ((i : ℕ) → i < n → In O (v i))
-          → ((i : ℕ) → i < n → Outside (p ∷ ps) i → v i ≡ 0)
-          → v p ≡ filt O (map X ps) (M v) 0 ⊗ F .inv (weight O (map X ps) (X p))
-      recovered p ps v l b o vi z =
-          sym (F .mul-one (v p) (vi p l))
-          ∙ ap (λ (x : ℕ). v p ⊗ x) (sym (F .mul-inv (weight O (map X ps) (X p)) (weight-in (map X ps) (X p)) (weight-some p ps l b o)))
-          ∙ sym (F .mul-assoc (v p) (weight O (map X ps) (X p)) (F .inv (weight O (map X ps) (X p))))
-          ∙ ap (λ (x : ℕ). x ⊗ F .inv (weight O (map X ps) (X p))) (sym (filt-one p ps v l vi z))
 
       -- what the filter at p leaves is nothing where v was, and at p
       filtered-off : (p : ℕ) (v : ℕ → ℕ) (j : ℕ) → (j ≢ p → v j ≡ 0) → v j ⊗ (X j ⊕ X p) ≡ 0

@@ -1,0 +1,77 @@
+-- Demand 3, as far as it speaks of strips and levels alone.
+use mathlib.Core.Path.{_≡_, refl, sym, ap, ap₂, _∙_, subst}
+use Prim.Native.Nat.{ℕ, zero, suc, _+_, _*_, _-_, _/_, _%_, _≤_, _<_}
+use native.Mathlib.Nat.{mul-le-mul-left, mul-div-right, div-add-mod, mod-lt, eq-zero-or-pos}
+use native.Mathlib.Omega.{arith}
+use mathlib.Core.List.{List}
+use mathlib.Core.Logic.{_⊎_, inl, inr, ⊎-elim}
+use lib.ListN.{length, getD}
+use Rattle.account.specs.Code.{Cells, Clean}
+use Rattle.account.specs.Reach.{Reach, countTo, differsAt, isMarked}
+use Rattle.gf256.specs.Gf256.{gf256}
+use Rattle.code.proofs.Theorems.{one-in-reach, none-at-six}
+use Rattle.level.specs.Level.{Level, IsLevel}
+use Rattle.level.specs.Record.{recordLength, IsRecord}
+use Rattle.level.specs.Strip.{lane, columns, IsStrip, StripReach, Reached, wrongIn, markedIn}
+use Rattle.level.proofs.Lanes.{length-lane, getD-lane, bytes-lane, cell, ext-lanes, getD-past, columns-of}
+use Rattle.level.proofs.Fields.{same-bytes}
+
+-- below, or not
+pub lt-or-ge : (q n : ℕ) → (q < n) ⊎ (n ≤ q)
+lt-or-ge q n = ⊎-elim (λ e. inr (omega arith)) (λ h. inl (omega arith)) (eq-zero-or-pos (n - q))
+
+module _ (R : ℕ) (some : 0 < R) (marks s : List ℕ) (short : length s / R ≤ 255) where
+  -- both within reach: one strip
+  pub same-strip : (l m : Level) (t u : List ℕ) → Reached R marks s l t → Reached R marks s m u → t ≡ u
+  same-strip l m t u a b =
+      ext-lanes R some t u _ (a .is-strip .size) (b .reach .same-length ∙ sym (a .reach .same-length)) (λ j h.
+      one-in-reach (lane R j marks) (lane R j s) (lane R j t) (lane R j u) (omega (arith, length-lane R some j s))
+      (bytes-lane R some j t h (a .is-strip .bytes)) (bytes-lane R some j u h (b .is-strip .bytes))
+      (a .is-strip .clean j h) (b .is-strip .clean j h) (a .reach .each j h) (b .reach .each j h))
+
+  -- a record has no bytes past its columns
+  within : (B : ℕ) → B ≤ R * columns R B
+  within B = omega (arith, div-add-mod (B + (R - 1)) R, mod-lt (B + (R - 1)) some)
+
+  -- the record's bytes, off the strip
+  laid-out : (l : Level) (t : List ℕ) (st : IsStrip R l t) (q : ℕ) → q < R * columns R (length (st .bs)) → getD (st .bs) q 0 ≡ getD t q 0
+  laid-out l t st q h =
+      sym (st .laid q h) ∙ cell R some t (columns R (recordLength (l .width) (l .height)) + 5) (st .size) q (omega (arith, st .size, more))
+    where
+      more : R * columns R (length (st .bs)) ≤ R * (columns R (recordLength (l .width) (l .height)) + 5)
+      more = rw (st .is-record .size) (mul-le-mul-left R (omega arith))
+
+  -- "no other level has a strip of that length within reach"
+  pub one-level : (l m : Level) (t u : List ℕ) → Reached R marks s l t → Reached R marks s m u → l ≡ m
+  one-level l m t u a b =
+      same-bytes l m xs ys (a .is-level) (b .is-level) (a .is-strip .is-record) (b .is-strip .is-record) (λ q. go q (lt-or-ge q (R * columns R (length xs))))
+    where
+      xs : List ℕ
+      xs = a .is-strip .bs
+
+      ys : List ℕ
+      ys = b .is-strip .bs
+
+      strips : t ≡ u
+      strips = same-strip l m t u a b
+
+      wide : columns R (length xs) ≡ columns R (length ys)
+      wide =
+          let p : columns R (recordLength (l .width) (l .height)) + 5 ≡ columns R (recordLength (m .width) (m .height)) + 5 =
+          sym (columns-of R some t _ (a .is-strip .size)) ∙ ap (λ (x : List ℕ). length x / R) strips ∙ columns-of R some u _ (b .is-strip .size) in
+          rw (a .is-strip .is-record .size, b .is-strip .is-record .size) (omega arith)
+
+      go : (q : ℕ) → (q < R * columns R (length xs)) ⊎ (R * columns R (length xs) ≤ q) → getD xs q 0 ≡ getD ys q 0
+      go q (inl h) = laid-out l t (a .is-strip) q h ∙ ap (λ (x : List ℕ). getD x q 0) strips ∙ sym (laid-out m u (b .is-strip) q (rw (← wide) h))
+      go q (inr h) =
+          getD-past xs q (omega (arith, within (length xs)))
+          ∙ sym (getD-past ys q (omega (arith, within (length ys), ap (λ (k : ℕ). R * k) wide)))
+
+  -- "Whenever the sum .. counted against some strip of that length that we wrote, is 6 in at least one lane, the picture is refused."
+  pub six-refused : (l m : Level) (v t : List ℕ) (j : ℕ) → length marks ≡ length s → IsStrip R l v → length v ≡ length s → j < R
+      → 2 * wrongIn R marks s v j + markedIn R marks j ≡ 6 → Reached R marks s m t → ⊥
+  six-refused l m v t j em st ev h six b =
+      none-at-six (lane R j marks) (lane R j s) (lane R j v) (lane R j t) (omega (arith, length-lane R some j s))
+      (bytes-lane R some j v h (st .bytes)) (bytes-lane R some j t h (b .is-strip .bytes)) (st .clean j h) (b .is-strip .clean j h)
+      (length-lane R some j v ∙ ap (λ (n : ℕ). n / R) ev ∙ sym (length-lane R some j s))
+      (rw (length-lane R some j s) (rw em at six)) (b .reach .each j h)

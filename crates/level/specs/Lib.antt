@@ -1,0 +1,7 @@
+pub mod Lists
+pub mod Tile
+pub mod Level
+pub mod Record
+pub mod Written
+pub mod Strip
+pub mod Cells

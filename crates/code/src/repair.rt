@@ -85,7 +85,7 @@ pub fn search(word: &[u8], marks: &[u8], f: usize) -> errata::Found
     requires { ⌜ (length (now word) ≡ length (now marks)) × (length (now marks) ≤ 255) × (f ≡ countTo (isMarked (now marks)) (length (now marks))) × (f ≤ 5) ⌝ }
     ensures { λ x. ⌜ SearchedAs (x .good) (now (marks .entry)) (now (word .entry)) (x .errata) ⌝ }
 {
-    let r = super::word::remainder(word);
+    let r = remainder::remainder_of(word);
     if r == 0 {
         return errata::Found {
             good: true,

@@ -6,7 +6,7 @@ ghost use lib.ListN.{length, drop};
 ghost use lib.Seq.{sets};
 ghost use Rattle.account.specs.Code.{syndrome};
 ghost use Rattle.gf256.specs.Gf256.{gf256};
-ghost use Rattle.remainder.specs.Remainder.{Remains, Checks, unpacked};
+ghost use Rattle.remainder.specs.Remainder.{unpacked};
 ghost use Rattle.code.specs.Word.{WritesAs, TestsAs};
 
 // What writing a word answers: the length written, or a refusal's number.
@@ -20,21 +20,6 @@ pub enum Tested {
     Clean,
     Damaged,
     Refused(u8),
-}
-
-// The remainder of w, with the table made here.
-pub fn remainder(w: &[u8]) -> u64
-    ensures { λ r. ⌜ Remains (now (w .entry)) r ⌝ }
-{
-    let t = remainder::REDUCTIONS;
-    remainder::of_word(&t, w)
-}
-
-fn checks(data: &[u8]) -> u64
-    ensures { λ x. ⌜ Checks (now («data» .entry)) x ⌝ }
-{
-    let t = remainder::REDUCTIONS;
-    remainder::checks(&t, data)
 }
 
 // The data, in front of a longer word.
@@ -81,7 +66,7 @@ pub fn write(data: &[u8], word: &mut [u8]) -> Written
     if word.len() != m + 5 {
         return Written::Refused(4);
     }
-    let x = checks(data);
+    let x = remainder::checks_of(data);
     put_data(data, word);
     put_checks(word, m, x);
     Written::Length(m + 5)
@@ -98,7 +83,7 @@ pub fn test(word: &[u8]) -> Tested
     if 255 < n {
         return Tested::Refused(1);
     }
-    if remainder(word) == 0 {
+    if remainder::remainder_of(word) == 0 {
         return Tested::Clean;
     }
     Tested::Damaged
@@ -110,5 +95,5 @@ pub fn syndrome_of(word: &[u8]) -> [u8; 5]
 {
     let powers = gf256::POWERS;
     let logs = gf256::LOGS;
-    remainder::syndrome_of(&powers, &logs, remainder(word))
+    remainder::syndrome_of(&powers, &logs, remainder::remainder_of(word))
 }

@@ -2,7 +2,7 @@
 use mathlib.Core.Path.{_≡_, refl, sym, ap, _∙_}
 use mathlib.Core.Logic.{inl, inr}
 use mathlib.Core.List.{List, [], _∷_, _++_}
-use Prim.Native.Nat.{ℕ, _+_, _≤_, _<_}
+use Prim.Native.Nat.{ℕ, _+_, _*_, _%_, _≤_, _<_}
 use native.Mathlib.Numerals.{add-one}
 use native.Mathlib.Omega.{arith}
 use lib.ListN.{length, getD, take, set}
@@ -72,3 +72,16 @@ export-lane marks old new l m x r nl wl nm wm R en e = record {
   kept = λ n. en ∙ ap wordOf (R .kept n) ∙ wl;
   is = e;
 }
+
+-- a refusal is told in the lowest bits
+told : (v r : ℕ) → r ≡ 0 % 32 + v % 512 * 2147483648 → r % 32 ≡ 0
+told v r e = omega (arith, e)
+
+-- where one is told, the lane is as it was
+pub export-kept : (marks old : List ℕ) (l m : Lane) (x : LaneRepair) (r : ℕ) → l .len ≡ length old → wordOf l ≡ old → m .len ≡ length marks → wordOf m ≡ marks
+    → LaneRepairsAs l m x → r ≡ packed 31 (repairedNumbers (x .answer)) → (r % 32 ≡ 0 → ⊥) → LaneExport marks old old r
+export-kept marks old l m x r nl wl nm wm R e n =
+    export-lane marks old old l m x r nl wl nm wm R (sym (ap wordOf (R .kept refusal) ∙ wl)) e
+  where
+    refusal : repairedNumbers (x .answer) .code ≡ 0 → ⊥
+    refusal z = n (told (repairedNumbers (x .answer) .value) r (e ∙ ap (λ (k : ℕ). k % 32 + repairedNumbers (x .answer) .value % 512 * 2147483648) z))

@@ -128,8 +128,12 @@ pub extern "C" fn zav_lane_repair(lane: &mut [u8], marks: &[u8]) -> u64
     let r = code::lane::repair_lane(lane_of(lane), lane_of(marks));
     let mended = r.lane;
     let answer = r.answer;
+    let told = pack_repaired(answer);
+    if told % 32 != 0 {
+        return told;
+    }
     put_back(mended, lane);
-    pack_repaired(answer)
+    told
 }
 
 // The product of two bytes.

@@ -217,6 +217,14 @@ pub fn of_word(t: &[u64; 128], w: &[u8]) -> u64
     r
 }
 
+// The same, with the table made here.
+pub fn remainder_of(w: &[u8]) -> u64
+    ensures { λ r. ⌜ Remains (now (w .entry)) r ⌝ }
+{
+    let t = REDUCTIONS;
+    of_word(&t, w)
+}
+
 // The five check bytes after data, packed: the remainder of the data with five zeros after it.
 pub fn checks(t: &[u64; 128], data: &[u8]) -> u64
     requires { ⌜ Reductions (now t) ⌝ }
@@ -224,6 +232,14 @@ pub fn checks(t: &[u64; 128], data: &[u8]) -> u64
 {
     let r = of_word(t, data);
     step(t, step4(t, r, 0, 0, 0, 0), 0)
+}
+
+// The same, with the table made here.
+pub fn checks_of(data: &[u8]) -> u64
+    ensures { λ x. ⌜ Checks (now («data» .entry)) x ⌝ }
+{
+    let t = REDUCTIONS;
+    checks(&t, data)
 }
 
 // The polynomial of the five packed bytes at y.

@@ -1,6 +1,6 @@
 use native.Mathlib.Omega.{arith}
 use borrow.Author.Needs.{needs}
-use Rattle.host.proofs.LaneOf.{export-1, export-2, export-lane}
+use Rattle.host.proofs.LaneOf.{export-1, export-2, export-lane, export-kept}
 use Rattle.host.proofs.zav_lane_repair.Statement.{statement}
 use Rattle.host.proofs.zav_lane_repair.Tie as tie
 
@@ -37,9 +37,6 @@ lane-of-requires-2 c κs = search needs
 repair-lane-requires : tie.Need-repair-lane-requires
 repair-lane-requires c κs = search needs
 
-put-back-requires : tie.Need-put-back-requires
-put-back-requires c κs = search needs
-
 pack-repaired-requires-4 : tie.Need-pack-repaired-requires-4
 pack-repaired-requires-4 c κs = search needs
 
@@ -48,13 +45,29 @@ same-length c = search needs
 
 returns-4 : tie.Need-returns-4
 returns-4 c =
-    let a = c .before .before .before .before .before .before .before .before .before .before .before .before .before .before .before .args in
-    let l = c .before .before .before .before .before .before .before .before .lane-of in
-    let m = c .before .before .before .before .before .before .before .lane-of2 in
-    let x = c .before .before .before .before .before .before .repair-lane in
-    let p = c .before .before .before .put-back in
-    export-lane (a .marks .now) (a .lane .now) (p .last .1 .0) (l .result) (m .result) (x .result) (c .pack-repaired4 .result) (l .ensures .0) (l .ensures .1) (m .ensures .0) (m .ensures .1)
-    (x .ensures) (p .ensures) (c .pack-repaired4 .ensures)
+    let a = c .before .before .before .before .before .before .before .before .before .before .before .before .args in
+    let l = c .before .before .before .before .before .lane-of in
+    let m = c .before .before .before .before .lane-of2 in
+    let x = c .before .before .before .repair-lane in
+    export-kept (a .marks .now) (a .lane .now) (l .result) (m .result) (x .result) (c .before .pack-repaired4 .result) (l .ensures .0) (l .ensures .1) (m .ensures .0) (m .ensures .1) (x .ensures)
+    (c .before .pack-repaired4 .ensures) (c .if4 .taken)
+
+put-back-requires : tie.Need-put-back-requires
+put-back-requires c κs = search needs
+
+same-length-2 : tie.Need-same-length-2
+same-length-2 c = search needs
+
+returns-5 : tie.Need-returns-5
+returns-5 c =
+    let a = c .before .before .before .before .before .before .before .before .before .before .before .before .before .before .before .before .args in
+    let l = c .before .before .before .before .before .before .before .before .before .lane-of in
+    let m = c .before .before .before .before .before .before .before .before .lane-of2 in
+    let x = c .before .before .before .before .before .before .before .repair-lane in
+    let p = c .before .before .put-back in
+    let k = c .before .before .before .before .before .pack-repaired4 in
+    export-lane (a .marks .now) (a .lane .now) (p .last .1 .0) (l .result) (m .result) (x .result) (k .result) (l .ensures .0) (l .ensures .1) (m .ensures .0) (m .ensures .1) (x .ensures)
+    (p .ensures) (k .ensures)
 
 pub zav-lane-repair-spec : {M : Type 1} → statement M
 zav-lane-repair-spec =
@@ -69,7 +82,9 @@ zav-lane-repair-spec =
     lane-of-requires
     lane-of-requires-2
     repair-lane-requires
-    put-back-requires
     pack-repaired-requires-4
     same-length
-    returns-4)
+    returns-4
+    put-back-requires
+    same-length-2
+    returns-5)

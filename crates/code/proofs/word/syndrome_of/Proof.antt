@@ -5,14 +5,14 @@ use borrow.Author.Needs.{needs}
 use Rattle.code.proofs.word.syndrome_of.Statement.{statement}
 use Rattle.code.proofs.word.syndrome_of.Tie as tie
 
-remainder-requires : tie.Need-remainder-requires
-remainder-requires c κs = search needs
+remainder-of-requires : tie.Need-remainder-of-requires
+remainder-of-requires c κs = search needs
 
 syndrome-of-requires : tie.Need-syndrome-of-requires
 syndrome-of-requires c κs = tables
 
 returns : tie.Need-returns
-returns c = c .syndrome-of .ensures ∙ syndrome-same (c .before .before .before .before .before .args .word .now) (c .before .remainder .result) (c .before .remainder .ensures)
+returns c = c .syndrome-of .ensures ∙ syndrome-same (c .before .before .before .before .before .args .word .now) (c .before .remainder-of .result) (c .before .remainder-of .ensures)
 
 pub syndrome-of-spec : {M : Type 1} → statement M
-syndrome-of-spec = tie.close (tie.spec remainder-requires syndrome-of-requires returns)
+syndrome-of-spec = tie.close (tie.spec remainder-of-requires syndrome-of-requires returns)

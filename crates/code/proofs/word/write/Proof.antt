@@ -16,8 +16,8 @@ add-if3 c = search needs
 returns-3 : tie.Need-returns-3
 returns-3 c = refused-4 (c .before .before .before .before .before .args .«data» .now) (c .before .before .before .before .before .args .word .now) (search needs) (search needs) (c .if3 .taken)
 
-checks-requires : tie.Need-checks-requires
-checks-requires c κs = search needs
+checks-of-requires : tie.Need-checks-of-requires
+checks-of-requires c κs = search needs
 
 put-data-requires : tie.Need-put-data-requires
 put-data-requires c κs = search needs
@@ -34,7 +34,7 @@ same-length c = search needs
 returns-4 : tie.Need-returns-4
 returns-4 c =
     let s = c .before .before .before .before .before .before .before .before .before .before .before .before .before .before in
-    wrote (s .args .«data» .now) (s .args .word .now) (c .before .before .before .before .before .before .put-data .last .1 .0) (c .before .before .put-checks .last .0) (c .before .before .before .before .before .before .before .before .checks .result) (search needs) (search needs) (c .before .before .before .before .before .before .before .before .before .if3 .left) (c .before .before .before .before .before .before .before .before .checks .ensures)
+    wrote (s .args .«data» .now) (s .args .word .now) (c .before .before .before .before .before .before .put-data .last .1 .0) (c .before .before .put-checks .last .0) (c .before .before .before .before .before .before .before .before .checks-of .result) (search needs) (search needs) (c .before .before .before .before .before .before .before .before .before .if3 .left) (c .before .before .before .before .before .before .before .before .checks-of .ensures)
     (c .before .before .before .before .before .before .put-data .ensures) (c .before .before .put-checks .ensures)
 
 pub write-spec : {M : Type 1} → statement M
@@ -45,7 +45,7 @@ write-spec =
     returns-2
     add-if3
     returns-3
-    checks-requires
+    checks-of-requires
     put-data-requires
     put-checks-requires
     add-t6

@@ -148,10 +148,24 @@ static uint8_t *guards_of(const struct lent *b)
     return b->bytes == b->memory ? b->bytes + b->len : b->bytes - GUARD_LEN;
 }
 
+static void protect(struct lent *b, int protection)
+{
+    if (mprotect(b->memory, LENT_MAX, protection) != 0)
+        stop("mprotect");
+    b->sealed = protection == PROT_READ;
+}
+
+void seal(struct lent *b)
+{
+    protect(b, PROT_READ);
+}
+
 void lend(struct lent *b, const uint8_t *content, size_t len)
 {
     if (b->memory == NULL)
         b->memory = map_between_fences();
+    if (b->sealed)
+        protect(b, PROT_READ | PROT_WRITE);
     b->len = len;
     b->bytes = NULL;
     if (content == NULL)

@@ -41,10 +41,15 @@ struct lent {
     uint8_t *memory;
     uint8_t *bytes;
     size_t len;
+    bool sealed;
 };
 
 /* Lend a copy of these bytes. NULL is lent as NULL. */
 void lend(struct lent *b, const uint8_t *content, size_t len);
+
+/* From here until it is lent again, storing to it fails the group: also where
+ * the byte stored is the one that is there. */
+void seal(struct lent *b);
 
 /* The bytes are as expected, and the guard bytes are untouched. */
 bool is_kept(const struct lent *b, const uint8_t *expected);

@@ -24,6 +24,9 @@ void check_result(const struct repair *entry, const struct sample *s,
     group_case();
     lend(&word, s->word, s->len);
     lend(&marks, s->marks, s->marks_len);
+    seal(&marks);
+    if (expected.code != 0)
+        seal(&word);
 
     const uint64_t got =
         entry->run(word.bytes, s->len, marks.bytes, s->marks_len);

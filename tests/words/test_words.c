@@ -65,6 +65,7 @@ static void check_syndrome(const uint8_t *word, size_t len)
 
     group_case();
     lend(&lent, word, len);
+    seal(&lent);
     ref_sums(word, len, sums);
     for (int row = 0; row < REF_CHECK_BYTES; row++)
         expected |= (uint64_t)sums[row] << 8 * row;
@@ -128,6 +129,9 @@ static void check_write(const uint8_t *data, size_t data_len, size_t word_len)
     const struct ref_result r =
         ref_word_write(data, data_len, expected, word_len);
 
+    seal(&lent_data);
+    if (r.code != 0)
+        seal(&lent_word);
     check_number(zav_word_write(lent_data.bytes, data_len, lent_word.bytes,
                                 word_len), packed(r), what);
     check_buffer(&lent_word, expected, what);
@@ -197,6 +201,7 @@ static void check_test(const uint8_t *word, size_t len)
 
     group_case();
     lend(&lent, word, len);
+    seal(&lent);
     sprintf(what, "word of %zu", len);
     check_number(zav_word_test(lent.bytes, len),
                  packed(ref_word_test(word, len)), what);

@@ -6,17 +6,33 @@ use mathlib.Core.List.{List, [], _∷_, _++_}
 use Prim.Native.Nat.{ℕ, zero, suc, _+_, _*_, _-_, _≤_, _<_}
 use native.Mathlib.Omega.{arith}
 use native.Mathlib.Decide.{decLt}
-use lib.Dec.{T}
+use lib.Dec.{T, eqb}
 use lib.ListN.{length, getD, take, length-append, replicate, getD-replicate, List·getD-append}
 use lib.Seq.{ext-getD, getD-take, length-take-le, getD-append-add}
 use Rattle.account.specs.Field.{Ops, In, IsField}
 use Rattle.account.specs.Code.{Cells, Clean, WordOf}
-use Rattle.account.specs.Reach.{countTo, isMarked, differsAt, marked, differing, Reach}
-use Rattle.account.proofs.Cells.{Outside, Below, Distinct, places, outside-left, outside-right, below-append, below-places, outside-places, count-places, count-none, same-at, not-differs}
+use Rattle.account.specs.Reach.{countTo, isMarked, and, differsAt, marked, differing, Reach, SameRead}
+use Rattle.account.proofs.Cells.{Outside, Below, Distinct, places, outside-left, outside-right, below-append, below-places, outside-places, count-places, count-cong, count-none, same-at, not-differs}
 use Rattle.account.proofs.Solve as solve
 use Rattle.account.proofs.Solve.{added}
 use Rattle.account.proofs.Decode as decode
 use Rattle.account.proofs.Decode.{Applied, values}
+
+-- ---- "The byte under a mark has no influence."
+
+pub same-differing : (marks r s w : List ℕ) → SameRead marks r s → differing marks r w ≡ differing marks s w
+same-differing marks r s w same =
+    count-cong (differsAt marks r w) (differsAt marks s w) (length r) (λ p _. at p (isMarked marks p) refl) ∙ ap (countTo (differsAt marks s w)) (same .same-length)
+  where
+    at : (p : ℕ) (m : Bool) → isMarked marks p ≡ m → and (not m) (not (eqb (getD w p 0) (getD r p 0))) ≡ and (not m) (not (eqb (getD w p 0) (getD s p 0)))
+    at p true e = refl
+    at p false e = ap (λ (x : ℕ). not (eqb (getD w p 0) x)) (same .read p e)
+
+pub same-reach : (marks r s w : List ℕ) → SameRead marks r s → Reach marks r w → Reach marks s w
+same-reach marks r s w same R = record {
+  same-length = R .same-length ∙ same .same-length;
+  few = rw (← same-differing marks r s w same, ← same .same-length) (R .few);
+}
 
 -- f 0, .., f (n - 1)
 abbrev tabulate : ℕ → (ℕ → ℕ) → List ℕ

@@ -38,3 +38,8 @@ differing marks r w = countTo (differsAt marks r w) (length r)
 pub record Reach (marks r w : List ℕ) : Type 0 where
   pub same-length : length w ≡ length r
   pub few : 2 * differing marks r w + marked marks r ≤ 5
+
+-- r and s are the same but for the bytes under marks
+pub record SameRead (marks r s : List ℕ) : Type 0 where
+  pub same-length : length r ≡ length s
+  pub read : (p : ℕ) → isMarked marks p ≡ false → getD r p 0 ≡ getD s p 0

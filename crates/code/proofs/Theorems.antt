@@ -9,7 +9,7 @@ use lib.ListN.{length, take, drop, take-append-drop}
 use lib.Seq.{length-take-le}
 use Rattle.account.specs.Field.{power}
 use Rattle.account.specs.Code.{alphaTo, Cells, Clean, WordOf}
-use Rattle.account.specs.Reach.{marked, differing, Reach}
+use Rattle.account.specs.Reach.{marked, differing, Reach, SameRead}
 use Rattle.account.specs.Generator.{generator, times, plus, scale, Multiple}
 use Rattle.account.specs.Product.{product}
 use Rattle.account.proofs.Theorems as theorems
@@ -27,7 +27,7 @@ use Rattle.code.specs.declared.lane.Lane.{Lane}
 use Rattle.code.specs.declared.lane.LaneRepair.{LaneRepair}
 use Rattle.code.specs.Refusal.{Rule, First, Numbers}
 use Rattle.code.specs.Word.{writing, testing, WritesAs, TestsAs, writtenNumbers, testedNumbers}
-use Rattle.code.specs.Repair.{repairing, RepairsAs, repairedNumbers}
+use Rattle.code.specs.Repair.{Reachable, repairing, RepairsAs, repairedNumbers}
 use Rattle.code.specs.Lane.{wordOf, LaneRepairsAs}
 
 -- "Its first 255 powers are all different and non-zero"
@@ -161,6 +161,39 @@ repairs-fixed marks old v w a b cv cw A B =
         either (v ≡ w) (repairedNumbers a .code)
         (λ z. one-in-reach marks old v w (short-word 255 (length old) (length marks) marks old (repairedNumbers a .code) z (A .code)) cv cw (A .clean z) (B .clean (sym codes ∙ z)) (A .reach z) (B .reach (sym codes ∙ z)))
         (λ n. A .kept n ∙ sym (B .kept (λ z. n (codes ∙ z))))
+
+-- "The byte under a mark has no influence."
+other-side : (marks r s : List ℕ) → SameRead marks r s → SameRead marks s r
+other-side marks r s same = record { same-length = sym (same .same-length); read = λ p e. sym (same .read p e) }
+
+reachable : (marks r s : List ℕ) → SameRead marks r s → Reachable marks r → Reachable marks s
+reachable marks r s same R = record { word = R .word; bytes = R .bytes; clean = R .clean; reach = theorems.same-reach marks r s (R .word) same (R .reach) }
+
+same-code : (most n m : ℕ) (marks r s : List ℕ) (c : ℕ) → SameRead marks r s → First (repairing most n m marks r) c → First (repairing most n m marks s) c
+same-code most n m marks r s c same (inl p) = inl p
+same-code most n m marks r s c same (inr (a, inl p)) = inr (a, inl p)
+same-code most n m marks r s c same (inr (a, inr (b, inl p))) = inr (a, inr (b, inl p))
+same-code most n m marks r s c same (inr (a, inr (b, inr (g, inl p)))) = inr (a, inr (b, inr (g, inl ((λ R. p .0 (reachable marks s r (other-side marks r s same) R)), p .1))))
+same-code most n m marks r s c same (inr (a, inr (b, inr (g, inr p)))) = inr (a, inr (b, inr (g, inr (reachable marks r s same (p .0), p .1))))
+
+pub under-marks : (marks r s v w : List ℕ) (a b : Repaired) → SameRead marks r s → Cells gf256 v → Cells gf256 w → RepairsAs marks r v a → RepairsAs marks s w b
+    → (repairedNumbers a ≡ repairedNumbers b) × (repairedNumbers a .code ≡ 0 → v ≡ w)
+under-marks marks r s v w a b same cv cw A B = (
+  decided (repairedNumbers a) (repairedNumbers b) (repaired-zero a) (repaired-zero b) codes
+      (λ z. A .value z ∙ ap (differing marks r) (words z) ∙ theorems.same-differing marks r s w same ∙ sym (B .value (sym codes ∙ z))),
+  words,
+)
+  where
+    code : First (repairing 255 (length r) (length marks) marks s) (repairedNumbers a .code)
+    code = same-code 255 (length r) (length marks) marks r s (repairedNumbers a .code) same (A .code)
+
+    codes : repairedNumbers a .code ≡ repairedNumbers b .code
+    codes = first-fixes (repairing 255 (length s) (length marks) marks s) (repairedNumbers a .code) (repairedNumbers b .code) (rw (← same .same-length) code) (B .code)
+
+    words : repairedNumbers a .code ≡ 0 → v ≡ w
+    words z =
+        one-in-reach marks r v w (short-word 255 (length r) (length marks) marks r (repairedNumbers a .code) z (A .code)) cv cw (A .clean z) (B .clean (sym codes ∙ z)) (A .reach z)
+        (theorems.same-reach marks s r w (other-side marks r s same) (B .reach (sym codes ∙ z)))
 
 pub lane-repairs-fixed : (lane marks : Lane) (r s : LaneRepair) → length (lane .bytes) ≡ 96 → Cells gf256 (wordOf (r .lane)) → Cells gf256 (wordOf (s .lane)) → LaneRepairsAs lane marks r → LaneRepairsAs lane marks s
     → (r .lane ≡ s .lane) × (repairedNumbers (r .answer) ≡ repairedNumbers (s .answer))

@@ -1,7 +1,7 @@
 // Words: n bytes, 6 to 255, of which the last five are check bytes.
 ghost use mathlib.Core.Path.{_≡_};
 ghost use mathlib.Core.List.{_++_};
-ghost use Prim.Native.Nat.{_+_, _%_, _≤_};
+ghost use Prim.Native.Nat.{_+_, _≤_};
 ghost use lib.ListN.{length, drop};
 ghost use lib.Seq.{sets};
 ghost use Rattle.account.specs.Code.{syndrome};
@@ -34,22 +34,16 @@ fn put_data(data: &[u8], word: &mut [u8])
     }
 }
 
-fn low(x: u64) -> u8
-    ensures { λ r. ⌜ r ≡ x % 256 ⌝ }
-{
-    (x % 256) as u8
-}
-
 // Five packed bytes, from cell k on.
 fn put_checks(word: &mut [u8], k: usize, x: u64)
     requires { ⌜ k + 5 ≤ length (now word) ⌝ }
     ensures { λ _. ⌜ now (word .exit) ≡ sets (now (word .entry)) k (unpacked x) ⌝ }
 {
-    word[k] = low(x / 4294967296);
-    word[k + 1] = low(x / 16777216);
-    word[k + 2] = low(x / 65536);
-    word[k + 3] = low(x / 256);
-    word[k + 4] = low(x);
+    word[k] = remainder::low(x / 4294967296);
+    word[k + 1] = remainder::low(x / 16777216);
+    word[k + 2] = remainder::low(x / 65536);
+    word[k + 3] = remainder::low(x / 256);
+    word[k + 4] = remainder::low(x);
 }
 
 // Writes the one clean word with the data in front.

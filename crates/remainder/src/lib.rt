@@ -1,6 +1,6 @@
 // The remainder of a word by the generator, and what is made of it: the test and the check bytes. (Document 004 takes the
 // remainder first: the five sums of the remainder are those of the word.) Five bytes are packed in one number, the highest power
-// on top. The table is made once by an entry and lent.
+// on top. The table is made once for a word and lent.
 ghost use mathlib.Core.Path.{_≡_};
 ghost use mathlib.Core.List.{_∷_, []};
 ghost use Prim.Native.Nat.{ℕ, _+_, _-_, _*_, _/_, _%_, _<_, _≤_};
@@ -150,7 +150,8 @@ fn wide(x: u8) -> u64
     x as u64
 }
 
-fn low(x: u64) -> u8
+// The lowest byte.
+pub fn low(x: u64) -> u8
     ensures { λ r. ⌜ r ≡ x % 256 ⌝ }
 {
     (x % 256) as u8
@@ -165,7 +166,7 @@ fn reduced(t: &[u64; 128], k: usize, a: usize) -> u64
 }
 
 // One byte more.
-pub fn step(t: &[u64; 128], r: u64, b: u8) -> u64
+fn step(t: &[u64; 128], r: u64, b: u8) -> u64
     requires { ⌜ Reductions (now t) × (r < 1099511627776) ⌝ }
     ensures { λ x. ⌜ Moved r (b ∷ []) x ⌝ }
 {
@@ -173,7 +174,7 @@ pub fn step(t: &[u64; 128], r: u64, b: u8) -> u64
 }
 
 // Four bytes more: the four highest bytes of r are reduced at once.
-pub fn step4(t: &[u64; 128], r: u64, a: u8, b: u8, c: u8, d: u8) -> u64
+fn step4(t: &[u64; 128], r: u64, a: u8, b: u8, c: u8, d: u8) -> u64
     requires { ⌜ Reductions (now t) × (r < 1099511627776) ⌝ }
     ensures { λ x. ⌜ Moved r (a ∷ b ∷ c ∷ d ∷ []) x ⌝ }
 {
@@ -204,7 +205,7 @@ fn head(t: &[u64; 128], w: &[u8]) -> u64
 }
 
 // The remainder of w.
-pub fn of_word(t: &[u64; 128], w: &[u8]) -> u64
+fn of_word(t: &[u64; 128], w: &[u8]) -> u64
     requires { ⌜ Reductions (now t) ⌝ }
     ensures { λ r. ⌜ Remains (now (w .entry)) r ⌝ }
 {
@@ -226,7 +227,7 @@ pub fn remainder_of(w: &[u8]) -> u64
 }
 
 // The five check bytes after data, packed: the remainder of the data with five zeros after it.
-pub fn checks(t: &[u64; 128], data: &[u8]) -> u64
+fn checks(t: &[u64; 128], data: &[u8]) -> u64
     requires { ⌜ Reductions (now t) ⌝ }
     ensures { λ x. ⌜ Checks (now («data» .entry)) x ⌝ }
 {

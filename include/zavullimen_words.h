@@ -32,8 +32,12 @@ enum zav_result_code {
     ZAV_BAD_LENGTH = 1,        /* data, word or lane too short or too long */
     ZAV_BAD_MARKS_LENGTH = 2,  /* not one mark per cell */
     ZAV_BAD_MARK = 3,          /* a mark above 1 */
-    ZAV_BAD_BUFFER_LENGTH = 4, /* word buffer not data + 5 */
-    ZAV_BEYOND_REACH = 6       /* no clean word within reach */
+    ZAV_BAD_BUFFER_LENGTH = 4, /* word buffer not data + 5; others too short */
+    ZAV_BEYOND_REACH = 6,      /* no clean word within reach */
+    ZAV_OUT_OF_RANGE = 7,      /* a record's version, width, height or par */
+    ZAV_BAD_SIZE = 8,          /* not as many tiles as the size says */
+    ZAV_BAD_TILE = 9,          /* a tile code above 6 */
+    ZAV_NOT_PLAYABLE = 10      /* not one player, or crates and goals amiss */
 };
 
 /*

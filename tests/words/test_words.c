@@ -11,6 +11,7 @@
 #include "draw.h"
 #include "harness.h"
 #include "reference.h"
+#include "test_record.h"
 #include "test_repair.h"
 #include "zavullimen_words.h"
 
@@ -429,6 +430,7 @@ int main(int argc, char **argv)
     test_test_lengths();
     for (size_t e = 0; e < REPAIRS; e++)
         test_repair(&repairs[e]);
+    test_record();
     test_huge_lengths();
     return groups_finish();
 }

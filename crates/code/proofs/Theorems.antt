@@ -86,7 +86,7 @@ same-numbers a b e f = ap₂ (λ (c v : ℕ). made c v) e f
     made c v = record { code = c; value = v }
 
 -- numbers of which both are done or refused agree where the values of the done ones do
-decided : (a b : Numbers) → (a .code ≢ 0 → a .value ≡ 0) → (b .code ≢ 0 → b .value ≡ 0) → a .code ≡ b .code → (a .code ≡ 0 → a .value ≡ b .value) → a ≡ b
+pub decided : (a b : Numbers) → (a .code ≢ 0 → a .value ≡ 0) → (b .code ≢ 0 → b .value ≡ 0) → a .code ≡ b .code → (a .code ≡ 0 → a .value ≡ b .value) → a ≡ b
 decided a b za zb e v = go (ℕ-discrete (a .code) 0)
   where
     go : Dec (a .code ≡ 0) → a ≡ b
@@ -94,14 +94,14 @@ decided a b za zb e v = go (ℕ-discrete (a .code) 0)
     go (no n) = same-numbers a b e (za n ∙ sym (zb (λ z. n (e ∙ z))))
 
 -- one of two holds: a word is written or kept
-either : (P : Type 0) (c : ℕ) → (c ≡ 0 → P) → (c ≢ 0 → P) → P
+pub either : (P : Type 0) (c : ℕ) → (c ≡ 0 → P) → (c ≢ 0 → P) → P
 either P c f g = go (ℕ-discrete c 0)
   where
     go : Dec (c ≡ 0) → P
     go (yes z) = f z
     go (no n) = g n
 
-written-zero : (a : Written) → writtenNumbers a .code ≢ 0 → writtenNumbers a .value ≡ 0
+pub written-zero : (a : Written) → writtenNumbers a .code ≢ 0 → writtenNumbers a .value ≡ 0
 written-zero (written.Length n) h = absurd (h refl)
 written-zero (written.Refused c) h = refl
 

@@ -9,6 +9,7 @@ use Rattle.gf256.specs.Gf256.{gf256}
 use Rattle.code.specs.Refusal.{First, Numbers}
 use Rattle.code.specs.Word.{writtenNumbers, testedNumbers, WritesAs, TestsAs}
 use Rattle.code.specs.Repair.{repairedNumbers, repairing, RepairsAs}
+use Rattle.record.specs.Writing.{RecordWritesAs}
 use Rattle.code.specs.declared.word.Written.{Written}
 use Rattle.code.specs.declared.word.Tested.{Tested}
 use Rattle.code.specs.declared.repair.Repaired.{Repaired}
@@ -49,3 +50,8 @@ pub record LaneExport (marks old new : List ℕ) (r : ℕ) : Type 0 where
   pub value : repairedNumbers answer .code ≡ 0 → repairedNumbers answer .value ≡ differing marks old new
   pub kept : (repairedNumbers answer .code ≡ 0 → ⊥) → new ≡ old
   pub is : r ≡ packed 31 (repairedNumbers answer)
+
+pub record RecordExport (w h par : ℕ) (tiles old new : List ℕ) (r : ℕ) : Type 0 where
+  pub answer : Written
+  pub writes : RecordWritesAs w h par tiles old new answer
+  pub is : r ≡ packed 55 (writtenNumbers answer)

@@ -1,4 +1,4 @@
-// What C sees of the words: numbers and byte slices, the numbers of an answer packed in one. docs/C-INTERFACE.md has the layout.
+// What C sees: numbers and byte slices, the numbers of an answer packed in one. docs/C-INTERFACE.md has the layout.
 ghost use mathlib.Core.Path.{_≡_};
 ghost use Prim.Native.Nat.{_<_, _≤_};
 ghost use lib.ListN.{length};
@@ -7,7 +7,7 @@ ghost use Rattle.gf256.specs.Gf256.{gf256, times};
 ghost use Rattle.code.specs.Word.{writtenNumbers, testedNumbers};
 ghost use Rattle.code.specs.Repair.{repairedNumbers};
 ghost use Rattle.code.specs.Lane.{wordOf};
-ghost use Rattle.host.specs.Packed.{packedAt, packed, packedSums, WriteExport, TestExport, RepairExport, LaneExport};
+ghost use Rattle.host.specs.Packed.{packedAt, packed, packedSums, WriteExport, TestExport, RepairExport, LaneExport, RecordExport};
 use code::lane::Lane;
 use code::repair::Repaired;
 use code::word::Tested;
@@ -169,4 +169,18 @@ pub extern "C" fn zav_syndrome(word: &[u8]) -> u64
         + wide(s[2]) * 65536
         + wide(s[3]) * 16777216
         + wide(s[4]) * 4294967296
+}
+
+// Writes the record of a level.
+#[no_mangle]
+pub extern "C" fn zav_record_write(
+    width: usize,
+    height: usize,
+    par: usize,
+    tiles: &[u8],
+    record: &mut [u8],
+) -> u64
+    ensures { λ r. ⌜ RecordExport width height par (now (tiles .entry)) (now («record» .entry)) (now («record» .exit)) r ⌝ }
+{
+    pack_written(record::write(width, height, par, tiles, record))
 }

@@ -1,0 +1,4 @@
+pub mod Writing
+pub mod Tiles
+pub mod Answers
+pub mod Theorems

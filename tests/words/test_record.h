@@ -1,0 +1,7 @@
+/* test_record.h - the record writer against the second implementation. */
+#ifndef TEST_RECORD_H
+#define TEST_RECORD_H
+
+void test_record(void);
+
+#endif

@@ -1,3 +1,4 @@
+pub mod Lists
 pub mod Test
 pub mod Xor
 pub mod Product

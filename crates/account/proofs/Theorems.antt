@@ -12,7 +12,9 @@ use lib.Seq.{ext-getD, getD-take, length-take-le, getD-append-add}
 use Rattle.account.specs.Field.{Ops, In, IsField}
 use Rattle.account.specs.Code.{Cells, Clean, WordOf}
 use Rattle.account.specs.Reach.{countTo, isMarked, and, differsAt, marked, differing, Reach, SameRead}
-use Rattle.account.proofs.Cells.{Outside, Below, Distinct, places, outside-left, outside-right, below-append, below-places, outside-places, count-places, count-cong, count-none, same-at, not-differs}
+use Rattle.account.specs.Lists.{listOf}
+use Rattle.account.proofs.Lists.{length-listOf, getD-listOf}
+use Rattle.account.proofs.Cells.{Outside, Below, places, outside-left, outside-right, below-append, below-places, outside-places, count-places, count-cong, count-none, same-at, not-differs}
 use Rattle.account.proofs.Solve as solve
 use Rattle.account.proofs.Solve.{added}
 use Rattle.account.proofs.Decode as decode
@@ -33,20 +35,6 @@ same-reach marks r s w same R = record {
   same-length = R .same-length ∙ same .same-length;
   few = rw (← same-differing marks r s w same, ← same .same-length) (R .few);
 }
-
--- f 0, .., f (n - 1)
-abbrev tabulate : ℕ → (ℕ → ℕ) → List ℕ
-tabulate zero f = []
-tabulate (suc n) f = f 0 ∷ tabulate n (λ i. f (suc i))
-
-length-tabulate : (n : ℕ) (f : ℕ → ℕ) → length (tabulate n f) ≡ n
-length-tabulate zero f = refl
-length-tabulate (suc n) f = ap suc (length-tabulate n (λ i. f (suc i)))
-
-getD-tabulate : (n : ℕ) (f : ℕ → ℕ) (i : ℕ) → i < n → getD (tabulate n f) i 0 ≡ f i
-getD-tabulate zero f i l = absurd (omega arith)
-getD-tabulate (suc n) f zero l = refl
-getD-tabulate (suc n) f (suc i) l = getD-tabulate n (λ j. f (suc j)) i (omega arith)
 
 -- the five cells from m on
 abbrev checks : ℕ → List ℕ
@@ -174,13 +162,13 @@ module _ (O : Ops) (F : IsField O) where
       at p = getD r p 0 ⊕ added O (checks m) (values O F (checks m) r) p
 
       w : List ℕ
-      w = tabulate (m + 5) at
+      w = listOf (m + 5) at
 
       size : length w ≡ m + 5
-      size = length-tabulate (m + 5) at
+      size = length-listOf (m + 5) at
 
       applied : Applied O (checks m) (values O F (checks m) r) r w
-      applied = record { same-length = size ∙ sym lr; cell = λ p l. getD-tabulate (m + 5) at p (omega (arith, lr)) }
+      applied = record { same-length = size ∙ sym lr; cell = λ p l. getD-listOf (m + 5) at p (omega (arith, lr)) }
 
       clean : Clean O w
       clean =
@@ -199,7 +187,7 @@ module _ (O : Ops) (F : IsField O) where
       cells : Cells O w
       cells = record {
         cell = λ p l.
-            subst (In O) (sym (getD-tabulate (m + 5) at p (omega (arith, size))))
+            subst (In O) (sym (getD-listOf (m + 5) at p (omega (arith, size))))
             (F .in-add (getD r p 0) (added O (checks m) (values O F (checks m) r) p) (r-in p (omega (arith, size)))
             (solve.added-in O F (checks m) (values O F (checks m) r) p (decode.values-in O F (checks m) r)));
       }
@@ -209,7 +197,7 @@ module _ (O : Ops) (F : IsField O) where
           ext-getD 0 (take m w) data' (length-take-le m w (omega (arith, size)))
           (λ p l.
           let h : p < m = omega (arith, length-take-le m w (omega (arith, size))) in
-          getD-take m w p 0 h ∙ getD-tabulate (m + 5) at p (omega arith)
+          getD-take m w p 0 h ∙ getD-listOf (m + 5) at p (omega arith)
           ∙ ap₂ (λ (x y : ℕ). x ⊕ y) (List·getD-append data' (replicate 5 0) 0 p h)
           (solve.added-off O F (checks m) (values O F (checks m) r) p (before-checks m p h))
           ∙ F .add-zero (getD data' p 0))

@@ -1,3 +1,4 @@
+pub mod Lists
 pub mod Field
 pub mod Product
 pub mod Code

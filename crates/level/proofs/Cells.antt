@@ -1,21 +1,20 @@
 -- The worked record and strip hold.
 use mathlib.Core.Path.{_≡_, refl, subst}
-use mathlib.Core.Bool.{Bool, true}
 use mathlib.Core.List.{List, [], _∷_}
-use Prim.Native.Nat.{ℕ, zero, suc, _+_, _*_, _/_, _%_, _≤_, _<_}
+use Prim.Native.Nat.{ℕ, zero, suc, _/_, _%_, _≤_, _<_}
 use native.Mathlib.Omega.{arith}
-use lib.Dec.{T, eqb, eqb→eq, ltb, ltb→lt}
-use lib.ListN.{length, getD}
+use lib.Dec.{eqb, eqb→eq, ltb, ltb→lt}
+use lib.ListN.{getD}
 use Rattle.account.specs.Field.{power, sumTo}
 use Rattle.account.specs.Product.{product}
-use Rattle.account.specs.Code.{alphaTo, S, Cells, Clean}
-use Rattle.account.proofs.Test.{upto, upto-at}
+use Rattle.account.specs.Code.{alphaTo, S, Clean}
+use Rattle.account.proofs.Test.{upto-at}
 use Rattle.account.proofs.Words.{five}
 use Rattle.gf256.specs.Gf256.{gf256}
-use Rattle.level.specs.Lists.{listOf}
+use Rattle.account.specs.Lists.{listOf}
 use Rattle.level.specs.Tile.{totals}
 use Rattle.level.specs.Level.{Level, IsLevel}
-use Rattle.level.specs.Record.{bitAt, fieldAt, IsRecord}
+use Rattle.level.specs.Record.{IsRecord}
 use Rattle.level.specs.Written.{spelled, recordBit, recordByte, recordOf}
 use Rattle.level.specs.Strip.{lane, IsStrip}
 use Rattle.level.specs.Cells.{All, table}

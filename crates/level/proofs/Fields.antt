@@ -1,10 +1,10 @@
 -- A level is read off its record's fields.
 use mathlib.Core.Path.{_≡_, refl, sym, ap, ap₂, _∙_}
-use Prim.Native.Nat.{ℕ, zero, suc, _+_, _*_, _-_, _/_, _%_, _^_, _≤_, _<_}
+use Prim.Native.Nat.{ℕ, zero, suc, _+_, _*_, _-_, _/_, _%_, _^_}
 use native.Mathlib.Omega.{arith}
-use mathlib.Core.List.{List, [], _∷_}
-use lib.ListN.{length, getD, drop}
-use lib.Seq.{ext-getD, getD-drop}
+use mathlib.Core.List.{List}
+use lib.ListN.{length, getD}
+use lib.Seq.{ext-getD}
 use Rattle.level.specs.Level.{Level, IsLevel}
 use Rattle.level.specs.Record.{bitAt, fieldAt, IsRecord}
 
@@ -40,18 +40,3 @@ same-bytes l m xs ys il im ra rb same =
 -- two levels with the same record are the same level
 pub record-injective : (l m : Level) (bs : List ℕ) → IsLevel l → IsLevel m → IsRecord l bs → IsRecord m bs → l ≡ m
 record-injective l m bs il im ra rb = same-bytes l m bs bs il im ra rb (λ q. refl)
-
--- "Tiles start at byte 3": the part from byte k on, lent to the tile unpacker
-pub bit-part : (bs : List ℕ) (k p : ℕ) → bitAt (drop k bs) p ≡ bitAt bs (8 * k + p)
-unfolding bitAt
-bit-part bs k p =
-    let a : k + p / 8 ≡ (8 * k + p) / 8 = omega arith in
-    let b : p % 8 ≡ (8 * k + p) % 8 = omega arith in
-    ap (λ (x : ℕ). x / 2 ^ (7 - p % 8) % 2) (getD-drop k bs (p / 8) 0) ∙ ap₂ (λ (x y : ℕ). getD bs x 0 / 2 ^ (7 - y) % 2) a b
-
-pub field-part : (bs : List ℕ) (k p n : ℕ) → fieldAt (drop k bs) p n ≡ fieldAt bs (8 * k + p) n
-unfolding fieldAt
-field-part bs k p zero = refl
-field-part bs k p (suc n) =
-    let e : 8 * k + (p + n) ≡ 8 * k + p + n = omega arith in
-    ap₂ (λ (x y : ℕ). 2 * x + y) (field-part bs k p n) (bit-part bs k (p + n) ∙ ap (bitAt bs) e)

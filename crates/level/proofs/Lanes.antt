@@ -8,19 +8,8 @@ use lib.ListN.{length, getD}
 use lib.Seq.{ext-getD}
 use Rattle.account.specs.Code.{Cells}
 use Rattle.gf256.specs.Gf256.{gf256}
-use Rattle.level.specs.Lists.{listOf}
+use Rattle.account.proofs.Lists.{length-listOf, getD-listOf}
 use Rattle.level.specs.Strip.{lane}
-
-pub length-listOf : (n : ℕ) (f : ℕ → ℕ) → length (listOf n f) ≡ n
-unfolding listOf
-length-listOf zero f = refl
-length-listOf (suc n) f = ap suc (length-listOf n (λ i. f (suc i)))
-
-pub getD-listOf : (n : ℕ) (f : ℕ → ℕ) (i : ℕ) → i < n → getD (listOf n f) i 0 ≡ f i
-unfolding listOf
-getD-listOf zero f i h = absurd (omega arith)
-getD-listOf (suc n) f zero h = refl
-getD-listOf (suc n) f (suc i) h = getD-listOf n (λ j. f (suc j)) i (omega arith)
 
 -- past the end there is nothing
 pub getD-past : (l : List ℕ) (i : ℕ) → length l ≤ i → getD l i 0 ≡ 0

@@ -1,23 +1,19 @@
 -- The record of a level is one, laid out as published.
-use mathlib.Core.Path.{_≡_, refl, sym, ap, ap₂, _∙_, subst}
-use mathlib.Core.Bool.{Bool, true, false, cond}
+use mathlib.Core.Path.{_≡_, refl, sym, ap, ap₂, _∙_}
 use Prim.Native.Nat.{ℕ, zero, suc, _+_, _*_, _-_, _/_, _%_, _^_, _≤_, _<_}
 use native.Mathlib.Nat.{div-div-eq-div-mul, pow-suc, div-eq-of-lt, two-pow-succ, zero-div}
 use native.Mathlib.Omega.{arith}
 use mathlib.Core.List.{List}
-use mathlib.Core.Logic.{_⊎_, inl, inr, ⊎-elim}
-use lib.Dec.{ltb}
+use mathlib.Core.Logic.{_⊎_, ⊎-elim}
 use borrow.Author.Tests.{lt-ltb, le-ltb}
 use lib.ListN.{length, getD}
-use Rattle.account.specs.Code.{Cells}
-use Rattle.gf256.specs.Gf256.{gf256}
-use Rattle.level.specs.Lists.{listOf}
 use Rattle.level.specs.Level.{Level, IsLevel}
 use Rattle.level.specs.Record.{bitAt, fieldAt, recordLength, IsRecord}
 use Rattle.level.specs.Written.{digit, spelled, recordBit, recordByte, recordOf}
-use Rattle.level.proofs.Lanes.{length-listOf, getD-listOf, getD-past}
+use Rattle.level.proofs.Lanes.{getD-past}
+use Rattle.account.proofs.Lists.{length-listOf, getD-listOf}
 use Rattle.level.proofs.Strips.{lt-or-ge}
-use Rattle.level.proofs.Determined.{byte-field, bit-small, one-record}
+use Rattle.level.proofs.Determined.{byte-field, bit-small}
 
 pub spelled-below : (n : ℕ) (f : ℕ → ℕ) → ((i : ℕ) → i < n → f i < 2) → spelled n f < 2 ^ n
 unfolding spelled
@@ -168,7 +164,3 @@ module _ (l : Level) where
 
           two : (24 + 3 * i + j - 24) % 3 ≡ j
           two = omega arith
-
-  -- a level's record, and no other bytes
-  pub the-record : (bs : List ℕ) → IsLevel l → IsRecord l bs → bs ≡ recordOf l
-  the-record bs il r = one-record l bs (recordOf l) il r (record-of il)

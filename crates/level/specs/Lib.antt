@@ -1,4 +1,3 @@
-pub mod Lists
 pub mod Tile
 pub mod Level
 pub mod Record

@@ -1,12 +1,12 @@
 -- Strips over R lanes.
 use mathlib.Core.Path.{_≡_}
-use Prim.Native.Nat.{ℕ, zero, suc, _+_, _*_, _-_, _/_, _%_, _≤_, _<_}
+use Prim.Native.Nat.{ℕ, _+_, _*_, _-_, _/_, _%_, _<_}
 use mathlib.Core.List.{List}
 use lib.ListN.{length, getD}
 use Rattle.account.specs.Code.{Cells, Clean}
 use Rattle.account.specs.Reach.{countTo, differsAt, isMarked, Reach}
 use Rattle.gf256.specs.Gf256.{gf256}
-use Rattle.level.specs.Lists.{listOf, sumOf}
+use Rattle.account.specs.Lists.{listOf}
 use Rattle.level.specs.Level.{Level, IsLevel}
 use Rattle.level.specs.Record.{recordLength, IsRecord}
 
@@ -41,20 +41,8 @@ module _ (R : ℕ) where
   abbrev pub markedIn : List ℕ → ℕ → ℕ
   markedIn marks j = countTo (isMarked (lane j marks)) (length marks / R)
 
-  -- "the number of unmarked cells, over all lanes, in which the strip read differs"
-  unfoldable pub mendedOf : List ℕ → List ℕ → List ℕ → ℕ
-  unfolding sumOf
-  mendedOf marks s t = sumOf R (wrongIn marks s t)
-
   -- a level with its strip, of the same length and within reach
   pub record Reached (marks s : List ℕ) (l : Level) (t : List ℕ) : Type 0 where
     pub is-level : IsLevel l
     pub is-strip : IsStrip l t
     pub reach : StripReach marks s t
-
--- "Length N = 4(k + 5), from 24 to 384, k from 1 to 91; each such N is a legal length."
-pub record Legal (N : ℕ) : Type 0 where
-  pub k : ℕ
-  pub some : 1 ≤ k
-  pub few : k ≤ 91
-  pub cells : N ≡ 4 * (k + 5)

@@ -1,10 +1,10 @@
 -- The record of a level, as a function: what a writer writes.
-use mathlib.Core.Bool.{Bool, cond}
-use Prim.Native.Nat.{ℕ, zero, suc, _+_, _*_, _-_, _/_, _%_, _^_, _≤_, _<_}
+use mathlib.Core.Bool.{cond}
+use Prim.Native.Nat.{ℕ, zero, suc, _+_, _*_, _-_, _/_, _%_, _^_}
 use mathlib.Core.List.{List}
 use lib.Dec.{ltb}
-use lib.ListN.{length, getD}
-use Rattle.level.specs.Lists.{listOf}
+use lib.ListN.{getD}
+use Rattle.account.specs.Lists.{listOf}
 use Rattle.level.specs.Level.{Level}
 use Rattle.level.specs.Record.{recordLength}
 

@@ -1,17 +1,16 @@
 -- A record written byte after byte.
 use mathlib.Core.Path.{_≡_, refl, sym, ap, _∙_}
 use mathlib.Core.List.{List, [], _∷_, _++_}
-use Prim.Native.Nat.{ℕ, zero, suc, _+_, _*_, _-_, _^_, _≤_, _<_}
+use Prim.Native.Nat.{ℕ, zero, suc, _+_, _*_, _-_, _≤_, _<_}
 use native.Mathlib.Nat.{pow-le-pow-right}
 use native.Mathlib.Numerals.{add-one}
 use native.Mathlib.Omega.{arith}
 use lib.ListN.{length, getD, drop, set, length-append, length-drop}
 use lib.Seq.{drop-cons, set-at, append-snoc}
-use Rattle.level.specs.Lists.{listOf}
+use Rattle.account.specs.Lists.{listOf}
 use Rattle.level.specs.Level.{Level}
-use Rattle.level.specs.Record.{recordLength}
-use Rattle.level.specs.Written.{spelled, recordBit, recordByte, recordOf}
-use Rattle.level.proofs.Lanes.{length-listOf}
+use Rattle.level.specs.Written.{spelled, recordBit}
+use Rattle.account.proofs.Lists.{length-listOf}
 use Rattle.level.proofs.RecordOf.{spelled-below, bits-small}
 
 pub spelled-small : (l : Level) (q i : ℕ) → i ≤ 8 → spelled i (λ j. recordBit l (8 * q + j)) < 256

@@ -66,7 +66,7 @@ fn adds_of(t: usize) -> Adds
 }
 
 // Every tile has a code of the table.
-pub fn codes(tiles: &[u8]) -> bool
+fn codes(tiles: &[u8]) -> bool
     ensures { λ r. ⌜ Says r (AllTiles (now (tiles .entry))) ⌝ }
 {
     let mut i: usize = 0;
@@ -103,7 +103,7 @@ fn tally(tiles: &[u8]) -> Adds
 }
 
 // One player, a crate, and as many crates as goals.
-pub fn playable(tiles: &[u8]) -> bool
+fn playable(tiles: &[u8]) -> bool
     requires { ⌜ (length (now tiles) ≤ 961) × AllTiles (now tiles) ⌝ }
     ensures { λ r. ⌜ Says r (Playable (totals (now (tiles .entry)))) ⌝ }
 {

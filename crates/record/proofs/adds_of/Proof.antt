@@ -1,16 +1,13 @@
 use Rattle.record.specs.declared.Adds.{Adds}
 use Rattle.record.specs.Sum.{Same}
 use Rattle.level.specs.Tile.{adds}
-use lib.ListN.{length, getD}
+use lib.ListN.{getD}
 use mathlib.Core.List.{List, [], _∷_}
-use native.Mathlib.Omega.{arith}
-use Prim.Native.Nat.{ℕ, zero, suc, _+_, _*_, _-_, _≤_, _<_}
-use mathlib.Core.Path.{_≡_, refl, sym, ap, _∙_}
+use Prim.Native.Nat.{ℕ, zero, suc, _-_}
+use mathlib.Core.Path.{refl}
 use borrow.Author.Needs.{needs}
 use Rattle.record.proofs.adds_of.Statement.{statement}
 use Rattle.record.proofs.adds_of.Tie as tie
-use Rattle.record.proofs.adds_of.Reads as reads
-use Rattle.record.proofs.adds_of.Lts as lts
 
 row : ℕ → ℕ → ℕ → Adds
 row p c g = record { player = p; «crate_» = c; goal = g }

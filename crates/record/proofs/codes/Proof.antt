@@ -5,8 +5,6 @@ use borrow.Author.Count.{below-more}
 use borrow.Author.Needs.{needs}
 use Rattle.record.proofs.codes.Statement.{statement}
 use Rattle.record.proofs.codes.Tie as tie
-use Rattle.record.proofs.codes.Reads as reads
-use Rattle.record.proofs.codes.Lts as lts
 
 abbrev Inv-loop : tie.InvT-loop
 Inv-loop tiles i₀ i = (i ≤ length tiles) × ((k : ℕ) → k < i → getD tiles k 0 ≤ 6)

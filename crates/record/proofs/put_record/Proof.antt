@@ -1,20 +1,17 @@
 use borrow.Author.Needs.{needs}
 use Rattle.level.specs.Record.{recordLength}
-use Rattle.record.proofs.Writing.{spelled-small, spelled-more, long, next}
+use Rattle.record.proofs.Writing.{long, next}
 use Rattle.record.specs.Writing.{lent}
-use Rattle.level.proofs.RecordOf.{bit-1, bit-2, bit-3, bit-4, bit-5, bit-past, bits-small, byte-below}
-use Rattle.level.specs.Written.{digit, spelled, recordBit, recordByte, recordOf}
-use Rattle.level.specs.Lists.{listOf}
-use lib.ListN.{length, getD, drop}
-use mathlib.Core.List.{List, _++_}
+use Rattle.level.proofs.RecordOf.{byte-below}
+use Rattle.level.specs.Written.{recordByte, recordOf}
+use Rattle.account.specs.Lists.{listOf}
+use lib.ListN.{drop}
+use mathlib.Core.List.{_++_}
 use native.Mathlib.Omega.{arith}
-use Prim.Native.Nat.{ℕ, suc, _-_, _+_, _*_, _/_, _%_, _^_, _≤_, _<_}
-use mathlib.Core.Path.{_≡_, refl, sym, ap, _∙_}
+use Prim.Native.Nat.{_-_, _+_, _≤_}
+use mathlib.Core.Path.{_≡_, refl}
 use Rattle.record.proofs.put_record.Statement.{statement}
 use Rattle.record.proofs.put_record.Tie as tie
-use Rattle.record.proofs.put_record.Reads as reads
-use Rattle.record.proofs.put_record.Lts as lts
-use Rattle.record.proofs.record_byte.Reads as record-byte-reads
 
 abbrev Inv-loop : tie.InvT-loop
 Inv-loop w h par tiles n out₀ q₀ out q = (q ≤ n) × (out ≡ listOf q (recordByte (lent w h par tiles)) ++ drop q out₀)

@@ -1,19 +1,11 @@
-use Rattle.record.proofs.Writing.{spelled-small, spelled-more, long, next}
 use Rattle.record.specs.Writing.{lent}
-use Rattle.level.proofs.RecordOf.{bit-1, bit-2, bit-3, bit-4, bit-5, bit-past, bits-small, byte-below}
-use Rattle.level.specs.Written.{digit, spelled, recordBit, recordByte, recordOf}
-use Rattle.level.specs.Lists.{listOf}
-use lib.ListN.{length, getD, drop}
-use mathlib.Core.List.{List, _++_}
+use Rattle.level.proofs.RecordOf.{bit-1, bit-2, bit-3, bit-4, bit-5, bit-past}
 use native.Mathlib.Omega.{arith}
-use Prim.Native.Nat.{ℕ, suc, _-_, _+_, _*_, _/_, _%_, _^_, _≤_, _<_}
-use mathlib.Core.Path.{_≡_, refl, sym, ap, _∙_}
+use Prim.Native.Nat.{_-_, _/_}
+use mathlib.Core.Path.{sym, _∙_}
 use borrow.Author.Needs.{needs}
 use Rattle.record.proofs.record_bit.Statement.{statement}
 use Rattle.record.proofs.record_bit.Tie as tie
-use Rattle.record.proofs.record_bit.Reads as reads
-use Rattle.record.proofs.record_bit.Lts as lts
-use Rattle.record.proofs.digit_of.Reads as digit-of-reads
 
 digit-of-requires : tie.Need-digit-of-requires
 digit-of-requires c κs = search needs

@@ -1,19 +1,13 @@
 use borrow.Author.Needs.{needs}
-use Rattle.record.proofs.Writing.{spelled-small, spelled-more, long, next}
+use Rattle.record.proofs.Writing.{spelled-small, spelled-more}
 use Rattle.record.specs.Writing.{lent}
-use Rattle.level.proofs.RecordOf.{bit-1, bit-2, bit-3, bit-4, bit-5, bit-past, bits-small, byte-below}
-use Rattle.level.specs.Written.{digit, spelled, recordBit, recordByte, recordOf}
-use Rattle.level.specs.Lists.{listOf}
-use lib.ListN.{length, getD, drop}
-use mathlib.Core.List.{List, _++_}
+use Rattle.level.proofs.RecordOf.{bits-small}
+use Rattle.level.specs.Written.{spelled, recordBit, recordByte}
 use native.Mathlib.Omega.{arith}
-use Prim.Native.Nat.{ℕ, suc, _-_, _+_, _*_, _/_, _%_, _^_, _≤_, _<_}
-use mathlib.Core.Path.{_≡_, refl, sym, ap, _∙_}
+use Prim.Native.Nat.{_-_, _+_, _*_, _≤_}
+use mathlib.Core.Path.{_≡_, refl}
 use Rattle.record.proofs.record_byte.Statement.{statement}
 use Rattle.record.proofs.record_byte.Tie as tie
-use Rattle.record.proofs.record_byte.Reads as reads
-use Rattle.record.proofs.record_byte.Lts as lts
-use Rattle.record.proofs.record_bit.Reads as record-bit-reads
 
 abbrev Inv-loop : tie.InvT-loop
 Inv-loop w h par tiles q v₀ i₀ v i = (i ≤ 8) × (v ≡ spelled i (λ j. recordBit (lent w h par tiles) (8 * q + j)))

@@ -1,11 +1,8 @@
-use mathlib.Core.Path.{_≡_, refl}
+use mathlib.Core.Path.{refl}
 use native.Mathlib.Omega.{arith}
-use borrow.Author.Needs.{needs}
 use Rattle.record.proofs.Tiles.{area-small}
 use Rattle.record.proofs.record_length.Statement.{statement}
 use Rattle.record.proofs.record_length.Tie as tie
-use Rattle.record.proofs.record_length.Reads as reads
-use Rattle.record.proofs.record_length.Lts as lts
 
 mul-result : tie.Need-mul-result
 mul-result c = omega (arith, area-small (c .args .w) (c .args .h) (c .pre .not-wider) (c .pre .not-higher))

@@ -1,15 +1,12 @@
-use Prim.Native.Nat.{ℕ, _+_, _-_, _≤_, _<_}
+use Prim.Native.Nat.{_+_, _-_, _≤_}
 use mathlib.Core.Path.{_≡_}
 use native.Mathlib.Omega.{arith}
 use lib.ListN.{length, getD, drop}
 use borrow.Author.Needs.{needs}
-use Rattle.level.specs.Tile.{totals, adds}
+use Rattle.level.specs.Tile.{totals}
 use Rattle.record.proofs.Tiles.{adds-small, split, empty, tallied}
 use Rattle.record.proofs.tally.Statement.{statement}
 use Rattle.record.proofs.tally.Tie as tie
-use Rattle.record.proofs.tally.Reads as reads
-use Rattle.record.proofs.tally.Lts as lts
-use Rattle.record.proofs.adds_of.Reads as adds-of-reads
 
 abbrev Inv-loop : tie.InvT-loop
 Inv-loop tiles p₀ c₀ g₀ i₀ p c g i =

@@ -1,6 +1,4 @@
 use native.Mathlib.Omega.{arith}
-use mathlib.Core.Path.{_≡_}
-use lib.ListN.{length}
 use borrow.Author.Tests.{not-true, not-false}
 use Rattle.errata.proofs.Sums.{said, denied}
 use Rattle.level.specs.Tile.{totals}
@@ -11,13 +9,6 @@ use Rattle.record.proofs.Answers.{refused-4, refused-7, refused-8, refu
 use borrow.Author.Needs.{needs}
 use Rattle.record.proofs.write.Statement.{statement}
 use Rattle.record.proofs.write.Tie as tie
-use Rattle.record.proofs.write.Reads as reads
-use Rattle.record.proofs.write.Lts as lts
-use Rattle.record.proofs.codes.Reads as codes-reads
-use Rattle.record.proofs.playable.Reads as playable-reads
-use Rattle.record.proofs.put_record.Reads as put-record-reads
-use Rattle.record.proofs.ranged.Reads as ranged-reads
-use Rattle.record.proofs.record_length.Reads as record-length-reads
 
 returns : tie.Need-returns
 returns c =

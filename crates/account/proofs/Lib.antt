@@ -1,4 +1,5 @@
 pub mod Lists
+pub mod Lanes
 pub mod Test
 pub mod Xor
 pub mod Product

@@ -1,4 +1,5 @@
 pub mod Lists
+pub mod Lanes
 pub mod Field
 pub mod Product
 pub mod Code

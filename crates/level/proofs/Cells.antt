@@ -11,12 +11,13 @@ use Rattle.account.specs.Code.{alphaTo, S, Clean}
 use Rattle.account.proofs.Test.{upto-at}
 use Rattle.account.proofs.Words.{five}
 use Rattle.gf256.specs.Gf256.{gf256}
+use Rattle.account.specs.Lanes.{lane}
 use Rattle.account.specs.Lists.{listOf}
 use Rattle.level.specs.Tile.{totals}
 use Rattle.level.specs.Level.{Level, IsLevel}
 use Rattle.level.specs.Record.{IsRecord}
 use Rattle.level.specs.Written.{spelled, recordBit, recordByte, recordOf}
-use Rattle.level.specs.Strip.{lane, IsStrip}
+use Rattle.level.specs.Strip.{IsStrip}
 use Rattle.level.specs.Cells.{All, table}
 use Rattle.level.proofs.RecordOf.{record-of}
 

@@ -1,5 +1,4 @@
 pub mod Bits
-pub mod Lanes
 pub mod Fields
 pub mod Strips
 pub mod Determined

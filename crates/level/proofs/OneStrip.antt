@@ -8,11 +8,12 @@ use lib.ListN.{length, getD, take}
 use lib.Seq.{ext-getD, getD-take, length-take-le}
 use Rattle.account.specs.Code.{Cells, Clean}
 use Rattle.gf256.specs.Gf256.{gf256}
+use Rattle.account.specs.Lanes.{lane}
 use Rattle.code.proofs.Theorems.{one-word-with-data}
 use Rattle.level.specs.Level.{Level, IsLevel}
 use Rattle.level.specs.Record.{recordLength, IsRecord}
-use Rattle.level.specs.Strip.{lane, columns, IsStrip}
-use Rattle.level.proofs.Lanes.{length-lane, bytes-lane, columns-of, ext-lanes}
+use Rattle.level.specs.Strip.{columns, IsStrip}
+use Rattle.account.proofs.Lanes.{length-lane, bytes-lane, columns-of, ext-lanes}
 use Rattle.level.proofs.Determined.{one-record}
 
 -- clean words with the same data in front are the same
@@ -56,4 +57,4 @@ module _ (R : ℕ) (some : 0 < R) (l : Level) (s t : List ℕ) (il : IsLevel l) 
   one-strip = ext-lanes R some s t (k + 5) (a .size) (b .size ∙ sym (a .size)) (λ j h.
       same-checks (lane R j s) (lane R j t) k (size j s (a .size)) (size j t (b .size)) short
       (λ i l. data-of s a j i h l ∙ ap (λ (x : List ℕ). getD x (R * i + j) 0) recs ∙ sym (data-of t b j i h l))
-      (bytes-lane R some j s h (a .bytes)) (bytes-lane R some j t h (b .bytes)) (a .clean j h) (b .clean j h))
+      (bytes-lane R some gf256 j s h (a .bytes)) (bytes-lane R some gf256 j t h (b .bytes)) (a .clean j h) (b .clean j h))

@@ -10,7 +10,7 @@ use lib.ListN.{length, getD}
 use Rattle.level.specs.Level.{Level, IsLevel}
 use Rattle.level.specs.Record.{bitAt, fieldAt, recordLength, IsRecord}
 use Rattle.level.specs.Written.{digit, spelled, recordBit, recordByte, recordOf}
-use Rattle.level.proofs.Lanes.{getD-past}
+use Rattle.account.proofs.Lanes.{getD-past}
 use Rattle.account.proofs.Lists.{length-listOf, getD-listOf}
 use Rattle.level.proofs.Strips.{lt-or-ge}
 use Rattle.level.proofs.Determined.{byte-field, bit-small}

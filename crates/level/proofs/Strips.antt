@@ -9,11 +9,12 @@ use lib.ListN.{length, getD}
 use Rattle.account.specs.Code.{Cells, Clean}
 use Rattle.account.specs.Reach.{Reach, countTo, differsAt, isMarked}
 use Rattle.gf256.specs.Gf256.{gf256}
+use Rattle.account.specs.Lanes.{lane}
 use Rattle.code.proofs.Theorems.{one-in-reach, none-at-six}
 use Rattle.level.specs.Level.{Level, IsLevel}
 use Rattle.level.specs.Record.{recordLength, IsRecord}
-use Rattle.level.specs.Strip.{lane, columns, IsStrip, StripReach, Reached, wrongIn, markedIn}
-use Rattle.level.proofs.Lanes.{length-lane, getD-lane, bytes-lane, cell, ext-lanes, getD-past, columns-of}
+use Rattle.level.specs.Strip.{columns, IsStrip, StripReach, Reached, wrongIn, markedIn}
+use Rattle.account.proofs.Lanes.{length-lane, getD-lane, bytes-lane, cell, ext-lanes, getD-past, columns-of}
 use Rattle.level.proofs.Fields.{same-bytes}
 
 -- below, or not
@@ -26,7 +27,7 @@ module _ (R : ℕ) (some : 0 < R) (marks s : List ℕ) (short : length s / R ≤
   same-strip l m t u a b =
       ext-lanes R some t u _ (a .is-strip .size) (b .reach .same-length ∙ sym (a .reach .same-length)) (λ j h.
       one-in-reach (lane R j marks) (lane R j s) (lane R j t) (lane R j u) (omega (arith, length-lane R some j s))
-      (bytes-lane R some j t h (a .is-strip .bytes)) (bytes-lane R some j u h (b .is-strip .bytes))
+      (bytes-lane R some gf256 j t h (a .is-strip .bytes)) (bytes-lane R some gf256 j u h (b .is-strip .bytes))
       (a .is-strip .clean j h) (b .is-strip .clean j h) (a .reach .each j h) (b .reach .each j h))
 
   -- a record has no bytes past its columns
@@ -72,6 +73,6 @@ module _ (R : ℕ) (some : 0 < R) (marks s : List ℕ) (short : length s / R ≤
       → 2 * wrongIn R marks s v j + markedIn R marks j ≡ 6 → Reached R marks s m t → ⊥
   six-refused l m v t j em st ev h six b =
       none-at-six (lane R j marks) (lane R j s) (lane R j v) (lane R j t) (omega (arith, length-lane R some j s))
-      (bytes-lane R some j v h (st .bytes)) (bytes-lane R some j t h (b .is-strip .bytes)) (st .clean j h) (b .is-strip .clean j h)
+      (bytes-lane R some gf256 j v h (st .bytes)) (bytes-lane R some gf256 j t h (b .is-strip .bytes)) (st .clean j h) (b .is-strip .clean j h)
       (length-lane R some j v ∙ ap (λ (n : ℕ). n / R) ev ∙ sym (length-lane R some j s))
       (rw (length-lane R some j s) (rw em at six)) (b .reach .each j h)

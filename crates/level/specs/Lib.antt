@@ -4,3 +4,4 @@ pub mod Record
 pub mod Written
 pub mod Strip
 pub mod Cells
+pub mod Reading

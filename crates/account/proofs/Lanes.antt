@@ -6,10 +6,10 @@ use native.Mathlib.Omega.{arith}
 use mathlib.Core.List.{List, [], _∷_}
 use lib.ListN.{length, getD}
 use lib.Seq.{ext-getD}
 use Rattle.account.specs.Code.{Cells}
-use Rattle.gf256.specs.Gf256.{gf256}
 use Rattle.account.proofs.Lists.{length-listOf, getD-listOf}
-use Rattle.level.specs.Strip.{lane}
+use Rattle.account.specs.Field.{Ops}
+use Rattle.account.specs.Lanes.{lane}
 
 -- past the end there is nothing
 pub getD-past : (l : List ℕ) (i : ℕ) → length l ≤ i → getD l i 0 ≡ 0
@@ -29,8 +29,8 @@ module _ (R : ℕ) (some : 0 < R) where
   pub cell-below : (N i j : ℕ) → j < R → i < N / R → R * i + j < N
   cell-below N i j hj hi = omega (arith, mul-div-le N R, mul-le-mul-left R hi, mul-suc R i)
 
-  pub bytes-lane : (j : ℕ) (s : List ℕ) → j < R → Cells gf256 s → Cells gf256 (lane R j s)
-  bytes-lane j s h b = record {
+  pub bytes-lane : (O : Ops) (j : ℕ) (s : List ℕ) → j < R → Cells O s → Cells O (lane R j s)
+  bytes-lane O j s h b = record {
     cell = λ i l.
         let k : i < length s / R = omega (arith, length-lane j s) in
         rw (getD-lane j s i k) (b .cell (R * i + j) (cell-below (length s) i j h k));

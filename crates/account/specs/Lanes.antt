@@ -1,0 +1,10 @@
+-- Cells dealt to R lanes: "Strip cell p is byte p div 4 of lane p mod 4."
+use Prim.Native.Nat.{ℕ, _+_, _*_, _/_}
+use mathlib.Core.List.{List}
+use lib.ListN.{length, getD}
+use Rattle.account.specs.Lists.{listOf}
+
+-- lane j of the cells s
+unfoldable pub lane : ℕ → ℕ → List ℕ → List ℕ
+unfolding listOf
+lane R j s = listOf (length s / R) (λ i. getD s (R * i + j) 0)

@@ -21,6 +21,18 @@ use Rattle.level.proofs.Fields.{same-bytes}
 pub lt-or-ge : (q n : ℕ) → (q < n) ⊎ (n ≤ q)
 lt-or-ge q n = ⊎-elim (λ e. inr (omega arith)) (λ h. inl (omega arith)) (eq-zero-or-pos (n - q))
 
+-- a record has no bytes past its columns
+pub within : (R : ℕ) → 0 < R → (B : ℕ) → B ≤ R * columns R B
+within R some B = omega (arith, div-add-mod (B + (R - 1)) R, mod-lt (B + (R - 1)) some)
+
+-- a strip's first cells are the record's bytes, and zeros after them
+pub laid-out : (R : ℕ) → 0 < R → (l : Level) (t : List ℕ) (st : IsStrip R l t) (q : ℕ) → q < R * columns R (length (st .bs)) → getD (st .bs) q 0 ≡ getD t q 0
+laid-out R some l t st q h =
+    sym (st .laid q h) ∙ cell R some t (columns R (recordLength (l .width) (l .height)) + 5) (st .size) q (omega (arith, st .size, more))
+  where
+    more : R * columns R (length (st .bs)) ≤ R * (columns R (recordLength (l .width) (l .height)) + 5)
+    more = rw (st .is-record .size) (mul-le-mul-left R (omega arith))
+
 module _ (R : ℕ) (some : 0 < R) (marks s : List ℕ) (short : length s / R ≤ 255) where
   -- both within reach: one strip
   pub same-strip : (l m : Level) (t u : List ℕ) → Reached R marks s l t → Reached R marks s m u → t ≡ u
@@ -29,18 +41,6 @@ module _ (R : ℕ) (some : 0 < R) (marks s : List ℕ) (short : length s / R ≤
       one-in-reach (lane R j marks) (lane R j s) (lane R j t) (lane R j u) (omega (arith, length-lane R some j s))
       (bytes-lane R some gf256 j t h (a .is-strip .bytes)) (bytes-lane R some gf256 j u h (b .is-strip .bytes))
       (a .is-strip .clean j h) (b .is-strip .clean j h) (a .reach .each j h) (b .reach .each j h))
-
-  -- a record has no bytes past its columns
-  within : (B : ℕ) → B ≤ R * columns R B
-  within B = omega (arith, div-add-mod (B + (R - 1)) R, mod-lt (B + (R - 1)) some)
-
-  -- the record's bytes, off the strip
-  laid-out : (l : Level) (t : List ℕ) (st : IsStrip R l t) (q : ℕ) → q < R * columns R (length (st .bs)) → getD (st .bs) q 0 ≡ getD t q 0
-  laid-out l t st q h =
-      sym (st .laid q h) ∙ cell R some t (columns R (recordLength (l .width) (l .height)) + 5) (st .size) q (omega (arith, st .size, more))
-    where
-      more : R * columns R (length (st .bs)) ≤ R * (columns R (recordLength (l .width) (l .height)) + 5)
-      more = rw (st .is-record .size) (mul-le-mul-left R (omega arith))
 
   -- "no other level has a strip of that length within reach"
   pub one-level : (l m : Level) (t u : List ℕ) → Reached R marks s l t → Reached R marks s m u → l ≡ m
@@ -63,10 +63,10 @@ module _ (R : ℕ) (some : 0 < R) (marks s : List ℕ) (short : length s / R ≤
           rw (a .is-strip .is-record .size, b .is-strip .is-record .size) (omega arith)
 
       go : (q : ℕ) → (q < R * columns R (length xs)) ⊎ (R * columns R (length xs) ≤ q) → getD xs q 0 ≡ getD ys q 0
-      go q (inl h) = laid-out l t (a .is-strip) q h ∙ ap (λ (x : List ℕ). getD x q 0) strips ∙ sym (laid-out m u (b .is-strip) q (rw (← wide) h))
+      go q (inl h) = laid-out R some l t (a .is-strip) q h ∙ ap (λ (x : List ℕ). getD x q 0) strips ∙ sym (laid-out R some m u (b .is-strip) q (rw (← wide) h))
       go q (inr h) =
-          getD-past xs q (omega (arith, within (length xs)))
-          ∙ sym (getD-past ys q (omega (arith, within (length ys), ap (λ (k : ℕ). R * k) wide)))
+          getD-past xs q (omega (arith, within R some (length xs)))
+          ∙ sym (getD-past ys q (omega (arith, within R some (length ys), ap (λ (k : ℕ). R * k) wide)))
 
   -- "Whenever the sum .. counted against some strip of that length that we wrote, is 6 in at least one lane, the picture is refused."
   pub six-refused : (l m : Level) (v t : List ℕ) (j : ℕ) → length marks ≡ length s → IsStrip R l v → length v ≡ length s → j < R

@@ -1,0 +1,169 @@
+-- What passes refusals 7 to 10 is a level's record with its filling, and a level's record with its filling passes.
+use mathlib.Core.Path.{_≡_, refl, sym, ap, ap₂, _∙_, subst}
+use Prim.Native.Nat.{ℕ, zero, suc, _+_, _*_, _-_, _/_, _%_, _^_, _≤_, _<_}
+use native.Mathlib.Nat.{zero-div}
+use native.Mathlib.Omega.{arith}
+use mathlib.Core.List.{List}
+use mathlib.Core.Logic.{_⊎_, inl, inr}
+use lib.ListN.{length, getD, take}
+use lib.Seq.{getD-take, ext-getD, length-take-le}
+use Rattle.account.specs.Code.{Cells}
+use Rattle.account.specs.Lists.{listOf}
+use Rattle.gf256.specs.Gf256.{gf256}
+use Rattle.account.proofs.Lists.{length-listOf, getD-listOf}
+use Rattle.account.proofs.Lanes.{getD-past}
+use Rattle.level.specs.Tile.{totals}
+use Rattle.level.specs.Level.{Level, IsLevel, Playable, AllTiles, Sized}
+use Rattle.level.specs.Record.{bitAt, fieldAt, recordLength, IsRecord}
+use Rattle.level.specs.Strip.{columns}
+use Rattle.level.specs.Reading.{tilesIn, tilesOf, levelOf, Headed, Shaped}
+use Rattle.level.proofs.Bits.{bit-of}
+use Rattle.level.proofs.Strips.{lt-or-ge, within}
+use Rattle.level.proofs.Fields.{same-level}
+
+pub length-tiles : (bs : List ℕ) (n : ℕ) → length (tilesIn bs n) ≡ n
+unfolding tilesIn
+length-tiles bs n = length-listOf n (λ i. fieldAt bs (24 + 3 * i) 3)
+
+pub getD-tiles : (bs : List ℕ) (n i : ℕ) → i < n → getD (tilesIn bs n) i 0 ≡ fieldAt bs (24 + 3 * i) 3
+unfolding tilesIn
+getD-tiles bs n i h = getD-listOf n (λ k. fieldAt bs (24 + 3 * k) 3) i h
+
+-- fields of runs that agree on their first N bytes
+module _ (xs ys : List ℕ) (N : ℕ) (same : (q : ℕ) → q < N → getD xs q 0 ≡ getD ys q 0) where
+  pub bit-front : (p : ℕ) → p < 8 * N → bitAt xs p ≡ bitAt ys p
+  unfolding bitAt
+  bit-front p h = ap (λ (x : ℕ). x / 2 ^ (7 - p % 8) % 2) (same (p / 8) (omega arith))
+
+  pub field-front : (p n : ℕ) → p + n ≤ 8 * N → fieldAt xs p n ≡ fieldAt ys p n
+  unfolding fieldAt
+  field-front p zero h = refl
+  field-front p (suc n) h = ap₂ (λ (x y : ℕ). 2 * x + y) (field-front p n (omega arith)) (bit-front (p + n) (omega arith))
+
+-- a byte without a bit is 0
+zero-byte : (bs : List ℕ) (q : ℕ) → getD bs q 0 < 256 → ((p : ℕ) → 8 * q ≤ p → p < 8 * q + 8 → bitAt bs p ≡ 0) → getD bs q 0 ≡ 0
+zero-byte bs q small none = go (getD bs q 0) small (λ i h. sym (bit-of bs q i h) ∙ none (8 * q + i) (omega arith) (omega arith))
+  where
+    go : (x : ℕ) → x < 256 → ((i : ℕ) → i < 8 → x / 2 ^ (7 - i) % 2 ≡ 0) → x ≡ 0
+    go x h at =
+        let a : x < 128 = omega (arith, at 0 (omega arith)) in
+        let b : x < 64 = omega (arith, at 1 (omega arith)) in
+        let c : x < 32 = omega (arith, at 2 (omega arith)) in
+        let d : x < 16 = omega (arith, at 3 (omega arith)) in
+        let e : x < 8 = omega (arith, at 4 (omega arith)) in
+        let f : x < 4 = omega (arith, at 5 (omega arith)) in
+        let g : x < 2 = omega (arith, at 6 (omega arith)) in
+        omega (arith, at 7 (omega arith))
+
+-- and the other way
+zero-bit : (bs : List ℕ) (p : ℕ) → getD bs (p / 8) 0 ≡ 0 → bitAt bs p ≡ 0
+unfolding bitAt
+zero-bit bs p e = ap (λ (x : ℕ). x / 2 ^ (7 - p % 8) % 2) e ∙ ap (λ (x : ℕ). x % 2) (zero-div (2 ^ (7 - p % 8)))
+
+module _ (R : ℕ) (some : 0 < R) (bs : List ℕ) (by : Cells gf256 bs) (sh : Shaped R bs) where
+  abbrev m : ℕ
+  m = fieldAt bs 4 5 * fieldAt bs 9 5
+
+  abbrev B : ℕ
+  B = recordLength (fieldAt bs 4 5) (fieldAt bs 9 5)
+
+  room : B ≤ length bs
+  room = omega (arith, sh .fits, within R some B)
+
+  pub front : length (take B bs) ≡ B
+  front = length-take-le B bs room
+
+  same-front : (q : ℕ) → q < B → getD (take B bs) q 0 ≡ getD bs q 0
+  same-front q h = getD-take B bs q 0 h
+
+  fld : (p n : ℕ) → p + n ≤ 8 * B → fieldAt (take B bs) p n ≡ fieldAt bs p n
+  fld p n h = field-front (take B bs) bs B same-front p n h
+
+  -- its record is in front
+  pub spelled-record : Headed bs → IsRecord (levelOf bs) (take B bs)
+  spelled-record hd = record {
+    bytes = record { cell = λ j h. let k : j < B = omega (arith, front) in rw (same-front j k) (by .cell j (omega (arith, room))) };
+    size = front;
+    version = fld 0 4 (omega arith) ∙ hd .version;
+    width = fld 4 5 (omega arith);
+    height = fld 9 5 (omega arith);
+    par = fld 14 10 (omega arith);
+    tile = λ i h. let k : i < m = omega (arith, length-tiles bs m) in fld (24 + 3 * i) 3 (omega arith) ∙ sym (getD-tiles bs m i k);
+    filling = λ p h k.
+        bit-front (take B bs) bs B same-front p (omega (arith, front)) ∙ sh .filling p (omega (arith, length-tiles bs m)) (omega (arith, front, room));
+  }
+
+  -- and zero bytes past it
+  pub filled : (q : ℕ) → q < length bs → getD bs q 0 ≡ getD (take B bs) q 0
+  filled q h = go (lt-or-ge q B)
+    where
+      go : (q < B) ⊎ (B ≤ q) → getD bs q 0 ≡ getD (take B bs) q 0
+      go (inl k) = sym (same-front q k)
+      go (inr k) = zero-byte bs q (by .cell q h) (λ p a b. sh .filling p (omega arith) (omega arith)) ∙ sym (getD-past (take B bs) q (omega (arith, front)))
+
+pub spelled-level : (bs : List ℕ) → Headed bs → AllTiles (tilesOf bs) → Playable (totals (tilesOf bs)) → IsLevel (levelOf bs)
+spelled-level bs hd al pl = record {
+  sized = hd .sized;
+  par-small = hd .par-small;
+  count = length-tiles bs (fieldAt bs 4 5 * fieldAt bs 9 5);
+  codes = al;
+  playable = pl;
+}
+
+-- nothing to refuse, and the level l is spelled
+pub record Passes (R : ℕ) (bs : List ℕ) (l : Level) : Type 0 where
+  pub level : levelOf bs ≡ l
+  pub headed : Headed bs
+  pub shaped : Shaped R bs
+  pub tiles : AllTiles (tilesOf bs)
+  pub playable : Playable (totals (tilesOf bs))
+
+-- the record of a level with zero bytes after it passes
+module _ (R : ℕ) (some : 0 < R) (l : Level) (rec bs : List ℕ) (il : IsLevel l) (is : IsRecord l rec)
+    (size : length bs ≡ R * columns R (length rec)) (same : (q : ℕ) → q < length bs → getD rec q 0 ≡ getD bs q 0) where
+  m' : ℕ
+  m' = l .width * l .height
+
+  long : recordLength (l .width) (l .height) ≤ length bs
+  long = omega (arith, size, is .size, within R some (length rec))
+
+  fld' : (p n : ℕ) → p + n ≤ 8 * length bs → fieldAt bs p n ≡ fieldAt rec p n
+  fld' p n h = sym (field-front rec bs (length bs) same p n h)
+
+  wide : fieldAt bs 4 5 ≡ l .width
+  wide = fld' 4 5 (omega (arith, long)) ∙ is .width
+
+  high : fieldAt bs 9 5 ≡ l .height
+  high = fld' 9 5 (omega (arith, long)) ∙ is .height
+
+  area : fieldAt bs 4 5 * fieldAt bs 9 5 ≡ l .width * l .height
+  area = ap₂ (λ (x y : ℕ). x * y) wide high
+
+  e : levelOf bs ≡ l
+  e = same-level (levelOf bs) l wide high
+      (fld' 14 10 (omega (arith, long)) ∙ is .par)
+      (ap (tilesIn bs) area ∙ ext-getD 0 (tilesIn bs (l .width * l .height)) (l .tiles) (length-tiles bs (l .width * l .height) ∙ sym (il .count)) (λ i k.
+      let j : i < l .width * l .height = omega (arith, length-tiles bs (l .width * l .height)) in
+      getD-tiles bs (l .width * l .height) i j ∙ fld' (24 + 3 * i) 3 (omega (arith, long)) ∙ is .tile i (omega (arith, il .count))))
+
+  fill : (p : ℕ) → 24 + 3 * (l .width * l .height) ≤ p → (p < 8 * length rec) ⊎ (8 * length rec ≤ p) → bitAt rec p ≡ 0
+  fill p k (inl a) = is .filling p (omega (arith, il .count)) a
+  fill p k (inr a) = zero-bit rec p (getD-past rec (p / 8) (omega arith))
+
+  pub record-passes : Passes R bs l
+  record-passes = record {
+    level = e;
+    headed = record {
+      version = fld' 0 4 (omega (arith, long)) ∙ is .version;
+      sized = subst (λ (x : Level). Sized (x .width) (x .height)) (sym e) (il .sized);
+      par-small = subst (λ (x : Level). x .par ≤ 1023) (sym e) (il .par-small);
+    };
+    shaped = record {
+      fits = subst (λ (x : Level). length bs ≡ R * columns R (recordLength (x .width) (x .height))) (sym e) (size ∙ ap (λ (n : ℕ). R * columns R n) (is .size));
+      filling = λ p h k.
+          sym (bit-front rec bs (length bs) same p k)
+          ∙ fill p (subst (λ (x : Level). 24 + 3 * (x .width * x .height) ≤ p) e h) (lt-or-ge p (8 * length rec));
+    };
+    tiles = subst (λ (x : Level). AllTiles (x .tiles)) (sym e) (il .codes);
+    playable = subst (λ (x : Level). Playable (totals (x .tiles))) (sym e) (il .playable);
+  }

@@ -54,3 +54,7 @@ lanes-each s i r R = lanes-to s i (getD r 0 0) (getD r 1 0) (getD r 2 0) (getD r
 
 pub lanes-end : (s : List ℕ) (i : ℕ) (r : List ℕ) → length s / 4 ≤ i → LanesTo i s r → LanesRemain s r
 lanes-end s i r l R j h = ends (lane 4 j s) i (getD r j 0) (omega (arith, length-lane 4 (omega arith) j s)) (R j h)
+
+pub lanes-small : (s r : List ℕ) → LanesRemain s r
+    → (getD r 0 0 < 1099511627776) × (getD r 1 0 < 1099511627776) × (getD r 2 0 < 1099511627776) × (getD r 3 0 < 1099511627776)
+lanes-small s r R = (R 0 (omega arith) .small, R 1 (omega arith) .small, R 2 (omega arith) .small, R 3 (omega arith) .small)

@@ -4,36 +4,36 @@ use borrow.Author.Needs.{needs}
 use lib.ListN.{getD}
 use Rattle.account.specs.Lanes.{lane}
 use Rattle.remainder.specs.Remainder.{Checks}
-use Rattle.remainder.proofs.LanesOf.{four}
+use Rattle.remainder.proofs.LanesOf.{four, lanes-small}
 use Rattle.remainder.proofs.lane_checks.Statement.{statement}
 use Rattle.remainder.proofs.lane_checks.Tie as tie
 
 of-lanes-requires : tie.Need-of-lanes-requires
-of-lanes-requires c κs = search needs
+of-lanes-requires c κs = c .before .pre
 
 array-read-finish : tie.Need-array-read-finish
 array-read-finish c = search needs
 
 finish-requires : tie.Need-finish-requires
-finish-requires c κs = (c .before .before .pre, c .of-lanes .ensures 0 (omega arith) .small)
+finish-requires c κs = (c .before .before .pre, omega (arith, lanes-small (c .before .before .args .«data» .now) (c .of-lanes .result) (c .of-lanes .ensures)))
 
 array-read-finish-2 : tie.Need-array-read-finish-2
 array-read-finish-2 c = search needs
 
 finish-requires-2 : tie.Need-finish-requires-2
-finish-requires-2 c κs = (c .before .before .before .pre, c .before .of-lanes .ensures 1 (omega arith) .small)
+finish-requires-2 c κs = (c .before .before .before .pre, omega (arith, lanes-small (c .before .before .before .args .«data» .now) (c .before .of-lanes .result) (c .before .of-lanes .ensures)))
 
 array-read-finish-3 : tie.Need-array-read-finish-3
 array-read-finish-3 c = search needs
 
 finish-requires-3 : tie.Need-finish-requires-3
-finish-requires-3 c κs = (c .before .before .before .before .pre, c .before .before .of-lanes .ensures 2 (omega arith) .small)
+finish-requires-3 c κs = (c .before .before .before .before .pre, omega (arith, lanes-small (c .before .before .before .before .args .«data» .now) (c .before .before .of-lanes .result) (c .before .before .of-lanes .ensures)))
 
 array-read-finish-4 : tie.Need-array-read-finish-4
 array-read-finish-4 c = search needs
 
 finish-requires-4 : tie.Need-finish-requires-4
-finish-requires-4 c κs = (c .before .before .before .before .before .pre, c .before .before .before .of-lanes .ensures 3 (omega arith) .small)
+finish-requires-4 c κs = (c .before .before .before .before .before .pre, omega (arith, lanes-small (c .before .before .before .before .before .args .«data» .now) (c .before .before .before .of-lanes .result) (c .before .before .before .of-lanes .ensures)))
 
 returns : tie.Need-returns
 returns c =

@@ -78,11 +78,12 @@ field-append bs p m n =
     (field-is bs (p + m) n (λ i. bitAt bs (p + (m + i))) (λ i l. let z : p + m + i ≡ p + (m + i) = omega arith in ap (bitAt bs) z)))
 
 -- a field across the end of a byte
-pub across : (bs : List ℕ) (q i m n k : ℕ) → i + m ≡ 8 → n + k ≡ 8 → fieldAt bs (8 * q + i) (m + n) ≡ getD bs q 0 / 2 ^ 0 % 2 ^ m * 2 ^ n + getD bs (suc q) 0 / 2 ^ k % 2 ^ n
-across bs q i m n k a b =
+pub across : (bs : List ℕ) (q r i m n k : ℕ) → r ≡ q + 1 → i + m ≡ 8 → n + k ≡ 8
+    → fieldAt bs (8 * q + i) (m + n) ≡ getD bs q 0 / 2 ^ 0 % 2 ^ m * 2 ^ n + getD bs r 0 / 2 ^ k % 2 ^ n
+across bs q r i m n k e a b =
     field-append bs (8 * q + i) m n
     ∙ ap₂ (λ (x y : ℕ). x * 2 ^ n + y) (within-byte bs q i m 0 (omega arith))
-    (let z : 8 * q + i + m ≡ 8 * suc q + 0 = omega arith in ap (λ (p : ℕ). fieldAt bs p n) z ∙ within-byte bs (suc q) 0 n k (omega arith))
+    (let z : 8 * q + i + m ≡ 8 * r + 0 = omega arith in ap (λ (p : ℕ). fieldAt bs p n) z ∙ within-byte bs r 0 n k (omega arith))
 
 -- the part of a run of bytes that starts with byte k
 module _ (bs part : List ℕ) (k : ℕ) (same : (q : ℕ) → getD part q 0 ≡ getD bs (k + q) 0) where

@@ -4,6 +4,7 @@ pub mod Strips
 pub mod Determined
 pub mod OneStrip
 pub mod RecordOf
+pub mod Windows
 pub mod Judged
 pub mod Mended
 pub mod Cells

@@ -1,4 +1,6 @@
-pub mod Writing
 pub mod Tiles
+pub mod Reading
+pub mod Judging
+pub mod Writing
 pub mod Answers
 pub mod Theorems

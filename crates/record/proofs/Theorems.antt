@@ -15,6 +15,7 @@ use Rattle.code.specs.Word.{writtenNumbers}
 use Rattle.code.specs.declared.word.Written.{Written}
 use Rattle.code.proofs.Theorems.{first-fixes, decided, either, written-zero}
 use Rattle.record.specs.Writing.{lent, writingLevel, RecordWritesAs}
+use Rattle.record.proofs.Answers.{lent-level}
 
 -- The promise of the writer fixes every number and byte.
 pub record-writes-fixed : (w h par : ℕ) (tiles old u v : List ℕ) (a b : Written) → RecordWritesAs w h par tiles old u a → RecordWritesAs w h par tiles old v b
@@ -48,8 +49,4 @@ written-is-level w h par tiles old new a A z = go (A .code)
   where
     go : First (writingLevel 364 w h par tiles (length old)) (writtenNumbers a .code) → IsLevel (lent w h par tiles)
     go (inl p) = absurd (omega (arith, z, p .1))
-    go (inr (r, inl p)) = absurd (omega (arith, z, p .1))
-    go (inr (r, inr (s, inl p))) = absurd (omega (arith, z, p .1))
-    go (inr (r, inr (s, inr (t, inl p)))) = absurd (omega (arith, z, p .1))
-    go (inr (r, inr (s, inr (t, inr (k, inl p))))) = absurd (omega (arith, z, p .1))
-    go (inr (r, inr (s, inr (t, inr (k, inr (y, p)))))) = record { sized = s .sized; par-small = s .par-small; count = t; codes = k; playable = y }
+    go (inr p) = lent-level w h par tiles (writtenNumbers a .code) z (p .1)

@@ -1,13 +1,18 @@
--- Tiles, one after the other.
+-- Tiles, and what they add.
 use mathlib.Core.Path.{_≡_, refl}
-use mathlib.Core.List.{List}
-use Prim.Native.Nat.{ℕ, zero, suc, _+_, _*_, _≤_, _<_}
+use mathlib.Core.Logic.{_⊎_, inl, inr}
+use mathlib.Core.List.{List, [], _∷_}
+use Prim.Native.Nat.{ℕ, zero, suc, _+_, _*_, _/_, _%_, _≤_, _<_}
 use native.Mathlib.Nat.{mul-le-mul}
 use native.Mathlib.Numerals.{add-one}
 use native.Mathlib.Omega.{arith}
+use borrow.Author.Tests.{lt-ltb, le-ltb}
 use lib.ListN.{length, getD, drop}
 use lib.Seq.{drop-cons, drop-length}
-use Rattle.level.specs.Tile.{Row, adds, totals}
+use Rattle.level.specs.Tile.{adds, totals}
+use Rattle.level.specs.Level.{AllTiles}
+use Rattle.level.proofs.Strips.{lt-or-ge}
+use Rattle.record.specs.Sum.{packed, weighed, weight, Packs}
 
 -- rows are small
 pub adds-small : (t : ℕ) → (adds t .player ≤ 1) × (adds t .crate' ≤ 1) × (adds t .goal ≤ 1)
@@ -20,24 +25,99 @@ adds-small (suc (suc (suc (suc (suc zero))))) = (omega arith, omega arith, omega
 adds-small (suc (suc (suc (suc (suc (suc zero)))))) = (omega arith, omega arith, omega arith)
 adds-small (suc (suc (suc (suc (suc (suc (suc c))))))) = (omega arith, omega arith, omega arith)
 
--- the row of what is left is the next tile's and that of the rest
-pub record Splits (row rest all : Row) : Type 0 where
-  pub players : all .player ≡ row .player + rest .player
-  pub crates : all .crate' ≡ row .crate' + rest .crate'
-  pub goals : all .goal ≡ row .goal + rest .goal
+-- what is no tile code adds nothing
+adds-none : (t : ℕ) → 7 ≤ t → (adds t .player ≡ 0) × (adds t .crate' ≡ 0) × (adds t .goal ≡ 0)
+adds-none zero h = absurd (omega arith)
+adds-none (suc zero) h = absurd (omega arith)
+adds-none (suc (suc zero)) h = absurd (omega arith)
+adds-none (suc (suc (suc zero))) h = absurd (omega arith)
+adds-none (suc (suc (suc (suc zero)))) h = absurd (omega arith)
+adds-none (suc (suc (suc (suc (suc zero))))) h = absurd (omega arith)
+adds-none (suc (suc (suc (suc (suc (suc zero)))))) h = absurd (omega arith)
+adds-none (suc (suc (suc (suc (suc (suc (suc c))))))) h = (refl, refl, refl)
 
-pub split : (ts : List ℕ) (i : ℕ) → i < length ts → Splits (adds (getD ts i 0)) (totals (drop (i + 1) ts)) (totals (drop i ts))
-unfolding totals
-split ts i h = rw (add-one, drop-cons ts i 0) (record { players = refl; crates = refl; goals = refl })
+pub weighed-in : (t : ℕ) → t < 7 → weighed t ≡ packed (adds t)
+weighed-in t h = rw (lt-ltb t 7 h)
 
-pub empty : (ts : List ℕ) (i : ℕ) → i ≡ length ts → (totals (drop i ts) .player ≡ 0) × (totals (drop i ts) .crate' ≡ 0) × (totals (drop i ts) .goal ≡ 0)
-unfolding totals
-empty ts i h = rw (h, drop-length) (refl, refl, refl)
+pub weighed-out : (t : ℕ) → 7 ≤ t → weighed t ≡ 281474976710656
+weighed-out t h = rw (le-ltb t 7 h)
 
--- one tile more, in a sum
-pub tallied : (ts : List ℕ) (i p x : ℕ) (f : Row → ℕ) → f (totals (drop i ts)) ≡ f (adds (getD ts i 0)) + f (totals (drop (i + 1) ts)) → x ≡ f (adds (getD ts i 0))
-    → p + f (totals (drop i ts)) ≡ f (totals ts) → p + x + f (totals (drop (i + 1) ts)) ≡ f (totals ts)
-tallied ts i p x f sp e old = omega arith
+pub weighed-small : (t : ℕ) → weighed t ≤ 281474976710656
+weighed-small t = go (lt-or-ge t 7)
+  where
+    go : (t < 7) ⊎ (7 ≤ t) → weighed t ≤ 281474976710656
+    go (inl h) = omega (arith, weighed-in t h, adds-small t)
+    go (inr h) = omega (arith, weighed-out t h)
+
+pub packs : (a b c d e f g : ℕ) → a ≡ packed (adds 0) → b ≡ packed (adds 1) → c ≡ packed (adds 2) → d ≡ packed (adds 3) → e ≡ packed (adds 4)
+    → f ≡ packed (adds 5) → g ≡ packed (adds 6) → Packs (a ∷ b ∷ c ∷ d ∷ e ∷ f ∷ g ∷ 281474976710656 ∷ [])
+packs a b c d e f g ea eb ec ed ee ef eg = record { row-at = go; other = refl }
+  where
+    go : (t : ℕ) → t < 7 → getD (a ∷ b ∷ c ∷ d ∷ e ∷ f ∷ g ∷ 281474976710656 ∷ []) t 0 ≡ packed (adds t)
+    go zero h = ea
+    go (suc zero) h = eb
+    go (suc (suc zero)) h = ec
+    go (suc (suc (suc zero))) h = ed
+    go (suc (suc (suc (suc zero)))) h = ee
+    go (suc (suc (suc (suc (suc zero))))) h = ef
+    go (suc (suc (suc (suc (suc (suc zero)))))) h = eg
+    go (suc (suc (suc (suc (suc (suc (suc t))))))) h = absurd (omega arith)
+
+-- one tile after the other
+pub weight-next : (ts : List ℕ) (i : ℕ) → i < length ts → weight (drop i ts) ≡ weighed (getD ts i 0) + weight (drop (i + 1) ts)
+unfolding weight
+weight-next ts i h = rw (add-one, drop-cons ts i 0) refl
+
+pub weight-end : (ts : List ℕ) (i : ℕ) → i ≡ length ts → weight (drop i ts) ≡ 0
+unfolding weight
+weight-end ts i h = rw (h, drop-length) refl
+
+-- what the sum is made of
+record Counts (ts : List ℕ) : Type 0 where
+  above : ℕ
+  sum : weight ts ≡ packed (totals ts) + 281474976710656 * above
+  right : above ≡ 0 → AllTiles ts
+  wrong : AllTiles ts → above ≡ 0
+  few : (totals ts .player ≤ length ts) × (totals ts .crate' ≤ length ts) × (totals ts .goal ≤ length ts)
+
+more : (t : ℕ) (ts : List ℕ) → Counts ts → (t < 7) ⊎ (7 ≤ t) → Counts (t ∷ ts)
+unfolding weight totals
+more t ts r (inl h) = record {
+  above = r .above;
+  sum = omega (arith, weighed-in t h, r .sum);
+  right = λ z. all (r .right z);
+  wrong = λ f. r .wrong (λ i l. f (suc i) (omega arith));
+  few = (omega (arith, adds-small t, r .few), omega (arith, adds-small t, r .few), omega (arith, adds-small t, r .few));
+}
+  where
+    all : AllTiles ts → AllTiles (t ∷ ts)
+    all f zero l = omega arith
+    all f (suc i) l = f i (omega arith)
+more t ts r (inr h) = record {
+  above = suc (r .above);
+  sum = omega (arith, weighed-out t h, adds-none t h, r .sum);
+  right = λ z. absurd (omega arith);
+  wrong = λ f. absurd (omega (arith, f 0 (omega arith)));
+  few = (omega (arith, adds-small t, r .few), omega (arith, adds-small t, r .few), omega (arith, adds-small t, r .few));
+}
+
+counts : (ts : List ℕ) → Counts ts
+unfolding weight totals
+counts [] = record { above = 0; sum = refl; right = λ z i l. absurd (omega arith); wrong = λ f. refl; few = (omega arith, omega arith, omega arith) }
+counts (t ∷ ts) = more t ts (counts ts) (lt-or-ge t 7)
+
+module _ (ts : List ℕ) (x : ℕ) (short : length ts ≤ 961) (e : x ≡ weight ts) where
+  top : x / 281474976710656 ≡ counts ts .above
+  top = omega (arith, e, counts ts .sum, counts ts .few)
+
+  pub all-tiles : x / 281474976710656 ≡ 0 → AllTiles ts
+  all-tiles z = counts ts .right (omega (arith, top, z))
+
+  pub not-all : (x / 281474976710656 ≡ 0 → ⊥) → AllTiles ts → ⊥
+  not-all n f = n (omega (arith, top, counts ts .wrong f))
+
+  pub sums : x / 281474976710656 ≡ 0 → (x % 65536 ≡ totals ts .player) × (x / 65536 % 65536 ≡ totals ts .crate') × (x / 4294967296 ≡ totals ts .goal)
+  sums z = (omega (arith, e, counts ts .sum, counts ts .few, top, z), omega (arith, e, counts ts .sum, counts ts .few, top, z), omega (arith, e, counts ts .sum, counts ts .few, top, z))
 
 -- a board has at most 961 tiles
 pub area-small : (w h : ℕ) → w ≤ 31 → h ≤ 31 → w * h ≤ 961

@@ -1,2 +1,3 @@
 pub mod Sum
 pub mod Writing
+pub mod Reading

@@ -1,15 +1,15 @@
 -- Writing a record.
 use mathlib.Core.Path.{_≡_}
-use mathlib.Core.List.{List, [], _∷_, _++_}
+use mathlib.Core.List.{List, _∷_, _++_}
 use Prim.Native.Nat.{ℕ, _*_, _≤_}
 use lib.ListN.{length, drop}
-use Rattle.level.specs.Tile.{totals}
-use Rattle.level.specs.Level.{Level, Sized, AllTiles, Playable}
+use Rattle.level.specs.Level.{Level, Sized}
 use Rattle.level.specs.Record.{recordLength}
 use Rattle.level.specs.Written.{recordOf}
 use Rattle.code.specs.Refusal.{Rule, unless, First}
 use Rattle.code.specs.Word.{writtenNumbers}
 use Rattle.code.specs.declared.word.Written.{Written}
+use Rattle.record.specs.Sum.{boarding}
 
 -- "The record and strip writers take width, height, par, tiles"
 abbrev pub lent : ℕ → ℕ → ℕ → List ℕ → Level
@@ -20,11 +20,13 @@ pub record Ranged (w h par : ℕ) : Type 0 where
   pub sized : Sized w h
   pub par-small : par ≤ 1023
 
--- 4: a buffer of fewer than `least` bytes; 7; 8: "lent tiles not width times height"; 9: "a tile code above 6"; 10: "not one player, no crate,
--- or crates and goals unequal"
+-- 7; 8: "lent tiles not width times height"; 9; 10
+abbrev pub lending : ℕ → ℕ → ℕ → List ℕ → List Rule
+lending w h par tiles = unless 7 (Ranged w h par) ∷ unless 8 (length tiles ≡ w * h) ∷ boarding tiles
+
+-- 4: a buffer of fewer than `least` bytes
 abbrev pub writingLevel : ℕ → ℕ → ℕ → ℕ → List ℕ → ℕ → List Rule
-writingLevel least w h par tiles room =
-    unless 4 (least ≤ room) ∷ unless 7 (Ranged w h par) ∷ unless 8 (length tiles ≡ w * h) ∷ unless 9 (AllTiles tiles) ∷ unless 10 (Playable (totals tiles)) ∷ []
+writingLevel least w h par tiles room = unless 4 (least ≤ room) ∷ lending w h par tiles
 
 -- the record in front, its length returned; what is past it keeps its value
 pub record RecordWritesAs (w h par : ℕ) (tiles old new : List ℕ) (a : Written) : Type 0 where

@@ -1,0 +1,40 @@
+-- Reading a record.
+use mathlib.Core.Path.{_≡_}
+use mathlib.Core.List.{List, [], _∷_}
+use Prim.Native.Nat.{ℕ, _+_, _*_, _/_, _%_, _<_}
+use lib.ListN.{getD, take}
+use Rattle.level.specs.Record.{fieldAt}
+use Rattle.level.specs.Reading.{tilesOf, judging}
+use Rattle.code.specs.Refusal.{First}
+use Rattle.record.specs.declared.Head.{Head}
+use Rattle.record.specs.declared.Judged.{Judged}
+
+-- ---- parts
+
+pub record Heads (bs : List ℕ) (r : Head) : Type 0 where
+  pub version : r .version ≡ fieldAt bs 0 4
+  pub width : r .width ≡ fieldAt bs 4 5
+  pub height : r .height ≡ fieldAt bs 9 5
+  pub par : r .par ≡ fieldAt bs 14 10
+
+-- the eight tiles in three bytes
+abbrev pub eight : ℕ → ℕ → ℕ → List ℕ
+eight x y z = (x / 32) ∷ (x / 4 % 8) ∷ (x % 4 * 2 + y / 128) ∷ (y / 16 % 8) ∷ (y / 2 % 8) ∷ (y % 2 * 4 + z / 64) ∷ (z / 8 % 8) ∷ (z % 8) ∷ []
+
+pub record Unpacks (part : List ℕ) (m : ℕ) (board : List ℕ) : Type 0 where
+  pub tile : (i : ℕ) → i < m → getD board i 0 ≡ fieldAt part (3 * i) 3
+
+abbrev pub without : ℕ → Judged
+without code = record { code = code; width = 0; height = 0; par = 0 }
+
+-- what bytes that are not refused spell, their tiles in front of a board
+pub record Spells (bs board : List ℕ) (r : Judged) : Type 0 where
+  pub width : r .width ≡ fieldAt bs 4 5
+  pub height : r .height ≡ fieldAt bs 9 5
+  pub par : r .par ≡ fieldAt bs 14 10
+  pub tiles : take (r .width * r .height) board ≡ tilesOf bs
+
+pub record JudgedAs (lanes : ℕ) (bs board : List ℕ) (r : Judged) : Type 0 where
+  pub first : First (judging lanes (λ ask. ask bs)) (r .code)
+  pub spells : r .code ≡ 0 → Spells bs board r
+  pub none : (r .code ≡ 0 → ⊥) → r ≡ without (r .code)

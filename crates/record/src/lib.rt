@@ -211,7 +211,7 @@ fn record_byte(w: usize, h: usize, par: usize, tiles: &[u8], q: usize) -> usize
 }
 
 // The record, in the first bytes of a buffer.
-fn put_record(w: usize, h: usize, par: usize, tiles: &[u8], n: usize, out: &mut [u8])
+pub fn put_record(w: usize, h: usize, par: usize, tiles: &[u8], n: usize, out: &mut [u8])
     requires { ⌜ (n ≡ recordLength w h) × (n ≤ 364) × (n ≤ length (now out)) ⌝ }
     ensures { λ _. ⌜ now (out .exit) ≡ recordOf (lent w h par (now (tiles .entry))) ++ drop n (now (out .entry)) ⌝ }
 {
@@ -223,7 +223,7 @@ fn put_record(w: usize, h: usize, par: usize, tiles: &[u8], n: usize, out: &mut 
 }
 
 // The bytes of a record.
-fn record_length(w: usize, h: usize) -> usize
+pub fn record_length(w: usize, h: usize) -> usize
     requires { ⌜ Sized w h ⌝ }
     ensures { λ r. ⌜ (r ≡ recordLength w h) × (r ≤ 364) ⌝ }
 {

@@ -1,3 +1,4 @@
 pub mod Placing
 pub mod Entering
 pub mod Reader
+pub mod Laid

@@ -30,3 +30,9 @@ pub record Placed (a b : ℕ) (v : ℕ → ℕ) (x x' : List ℕ) : Type 0 where
   pub long : length x' ≡ length x
   pub inside : (p : ℕ) → a ≤ p → p < b → getD x' p 0 ≡ v p
   pub outside : (p : ℕ) → (p < a) ⊎ (b ≤ p) → getD x' p 0 ≡ getD x p 0
+
+-- the strip of a level laid in front of a buffer
+pub record LaidAs (w h par : ℕ) (tiles old new : List ℕ) (n : ℕ) : Type 0 where
+  pub size : n ≡ stripLength w h
+  pub strip : IsStrip 4 (lent w h par tiles) (take (stripLength w h) new)
+  pub past : drop (stripLength w h) new ≡ drop (stripLength w h) old

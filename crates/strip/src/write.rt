@@ -4,10 +4,8 @@ ghost use Prim.Native.Nat.{ℕ, _+_, _*_, _-_, _/_, _%_, _≤_, _<_};
 ghost use lib.ListN.{length, getD, take, drop};
 ghost use Rattle.remainder.specs.Remainder.{unpacked, LanesCheck};
 ghost use Rattle.level.specs.Level.{IsLevel};
-ghost use Rattle.level.specs.Record.{recordLength};
-ghost use Rattle.level.specs.Strip.{columns, IsStrip};
-ghost use Rattle.record.specs.Writing.{lent, Ranged};
-ghost use Rattle.strip.specs.Writing.{stripLength, StripWritesAs, Placed};
+ghost use Rattle.record.specs.Writing.{lent};
+ghost use Rattle.strip.specs.Writing.{StripWritesAs, Placed, LaidAs};
 use code::word::Written;
 
 // Zero cells from a place on, up to an end: "zero bytes fill it to 4k".
@@ -42,4 +40,32 @@ fn put_checks(x: &mut [u8], k: usize, c: [u64; 4])
         x[p] = check_byte(c[p % 4], (p - from) / 4);
         p += 1;
     }
+}
+
+// The level's strip, in the first cells of a buffer; its length.
+fn lay(w: usize, h: usize, par: usize, tiles: &[u8], out: &mut [u8]) -> usize
+    requires { ⌜ IsLevel (lent w h par (now tiles)) × (384 ≤ length (now out)) ⌝ }
+    ensures { λ r. ⌜ LaidAs w h par (now (tiles .entry)) (now (out .entry)) (now (out .exit)) r ⌝ }
+{
+    let b = record::record_length(w, h);
+    let k = (b + 3) / 4;
+    record::put_record(w, h, par, tiles, b, out);
+    fill(out, b, 4 * k);
+    let c = remainder::lane_checks_of(&out[0..4 * k]);
+    put_checks(out, k, c);
+    4 * (k + 5)
+}
+
+// Writes the strip of a level.
+pub fn write(w: usize, h: usize, par: usize, tiles: &[u8], out: &mut [u8]) -> Written
+    ensures { λ r. ⌜ StripWritesAs w h par (now (tiles .entry)) (now (out .entry)) (now (out .exit)) r ⌝ }
+{
+    if out.len() < 384 {
+        return Written::Refused(4);
+    }
+    let code = record::check(w, h, par, tiles);
+    if code != 0 {
+        return Written::Refused(code);
+    }
+    Written::Length(lay(w, h, par, tiles, out))
 }

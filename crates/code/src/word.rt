@@ -23,7 +23,7 @@ pub enum Tested {
 }
 
 // The data, in front of a longer word.
-fn put_data(data: &[u8], word: &mut [u8])
+pub fn put_data(data: &[u8], word: &mut [u8])
     requires { ⌜ length (now «data») ≤ length (now word) ⌝ }
     ensures { λ _. ⌜ now (word .exit) ≡ now («data» .entry) ++ drop (length (now («data» .entry))) (now (word .entry)) ⌝ }
 {

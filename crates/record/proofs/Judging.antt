@@ -62,6 +62,6 @@ module _ (bs : List ℕ) (f : Head) (hd : Heads bs f) where
       → JudgedAs R bs board (record { code = 0; width = f .width; height = f .height; par = f .par })
   judged-0 R board code room u z h s k = record {
     first = inr (h, inr (s, subst (First (boarding (tilesOf bs))) z k));
-    spells = λ _. record { width = hd .width; height = hd .height; par = hd .par; tiles = tiles-are board room u };
+    spells = λ _. record { width = hd .width; height = hd .height; par = hd .par; few = area-few; tiles = tiles-are board room u };
     none = λ n. absurd (n refl);
   }

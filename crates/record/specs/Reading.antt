@@ -1,13 +1,29 @@
 -- Reading a record.
 use mathlib.Core.Path.{_≡_}
 use mathlib.Core.List.{List, [], _∷_}
-use Prim.Native.Nat.{ℕ, _+_, _*_, _/_, _%_, _<_}
-use lib.ListN.{getD, take}
-use Rattle.level.specs.Record.{fieldAt}
-use Rattle.level.specs.Reading.{tilesOf, judging}
+use Prim.Native.Nat.{ℕ, _+_, _*_, _/_, _%_, _≤_, _<_}
+use lib.ListN.{length, getD, take, drop}
+use Rattle.level.specs.Level.{IsLevel}
+use Rattle.level.specs.Record.{fieldAt, IsRecord}
+use Rattle.level.specs.Reading.{tilesOf, judging, readingRecord, ReadNumbers, refusedAt, returned}
 use Rattle.code.specs.Refusal.{First}
+use Rattle.record.specs.declared.RecordRead.{RecordRead}
+use Rattle.record.specs.declared.RecordRead.the-variants as read
 use Rattle.record.specs.declared.Head.{Head}
 use Rattle.record.specs.declared.Judged.{Judged}
+
+-- "The record reader returns the first three": a record has no lanes, and nothing in it is mended
+abbrev pub readNumbers : RecordRead → ReadNumbers
+readNumbers (read.Level w h p) = record { code = 0; lane = 0; width = w; height = h; par = p; mended = 0; wear = 0 }
+readNumbers (read.Refused c) = refusedAt c 0
+
+-- "and fills the tiles": bs is the record of the level returned; "Tile bytes past the level keep their value"
+pub record RecordReadsAs (bs old new : List ℕ) (a : RecordRead) : Type 0 where
+  pub code : First (readingRecord bs (length old)) (readNumbers a .code)
+  pub is-level : readNumbers a .code ≡ 0 → IsLevel (returned (readNumbers a) new)
+  pub is-record : readNumbers a .code ≡ 0 → IsRecord (returned (readNumbers a) new) bs
+  pub past : readNumbers a .code ≡ 0 → drop (readNumbers a .width * readNumbers a .height) new ≡ drop (readNumbers a .width * readNumbers a .height) old
+  pub kept : (readNumbers a .code ≡ 0 → ⊥) → new ≡ old
 
 -- ---- parts
 
@@ -32,6 +48,7 @@ pub record Spells (bs board : List ℕ) (r : Judged) : Type 0 where
   pub width : r .width ≡ fieldAt bs 4 5
   pub height : r .height ≡ fieldAt bs 9 5
   pub par : r .par ≡ fieldAt bs 14 10
+  pub few : r .width * r .height ≤ 961
   pub tiles : take (r .width * r .height) board ≡ tilesOf bs
 
 pub record JudgedAs (lanes : ℕ) (bs board : List ℕ) (r : Judged) : Type 0 where

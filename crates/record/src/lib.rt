@@ -13,7 +13,7 @@ ghost use Rattle.level.specs.Written.{digit, recordBit, recordByte, recordOf};
 ghost use Rattle.level.specs.Reading.{Shaped};
 ghost use Rattle.record.specs.Sum.{Same, packed, weighed, weight, Packs, boarding};
 ghost use Rattle.record.specs.Writing.{lent, Ranged, lending, RecordWritesAs};
-ghost use Rattle.record.specs.Reading.{Heads, eight, Unpacks, without, JudgedAs};
+ghost use Rattle.record.specs.Reading.{Heads, eight, Unpacks, without, JudgedAs, RecordReadsAs};
 use code::word::Written;
 
 // What a tile adds.
@@ -410,5 +410,42 @@ pub fn judge(bs: &[u8], lanes: usize, board: &mut [u8]) -> Judged
         width: f.width,
         height: f.height,
         par: f.par,
+    }
+}
+
+// What reading a record answers: a level, its tiles in the buffer, or a refusal's number.
+pub enum RecordRead {
+    Level {
+        width: usize,
+        height: usize,
+        par: usize,
+    },
+    Refused(u8),
+}
+
+// Reads a record. Nothing is written before it is judged.
+pub fn read(bytes: &[u8], tiles: &mut [u8]) -> RecordRead
+    ensures { λ r. ⌜ RecordReadsAs (now (bytes .entry)) (now (tiles .entry)) (now (tiles .exit)) r ⌝ }
+{
+    if bytes.len() < 4 {
+        return RecordRead::Refused(1);
+    }
+    if 364 < bytes.len() {
+        return RecordRead::Refused(1);
+    }
+    if tiles.len() < 961 {
+        return RecordRead::Refused(4);
+    }
+    let mut board = [0u8; 968];
+    let r = judge(bytes, 1, &mut board);
+    if r.code != 0 {
+        return RecordRead::Refused(r.code);
+    }
+    let m = r.width * r.height;
+    code::word::put_data(&board[0..m], tiles);
+    RecordRead::Level {
+        width: r.width,
+        height: r.height,
+        par: r.par,
     }
 }

@@ -170,14 +170,6 @@ module _ (w h par : ℕ) (tiles old : List ℕ) where
   pub wrote-none : (c : ℕ) → (c ≡ 0 → ⊥) → First (writingLevel 384 w h par tiles (length old)) c → StripWritesAs w h par tiles old old (written.Refused c)
   wrote-none c n f = record { code = f; value = λ z. absurd (n z); strip = λ z. absurd (n z); past = λ z. absurd (n z); kept = λ _. refl }
 
-  -- nothing to refuse: a level
-  pub lent-level : (c : ℕ) → c ≡ 0 → First (lending w h par tiles) c → IsLevel (lent w h par tiles)
-  lent-level c z (inl a) = absurd (omega (arith, a .1))
-  lent-level c z (inr (r, inl a)) = absurd (omega (arith, a .1))
-  lent-level c z (inr (r, inr (t, inl a))) = absurd (omega (arith, a .1))
-  lent-level c z (inr (r, inr (t, inr (k, inl a)))) = absurd (omega (arith, a .1))
-  lent-level c z (inr (r, inr (t, inr (k, inr (y, e))))) = record { sized = r .sized; par-small = r .par-small; count = t; codes = k; playable = y }
-
   pub wrote-strip : (new : List ℕ) (c n : ℕ) → 384 ≤ length old → c ≡ 0 → First (lending w h par tiles) c → LaidAs w h par tiles old new n
       → StripWritesAs w h par tiles old new (written.Length n)
   wrote-strip new c n room z f L = record {

@@ -1,7 +1,8 @@
 use native.Mathlib.Omega.{arith}
 use mathlib.Core.Path.{refl}
 use mathlib.Core.Logic.{inl, inr}
-use Rattle.strip.proofs.Laid.{wrote-none, lent-level, wrote-strip}
+use Rattle.strip.proofs.Laid.{wrote-none, wrote-strip}
+use Rattle.record.proofs.Answers.{lent-level}
 use borrow.Author.Needs.{needs}
 use Rattle.strip.proofs.write.write.Statement.{statement}
 use Rattle.strip.proofs.write.write.Tie as tie
@@ -30,7 +31,7 @@ returns-2 c =
 lay-requires : tie.Need-lay-requires
 lay-requires c κs =
     let a = c .before .before .before .before .before .before .args in
-    (lent-level (a .w) (a .h) (a .par) (a .tiles .now) (a .out .now) (c .before .before .check .result) (c .before .if2 .left) (c .before .before .check .ensures), omega (arith, c .before .before .before .if1 .left))
+    (lent-level (a .w) (a .h) (a .par) (a .tiles .now) (c .before .before .check .result) (c .before .if2 .left) (c .before .before .check .ensures), omega (arith, c .before .before .before .if1 .left))
 
 -- src/write.rt:60:1
 same-length : tie.Need-same-length

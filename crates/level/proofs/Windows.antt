@@ -16,18 +16,23 @@ unfolding fieldAt
 field-below bs p zero = omega arith
 field-below bs p (suc n) = omega (arith, field-below bs p n, bit-small bs (p + n), two-pow-succ n)
 
--- what two runs of digits spell, one after the other
-pub spelled-append : (m n : ℕ) (f : ℕ → ℕ) → spelled (m + n) f ≡ spelled m f * 2 ^ n + spelled n (λ i. f (m + i))
+-- what the n digits from digit p on spell
+abbrev pub run : (ℕ → ℕ) → ℕ → ℕ → ℕ
+run f p n = spelled n (λ i. f (p + i))
+
+-- two runs side by side
+pub run-append : (f : ℕ → ℕ) (p m n : ℕ) → run f p (m + n) ≡ run f p m * 2 ^ n + run f (p + m) n
 unfolding spelled
-spelled-append m zero f = let z : m + 0 ≡ m = omega arith in ap (λ (k : ℕ). spelled k f) z ∙ go (spelled m f)
+run-append f p m zero = let z : m + 0 ≡ m = omega arith in ap (run f p) z ∙ go (run f p m)
   where
     go : (x : ℕ) → x ≡ x * 2 ^ 0 + 0
     go x = omega arith
-spelled-append m (suc n) f =
+run-append f p m (suc n) =
     let z : m + suc n ≡ suc (m + n) = omega arith in
-    ap (λ (k : ℕ). spelled k f) z
-    ∙ ap (λ (x : ℕ). 2 * x + f (m + n)) (spelled-append m n f)
-    ∙ go (spelled m f) (2 ^ n) (2 ^ suc n) (spelled n (λ i. f (m + i))) (f (m + n)) (two-pow-succ n)
+    let y : p + (m + n) ≡ p + m + n = omega arith in
+    ap (run f p) z
+    ∙ ap₂ (λ (a b : ℕ). 2 * a + b) (run-append f p m n) (ap f y)
+    ∙ go (run f p m) (2 ^ n) (2 ^ suc n) (run f (p + m) n) (f (p + m + n)) (two-pow-succ n)
   where
     go : (a t d b e : ℕ) → d ≡ t + t → 2 * (a * t + b) + e ≡ a * d + (2 * b + e)
     go a t d b e h = rw h (omega (arith, mul-add a t t))
@@ -71,11 +76,10 @@ within-byte bs q i n k e =
 
 -- two fields side by side
 pub field-append : (bs : List ℕ) (p m n : ℕ) → fieldAt bs p (m + n) ≡ fieldAt bs p m * 2 ^ n + fieldAt bs (p + m) n
-field-append bs p m n =
-    field-is bs p (m + n) (λ i. bitAt bs (p + i)) (λ i l. refl)
-    ∙ spelled-append m n (λ i. bitAt bs (p + i))
-    ∙ sym (ap₂ (λ (x y : ℕ). x * 2 ^ n + y) (field-is bs p m (λ i. bitAt bs (p + i)) (λ i l. refl))
-    (field-is bs (p + m) n (λ i. bitAt bs (p + (m + i))) (λ i l. let z : p + m + i ≡ p + (m + i) = omega arith in ap (bitAt bs) z)))
+field-append bs p m n = as-run p (m + n) ∙ run-append (bitAt bs) p m n ∙ sym (ap₂ (λ (x y : ℕ). x * 2 ^ n + y) (as-run p m) (as-run (p + m) n))
+  where
+    as-run : (q k : ℕ) → fieldAt bs q k ≡ run (bitAt bs) q k
+    as-run q k = field-is bs q k (λ i. bitAt bs (q + i)) (λ i l. refl)
 
 -- a field across the end of a byte
 pub across : (bs : List ℕ) (q r i m n k : ℕ) → r ≡ q + 1 → i + m ≡ 8 → n + k ≡ 8

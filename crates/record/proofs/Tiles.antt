@@ -10,7 +10,8 @@ use borrow.Author.Tests.{lt-ltb, le-ltb}
 use lib.ListN.{length, getD, drop}
 use lib.Seq.{drop-cons, drop-length}
 use Rattle.level.specs.Tile.{adds, totals}
-use Rattle.level.specs.Level.{AllTiles}
+use Rattle.level.specs.Level.{Sized, AllTiles}
+use Rattle.level.specs.Record.{recordLength}
 use Rattle.level.proofs.Strips.{lt-or-ge}
 use Rattle.record.specs.Sum.{packed, weighed, weight, Packs}
 
@@ -122,3 +123,7 @@ module _ (ts : List ℕ) (x : ℕ) (short : length ts ≤ 961) (e : x ≡ weight
 -- a board has at most 961 tiles
 pub area-small : (w h : ℕ) → w ≤ 31 → h ≤ 31 → w * h ≤ 961
 area-small w h a b = mul-le-mul a b
+
+-- and its record at most 364 bytes
+pub record-short : (w h : ℕ) → Sized w h → recordLength w h ≤ 364
+record-short w h s = omega (arith, area-small w h (s .not-wider) (s .not-higher))

@@ -1,25 +1,158 @@
 -- A record written byte after byte.
-use mathlib.Core.Path.{_≡_, refl, sym, ap, _∙_}
+use mathlib.Core.Path.{_≡_, refl, sym, ap, ap₂, _∙_, subst}
+use mathlib.Core.Logic.{⊎-elim}
 use mathlib.Core.List.{List, [], _∷_, _++_}
-use Prim.Native.Nat.{ℕ, zero, suc, _+_, _*_, _-_, _≤_, _<_}
-use native.Mathlib.Nat.{pow-le-pow-right}
+use Prim.Native.Nat.{ℕ, zero, suc, _+_, _*_, _-_, _/_, _%_, _^_, _≤_, _<_}
 use native.Mathlib.Numerals.{add-one}
 use native.Mathlib.Omega.{arith}
 use lib.ListN.{length, getD, drop, set, length-append, length-drop}
-use lib.Seq.{drop-cons, set-at, append-snoc}
+use lib.Seq.{sets, sets-eq, drop-cons, drop-set-lt, set-at, append-snoc}
 use Rattle.account.specs.Lists.{listOf}
-use Rattle.level.specs.Level.{Level}
-use Rattle.level.specs.Written.{spelled, recordBit}
+use Rattle.account.proofs.Lanes.{getD-past}
 use Rattle.account.proofs.Lists.{length-listOf}
-use Rattle.level.proofs.RecordOf.{spelled-below, bits-small}
+use Rattle.level.specs.Level.{Level, AllTiles}
+use Rattle.level.specs.Written.{digit, spelled, recordBit, recordByte}
+use Rattle.level.proofs.Strips.{lt-or-ge}
+use Rattle.level.proofs.RecordOf.{bit-1, bit-2, bit-3, bit-4, bit-5}
+use Rattle.level.proofs.Windows.{run, run-append, window}
+use Rattle.record.specs.Writing.{headBytes, TileByte}
 
-pub spelled-small : (l : Level) (q i : ℕ) → i ≤ 8 → spelled i (λ j. recordBit l (8 * q + j)) < 256
-spelled-small l q i h =
-    omega (arith, spelled-below i (λ j. recordBit l (8 * q + j)) (λ j k. bits-small l (8 * q + j)), pow-le-pow-right {n = 2} (omega arith) {i = i} {j = 8} h)
+-- past the tiles are zeros
+pub codes-all : (ts : List ℕ) → AllTiles ts → (q : ℕ) → getD ts q 0 ≤ 6
+codes-all ts f q = ⊎-elim (λ h. f q h) (λ h. omega (arith, getD-past ts q h)) (lt-or-ge q (length ts))
 
-pub spelled-more : (n v b : ℕ) (f : ℕ → ℕ) → v ≡ spelled n f → b ≡ f n → 2 * v + b ≡ spelled (n + 1) f
-unfolding spelled
-spelled-more n v b f e g = rw (add-one, e, g)
+module _ (l : Level) where
+  join : (p m n a b : ℕ) → run (recordBit l) p m ≡ a → run (recordBit l) (p + m) n ≡ b → run (recordBit l) p (m + n) ≡ a * 2 ^ n + b
+  join p m n a b ea eb = run-append (recordBit l) p m n ∙ ap₂ (λ (x y : ℕ). x * 2 ^ n + y) ea eb
+
+  -- n bits of tile t, after its first k and before its last j
+  tile-run : (p t k n j v : ℕ) → p ≡ 24 + (3 * t + k) → k + n + j ≡ 3 → getD (l .tiles) t 0 / 2 ^ j % 2 ^ n ≡ v → run (recordBit l) p n ≡ v
+  tile-run p t k n j v ep e is = window (λ i. recordBit l (p + i)) 3 (getD (l .tiles) t 0) k n j e at ∙ is
+    where
+      at : (i : ℕ) → i < n → recordBit l (p + i) ≡ digit 3 (getD (l .tiles) t 0) (k + i)
+      at i m =
+          let x : (p + i - 24) / 3 ≡ t = omega arith in
+          let y : (p + i - 24) % 3 ≡ k + i = omega arith in
+          bit-5 l (p + i) (omega arith) ∙ ap₂ (λ (a b : ℕ). digit 3 (getD (l .tiles) a 0) b) x y
+
+  -- eight tiles make three bytes
+  module _ (g : ℕ) (small : (q : ℕ) → getD (l .tiles) q 0 ≤ 6) where
+    abbrev tile : ℕ → ℕ
+    tile j = getD (l .tiles) (8 * g + j) 0
+
+    whole : (t : ℕ) → tile t / 2 ^ 0 % 2 ^ 3 ≡ tile t
+    whole t = omega (arith, small (8 * g + t))
+
+    pub first-byte : recordByte l (3 + 3 * g) ≡ tile 0 * 32 + tile 1 * 4 + tile 2 / 2
+    unfolding recordByte
+    first-byte =
+        join (8 * (3 + 3 * g)) 3 5 (tile 0) (tile 1 * 4 + (tile 2 / 2))
+        (tile-run (8 * (3 + 3 * g)) (8 * g + 0) 0 3 0 (tile 0) (omega arith) (omega arith) (whole 0))
+        (join (8 * (3 + 3 * g) + 3) 3 2 (tile 1) (tile 2 / 2)
+        (tile-run (8 * (3 + 3 * g) + 3) (8 * g + 1) 0 3 0 (tile 1) (omega arith) (omega arith) (whole 1))
+        (tile-run (8 * (3 + 3 * g) + 3 + 3) (8 * g + 2) 0 2 1 (tile 2 / 2) (omega arith) (omega arith) (omega (arith, small (8 * g + 2)))))
+        ∙ omega arith
+
+    pub second-byte : recordByte l (3 + (3 * g + 1)) ≡ tile 2 % 2 * 128 + tile 3 * 16 + tile 4 * 2 + tile 5 / 4
+    unfolding recordByte
+    second-byte =
+        join (8 * (3 + (3 * g + 1))) 1 7 (tile 2 % 2) (tile 3 * 16 + (tile 4 * 2 + (tile 5 / 4)))
+        (tile-run (8 * (3 + (3 * g + 1))) (8 * g + 2) 2 1 0 (tile 2 % 2) (omega arith) (omega arith) (omega arith))
+        (join (8 * (3 + (3 * g + 1)) + 1) 3 4 (tile 3) (tile 4 * 2 + (tile 5 / 4))
+        (tile-run (8 * (3 + (3 * g + 1)) + 1) (8 * g + 3) 0 3 0 (tile 3) (omega arith) (omega arith) (whole 3))
+        (join (8 * (3 + (3 * g + 1)) + 1 + 3) 3 1 (tile 4) (tile 5 / 4)
+        (tile-run (8 * (3 + (3 * g + 1)) + 1 + 3) (8 * g + 4) 0 3 0 (tile 4) (omega arith) (omega arith) (whole 4))
+        (tile-run (8 * (3 + (3 * g + 1)) + 1 + 3 + 3) (8 * g + 5) 0 1 2 (tile 5 / 4) (omega arith) (omega arith) (omega (arith, small (8 * g + 5))))))
+        ∙ omega arith
+
+    pub third-byte : recordByte l (3 + (3 * g + 2)) ≡ tile 5 % 4 * 64 + tile 6 * 8 + tile 7
+    unfolding recordByte
+    third-byte =
+        join (8 * (3 + (3 * g + 2))) 2 6 (tile 5 % 4) (tile 6 * 8 + (tile 7))
+        (tile-run (8 * (3 + (3 * g + 2))) (8 * g + 5) 1 2 0 (tile 5 % 4) (omega arith) (omega arith) (omega arith))
+        (join (8 * (3 + (3 * g + 2)) + 2) 3 3 (tile 6) (tile 7)
+        (tile-run (8 * (3 + (3 * g + 2)) + 2) (8 * g + 6) 0 3 0 (tile 6) (omega arith) (omega arith) (whole 6))
+        (tile-run (8 * (3 + (3 * g + 2)) + 2 + 3) (8 * g + 7) 0 3 0 (tile 7) (omega arith) (omega arith) (whole 7)))
+        ∙ omega arith
+
+  -- the bytes in front of the tiles
+  module _ (w : l .width ≤ 31) (h : l .height ≤ 31) (p : l .par ≤ 1023) where
+    -- n bits of a field v of N bits that starts with bit o
+    in-field : (N v o q k n j r : ℕ) → ((i : ℕ) → o ≤ i → i < o + N → recordBit l i ≡ digit N v (i - o)) → q ≡ o + k → k + n + j ≡ N → v / 2 ^ j % 2 ^ n ≡ r → run (recordBit l) q n ≡ r
+    in-field N v o q k n j r f eq e is = window (λ i. recordBit l (q + i)) N v k n j e (λ i m. let z : q + i - o ≡ k + i = omega arith in f (q + i) (omega arith) (omega arith) ∙ ap (digit N v) z) ∙ is
+
+    wide : (q k n j r : ℕ) → q ≡ 4 + k → k + n + j ≡ 5 → l .width / 2 ^ j % 2 ^ n ≡ r → run (recordBit l) q n ≡ r
+    wide q k n j r = in-field 5 (l .width) 4 q k n j r (λ i a b. bit-2 l i a b)
+
+    high : (q k n j r : ℕ) → q ≡ 9 + k → k + n + j ≡ 5 → l .height / 2 ^ j % 2 ^ n ≡ r → run (recordBit l) q n ≡ r
+    high q k n j r = in-field 5 (l .height) 9 q k n j r (λ i a b. bit-3 l i a b)
+
+    paired : (q k n j r : ℕ) → q ≡ 14 + k → k + n + j ≡ 10 → l .par / 2 ^ j % 2 ^ n ≡ r → run (recordBit l) q n ≡ r
+    paired q k n j r = in-field 10 (l .par) 14 q k n j r (λ i a b. bit-4 l i a b)
+
+    head-0 : recordByte l 0 ≡ 16 + l .width / 2
+    unfolding recordByte
+    head-0 =
+        join 0 4 4 1 (l .width / 2)
+        (in-field 4 1 0 0 0 4 0 1 (λ i a b. let z : i ≡ i - 0 = omega arith in bit-1 l i b ∙ ap (digit 4 1) z) (omega arith) (omega arith) refl)
+        (wide 4 0 4 1 (l .width / 2) (omega arith) (omega arith) (omega arith))
+
+    head-1 : recordByte l 1 ≡ l .width % 2 * 128 + l .height * 4 + l .par / 256
+    unfolding recordByte
+    head-1 =
+        join 8 1 7 (l .width % 2) (l .height * 4 + l .par / 256)
+        (wide 8 4 1 0 (l .width % 2) (omega arith) (omega arith) (omega arith))
+        (join 9 5 2 (l .height) (l .par / 256)
+        (high 9 0 5 0 (l .height) (omega arith) (omega arith) (omega arith))
+        (paired 14 0 2 8 (l .par / 256) (omega arith) (omega arith) (omega arith)))
+        ∙ omega arith
+
+    head-2 : recordByte l 2 ≡ l .par % 256
+    unfolding recordByte
+    head-2 = paired 16 2 8 0 (l .par % 256) (omega arith) (omega arith) (omega arith)
+
+    head-put : (o : List ℕ) → 3 ≤ length o → sets o 0 (headBytes (l .width) (l .height) (l .par)) ≡ listOf 3 (recordByte l) ++ drop 3 o
+    unfolding listOf
+    head-put o room = sets-eq (headBytes (l .width) (l .height) (l .par)) o 0 room ∙ rw (head-0, head-1, head-2) refl
+
+    pub head-past : (o mid : List ℕ) → mid ≡ sets o 0 (headBytes (l .width) (l .height) (l .par)) → (n : ℕ) → 3 ≤ n → drop n mid ≡ drop n o
+    head-past o mid e n k =
+        ap (drop n) e
+        ∙ drop-set-lt n (set (set o 0 (16 + l .width / 2)) 1 (l .width % 2 * 128 + l .height * 4 + l .par / 256)) 2 (l .par % 256) (omega arith)
+        ∙ drop-set-lt n (set o 0 (16 + l .width / 2)) 1 (l .width % 2 * 128 + l .height * 4 + l .par / 256) (omega arith)
+        ∙ drop-set-lt n o 0 (16 + l .width / 2) (omega arith)
+
+    pub head-start : (o mid : List ℕ) → 3 ≤ length o → mid ≡ sets o 0 (headBytes (l .width) (l .height) (l .par)) → mid ≡ listOf 3 (recordByte l) ++ drop 3 mid
+    head-start o mid room e = e ∙ head-put o room ∙ ap (λ (s : List ℕ). listOf 3 (recordByte l) ++ s) (sym (head-past o mid e 3 (omega arith)))
+
+-- the same from tiles as they are lent
+module _ (ts : List ℕ) (b : ℕ) (codes : AllTiles ts) where
+  moved : (l : Level) → l .tiles ≡ ts → (x j : ℕ) → x ≡ getD ts (b / 3 * 8 + j) 0 → x ≡ getD (l .tiles) (8 * (b / 3) + j) 0
+  moved l e x j ex = let z : b / 3 * 8 + j ≡ 8 * (b / 3) + j = omega arith in ex ∙ ap₂ (λ (s : List ℕ) (k : ℕ). getD s k 0) (sym e) z
+
+  small-in : (l : Level) → l .tiles ≡ ts → (q : ℕ) → getD (l .tiles) q 0 ≤ 6
+  small-in l e q = codes-all (l .tiles) (subst AllTiles (sym e) codes) q
+
+  pub tile-byte-0 : (t0 t1 t2 : ℕ) → b % 3 ≡ 0 → t0 ≡ getD ts (b / 3 * 8) 0 → t1 ≡ getD ts (b / 3 * 8 + 1) 0 → t2 ≡ getD ts (b / 3 * 8 + 2) 0
+      → TileByte ts b (t0 * 32 + t1 * 4 + t2 / 2)
+  tile-byte-0 t0 t1 t2 r e0 e1 e2 l e =
+      let z : 3 + 3 * (b / 3) ≡ 3 + b = omega arith in
+      let y : b / 3 * 8 ≡ b / 3 * 8 + 0 = omega arith in
+      rw (moved l e t0 0 (e0 ∙ ap (λ (k : ℕ). getD ts k 0) y), moved l e t1 1 e1, moved l e t2 2 e2) (sym (first-byte l (b / 3) (small-in l e)) ∙ ap (recordByte l) z)
+
+  pub tile-byte-1 : (t2 t3 t4 t5 : ℕ) → b % 3 ≡ 1 → t2 ≡ getD ts (b / 3 * 8 + 2) 0 → t3 ≡ getD ts (b / 3 * 8 + 3) 0 → t4 ≡ getD ts (b / 3 * 8 + 4) 0 → t5 ≡ getD ts (b / 3 * 8 + 5) 0
+      → TileByte ts b (t2 % 2 * 128 + t3 * 16 + t4 * 2 + t5 / 4)
+  tile-byte-1 t2 t3 t4 t5 r e2 e3 e4 e5 l e =
+      let z : 3 + (3 * (b / 3) + 1) ≡ 3 + b = omega arith in
+      rw (moved l e t2 2 e2, moved l e t3 3 e3, moved l e t4 4 e4, moved l e t5 5 e5) (sym (second-byte l (b / 3) (small-in l e)) ∙ ap (recordByte l) z)
+
+  pub tile-byte-2 : (t5 t6 t7 : ℕ) → b % 3 ≡ 2 → t5 ≡ getD ts (b / 3 * 8 + 5) 0 → t6 ≡ getD ts (b / 3 * 8 + 6) 0 → t7 ≡ getD ts (b / 3 * 8 + 7) 0
+      → TileByte ts b (t5 % 4 * 64 + t6 * 8 + t7)
+  tile-byte-2 t5 t6 t7 r e5 e6 e7 l e =
+      let z : 3 + (3 * (b / 3) + 2) ≡ 3 + b = omega arith in
+      rw (moved l e t5 5 e5, moved l e t6 6 e6, moved l e t7 7 e7) (sym (third-byte l (b / 3) (small-in l e)) ∙ ap (recordByte l) z)
+
+-- ---- one after the other
 
 snoc : (n : ℕ) (f : ℕ → ℕ) → listOf (suc n) f ≡ listOf n f ++ (f n ∷ [])
 unfolding listOf

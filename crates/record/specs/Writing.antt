@@ -1,11 +1,11 @@
 -- Writing a record.
 use mathlib.Core.Path.{_≡_}
-use mathlib.Core.List.{List, _∷_, _++_}
-use Prim.Native.Nat.{ℕ, _*_, _≤_}
+use mathlib.Core.List.{List, [], _∷_, _++_}
+use Prim.Native.Nat.{ℕ, _+_, _*_, _/_, _%_, _≤_}
 use lib.ListN.{length, drop}
 use Rattle.level.specs.Level.{Level, Sized}
 use Rattle.level.specs.Record.{recordLength}
-use Rattle.level.specs.Written.{recordOf}
+use Rattle.level.specs.Written.{recordByte, recordOf}
 use Rattle.code.specs.Refusal.{Rule, unless, First}
 use Rattle.code.specs.Word.{writtenNumbers}
 use Rattle.code.specs.declared.word.Written.{Written}
@@ -34,3 +34,12 @@ pub record RecordWritesAs (w h par : ℕ) (tiles old new : List ℕ) (a : Writte
   pub value : writtenNumbers a .code ≡ 0 → writtenNumbers a .value ≡ recordLength w h
   pub written : writtenNumbers a .code ≡ 0 → new ≡ recordOf (lent w h par tiles) ++ drop (recordLength w h) old
   pub kept : (writtenNumbers a .code ≡ 0 → ⊥) → new ≡ old
+
+-- ---- parts
+
+abbrev pub headBytes : ℕ → ℕ → ℕ → List ℕ
+headBytes w h par = (16 + w / 2) ∷ (w % 2 * 128 + h * 4 + par / 256) ∷ (par % 256) ∷ []
+
+-- byte b of the tiles, in every record that has them
+abbrev pub TileByte : List ℕ → ℕ → ℕ → Type 0
+TileByte tiles b r = (l : Level) → l .tiles ≡ tiles → r ≡ recordByte l (3 + b)

@@ -7,12 +7,12 @@ ghost use lib.Seq.{sets};
 ghost use Rattle.errata.specs.Errata.{Says};
 ghost use Rattle.code.specs.Refusal.{First};
 ghost use Rattle.level.specs.Tile.{adds};
-ghost use Rattle.level.specs.Level.{Sized};
+ghost use Rattle.level.specs.Level.{Sized, AllTiles, IsLevel};
 ghost use Rattle.level.specs.Record.{bitAt, fieldAt, recordLength};
-ghost use Rattle.level.specs.Written.{digit, recordBit, recordByte, recordOf};
+ghost use Rattle.level.specs.Written.{recordOf};
 ghost use Rattle.level.specs.Reading.{Shaped};
 ghost use Rattle.record.specs.Sum.{Same, packed, weighed, weight, Packs, boarding};
-ghost use Rattle.record.specs.Writing.{lent, Ranged, lending, RecordWritesAs};
+ghost use Rattle.record.specs.Writing.{lent, Ranged, lending, RecordWritesAs, headBytes, TileByte};
 ghost use Rattle.record.specs.Reading.{Heads, eight, Unpacks, without, JudgedAs, RecordReadsAs};
 use code::word::Written;
 
@@ -165,69 +165,73 @@ fn ranged(w: usize, h: usize, par: usize) -> bool
     true
 }
 
-// Digit i of the n binary digits of v, the most significant first.
-fn digit_of(n: usize, v: usize, i: usize) -> usize
-    requires { ⌜ (i < n) × (n ≤ 10) ⌝ }
-    ensures { λ r. ⌜ r ≡ digit n v i ⌝ }
-{
-    (v >> (n - (i + 1))) % 2
-}
-
-// Bit p of the record of a level.
-fn record_bit(w: usize, h: usize, par: usize, tiles: &[u8], p: usize) -> usize
-    ensures { λ r. ⌜ r ≡ recordBit (lent w h par (now (tiles .entry))) p ⌝ }
-{
-    if p < 4 {
-        return digit_of(4, 1, p);
-    }
-    if p < 9 {
-        return digit_of(5, w, p - 4);
-    }
-    if p < 14 {
-        return digit_of(5, h, p - 9);
-    }
-    if p < 24 {
-        return digit_of(10, par, p - 14);
-    }
-    let i = (p - 24) / 3;
-    if i < tiles.len() {
-        return digit_of(3, tiles[i] as usize, (p - 24) % 3);
-    }
-    0
-}
-
-// Byte q of it.
-fn record_byte(w: usize, h: usize, par: usize, tiles: &[u8], q: usize) -> usize
-    requires { ⌜ q ≤ 4096 ⌝ }
-    ensures { λ r. ⌜ r ≡ recordByte (lent w h par (now (tiles .entry))) q ⌝ }
-{
-    let mut v: usize = 0;
-    let mut i: usize = 0;
-    while i < 8 {
-        v = 2 * v + record_bit(w, h, par, tiles, 8 * q + i);
-        i += 1;
-    }
-    v
-}
-
-// The record, in the first bytes of a buffer.
-pub fn put_record(w: usize, h: usize, par: usize, tiles: &[u8], n: usize, out: &mut [u8])
-    requires { ⌜ (n ≡ recordLength w h) × (n ≤ 364) × (n ≤ length (now out)) ⌝ }
-    ensures { λ _. ⌜ now (out .exit) ≡ recordOf (lent w h par (now (tiles .entry))) ++ drop n (now (out .entry)) ⌝ }
-{
-    let mut q: usize = 0;
-    while q < n {
-        out[q] = record_byte(w, h, par, tiles, q) as u8;
-        q += 1;
-    }
-}
-
 // The bytes of a record.
-pub fn record_length(w: usize, h: usize) -> usize
+fn record_length(w: usize, h: usize) -> usize
     requires { ⌜ Sized w h ⌝ }
     ensures { λ r. ⌜ (r ≡ recordLength w h) × (r ≤ 364) ⌝ }
 {
     3 + (3 * (w * h) + 7) / 8
+}
+
+// Byte q, and 0 past the end.
+fn cell(bs: &[u8], q: usize) -> u8
+    ensures { λ r. ⌜ r ≡ getD (now (bs .entry)) q 0 ⌝ }
+{
+    if q < bs.len() {
+        return bs[q];
+    }
+    0
+}
+
+// Version, width, height and par.
+fn put_head(w: usize, h: usize, par: usize, out: &mut [u8])
+    requires { ⌜ (w ≤ 31) × (h ≤ 31) × (par ≤ 1023) × (3 ≤ length (now out)) ⌝ }
+    ensures { λ _. ⌜ now (out .exit) ≡ sets (now (out .entry)) 0 (headBytes w h par) ⌝ }
+{
+    out[0] = (16 + w / 2) as u8;
+    out[1] = (w % 2 * 128 + h * 4 + par / 256) as u8;
+    out[2] = (par % 256) as u8;
+}
+
+// Tile i, and floor past the end.
+fn tile_at(tiles: &[u8], i: usize) -> u8
+    requires { ⌜ AllTiles (now tiles) ⌝ }
+    ensures { λ r. ⌜ (r ≡ getD (now (tiles .entry)) i 0) × (r ≤ 6) ⌝ }
+{
+    cell(tiles, i)
+}
+
+// Byte b of the tiles. Eight tiles make three bytes.
+fn tile_byte(tiles: &[u8], b: usize) -> u8
+    requires { ⌜ AllTiles (now tiles) × (b ≤ 364) ⌝ }
+    ensures { λ r. ⌜ TileByte (now (tiles .entry)) b r ⌝ }
+{
+    let k = b / 3 * 8;
+    if b % 3 == 0 {
+        return tile_at(tiles, k) * 32 + tile_at(tiles, k + 1) * 4 + tile_at(tiles, k + 2) / 2;
+    }
+    if b % 3 == 1 {
+        return tile_at(tiles, k + 2) % 2 * 128
+            + tile_at(tiles, k + 3) * 16
+            + tile_at(tiles, k + 4) * 2
+            + tile_at(tiles, k + 5) / 4;
+    }
+    tile_at(tiles, k + 5) % 4 * 64 + tile_at(tiles, k + 6) * 8 + tile_at(tiles, k + 7)
+}
+
+// The record of a level, in the first bytes of a buffer; its length is returned.
+pub fn put_record(w: usize, h: usize, par: usize, tiles: &[u8], out: &mut [u8]) -> usize
+    requires { ⌜ IsLevel (lent w h par (now tiles)) × (recordLength w h ≤ length (now out)) ⌝ }
+    ensures { λ r. ⌜ (r ≡ recordLength w h) × (r ≤ 364) × (now (out .exit) ≡ recordOf (lent w h par (now (tiles .entry))) ++ drop r (now (out .entry))) ⌝ }
+{
+    let n = record_length(w, h);
+    put_head(w, h, par, out);
+    let mut q: usize = 3;
+    while q < n {
+        out[q] = tile_byte(tiles, q - 3);
+        q += 1;
+    }
+    n
 }
 
 // Refusals 7 to 10 of a writer.
@@ -254,8 +258,7 @@ pub fn write(w: usize, h: usize, par: usize, tiles: &[u8], out: &mut [u8]) -> Wr
     if code != 0 {
         return Written::Refused(code);
     }
-    let n = record_length(w, h);
-    put_record(w, h, par, tiles, n, out);
+    let n = put_record(w, h, par, tiles, out);
     Written::Length(n)
 }
 
@@ -282,16 +285,6 @@ fn head_of(bs: &[u8]) -> Head
         height: b / 4 % 32,
         par: b % 4 * 256 + c,
     }
-}
-
-// Byte q, and 0 past the end.
-fn cell(bs: &[u8], q: usize) -> u8
-    ensures { λ r. ⌜ r ≡ getD (now (bs .entry)) q 0 ⌝ }
-{
-    if q < bs.len() {
-        return bs[q];
-    }
-    0
 }
 
 // The eight tiles that three bytes spell, from tile k on.

@@ -48,7 +48,7 @@ static inline const char *zav_refusal_text(unsigned code)
     case ZAV_DONE:
         return "no refusal";
     case ZAV_BAD_LENGTH:
-        return "what was given is too short, too long or cut off";
+        return "this length is not allowed";
     case ZAV_BAD_MARKS_LENGTH:
         return "there is not one mark for each cell";
     case ZAV_BAD_MARK:

@@ -155,22 +155,22 @@ struct ref_result ref_level_of(const uint8_t *bytes, size_t len, size_t unit,
     const struct ref_result level = {.width = take(&t, WIDTH_AT, 5),
                                      .height = take(&t, HEIGHT_AT, 5),
                                      .par = take(&t, PAR_AT, 10)};
-    const size_t count = (size_t)level.width * level.height;
+    const size_t tiles_len = (size_t)level.width * level.height;
 
     if (take(&t, VERSION_AT, 4) != 1 || !is_side(level.width) ||
         !is_side(level.height))
         return (struct ref_result){.code = 7};
-    if (len != round_up(ref_record_len(count), unit) ||
-        has_filling(&t, TILES_AT + 3 * count))
+    if (len != round_up(ref_record_len(tiles_len), unit) ||
+        has_filling(&t, TILES_AT + 3 * tiles_len))
         return (struct ref_result){.code = 8};
-    for (size_t i = 0; i < count; i++)
+    for (size_t i = 0; i < tiles_len; i++)
         taken[i] = (uint8_t)take(&t, TILES_AT + 3 * i, 3);
 
-    const unsigned code = refusal_of_tiles(taken, count);
+    const unsigned code = refusal_of_tiles(taken, tiles_len);
 
     if (code != 0)
         return (struct ref_result){.code = code};
-    memcpy(tiles, taken, count);
+    memcpy(tiles, taken, tiles_len);
     return level;
 }
 

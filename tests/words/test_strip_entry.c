@@ -129,7 +129,18 @@ static void spoil_entry(struct picture *p)
         p->scratch_len = REF_SCRATCH_MIN - draw_below(2);
 }
 
-/* Beyond reach, or clean lanes whose record is refused, or both or neither. */
+/* Lanes within reach and beyond. */
+static void spoil_lanes(struct picture *p)
+{
+    for (size_t lane = 0; lane < REF_LANES; lane++) {
+        if (draw_below(4) == 0)
+            damage_lane(p, lane, draw_below(3), draw_below(2), ANY_BYTE);
+        else if (draw_below(8) == 0)
+            damage_lane(p, lane, 3, draw_below(3), ANY_BYTE);
+    }
+}
+
+/* A record that is refused, or lanes beyond reach, or both or neither. */
 static void spoil_cells(struct picture *p)
 {
     uint8_t data[REF_RECORD_MAX];
@@ -147,9 +158,7 @@ static void spoil_cells(struct picture *p)
     if (draw_below(4) == 0)
         data[REF_LANES * k - 1] ^= draw_nonzero();
     picture_data(p, data, k);
-    for (size_t lane = 0; lane < REF_LANES; lane++)
-        if (draw_below(8) == 0)
-            damage_lane(p, lane, 3, draw_below(3), ANY_BYTE);
+    spoil_lanes(p);
 }
 
 static void test_order(void)
@@ -165,7 +174,7 @@ static void test_order(void)
     group_end();
 }
 
-/* All sixteen mixtures of 1 to 5, at their limits, over cells of any kind. */
+/* A bit of the mixture for each of 1 to 5, over cells of any kind. */
 static void check_limits(unsigned mixture)
 {
     struct picture p;

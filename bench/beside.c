@@ -22,7 +22,8 @@ void *new_fec(size_t len)
 
 /*
  * libfec takes the places of the marks, counted in the shortened word. (Other
- * copies of this decoder count the leading pad too; they would fail below.)
+ * copies of this decoder count the leading pad too; with them the benchmarks
+ * stop, as the words are not mended.)
  */
 void find_erasures(const uint8_t *marks, size_t len,
                    int erasures[REF_CHECK_BYTES])

@@ -64,17 +64,44 @@ void damage_lane(struct picture *p, size_t lane, size_t wrong, size_t marked,
 
 /* ---- checking ---- */
 
+static struct {
+    struct lent strip, marks, tiles, scratch;
+} lent;
+
+/* What the buffers that are written to must hold. */
+struct expected {
+    uint8_t tiles[TILES_ROOM];
+    uint8_t scratch[SCRATCH_ROOM];
+};
+
 static bool was_judged(struct ref_result r)
 {
     return r.code == 0 || r.code >= 6;
 }
 
-/* Once the cells are looked at, as much scratch as there are cells is free. */
-static void allow_scratch(const struct picture *p, struct ref_result r,
-                          const struct lent *scratch, uint8_t *expected)
+/* Lend all four, and seal what this result does not let be written. */
+static void lend_picture(const struct picture *p, struct ref_result r,
+                         struct expected *e)
 {
-    if (was_judged(r))
-        memcpy(expected, scratch->bytes, p->strip_len);
+    draw_bytes(e->tiles, p->tiles_len);
+    draw_bytes(e->scratch, p->scratch_len);
+    lend(&lent.strip, p->strip, p->strip_len);
+    lend(&lent.marks, p->marks, p->marks_len);
+    lend(&lent.tiles, e->tiles, p->tiles_len);
+    lend(&lent.scratch, e->scratch, p->scratch_len);
+    seal(&lent.strip);
+    seal(&lent.marks);
+    if (r.code != 0)
+        seal(&lent.tiles);
+    if (!was_judged(r))
+        seal(&lent.scratch);
+}
+
+static bool all_kept(const struct picture *p, const struct expected *e)
+{
+    return is_kept(&lent.tiles, e->tiles) &&
+           is_kept(&lent.scratch, e->scratch) &&
+           is_kept(&lent.strip, p->strip) && is_kept(&lent.marks, p->marks);
 }
 
 static void describe(char *what, const struct picture *p)
@@ -86,44 +113,33 @@ static void describe(char *what, const struct picture *p)
             hex(marks, p->marks, p->marks_len), p->tiles_len, p->scratch_len);
 }
 
-/* What the call left must be as expected; `level` is what the tiles hold. */
+/* What the call leaves must be as expected; `level` is what the tiles hold.
+   Once cells are looked at, as much scratch as there are cells is free. */
 static void check_read(const struct picture *p, struct ref_result r,
                        const uint8_t *level)
 {
-    static struct lent strip, marks, tiles, scratch;
-    uint8_t expected_tiles[TILES_ROOM], expected_scratch[SCRATCH_ROOM];
+    struct expected e;
     char what[2 * HEX_TEXT + 160];
 
     group_case();
-    draw_bytes(expected_tiles, p->tiles_len);
-    draw_bytes(expected_scratch, p->scratch_len);
-    lend(&strip, p->strip, p->strip_len);
-    lend(&marks, p->marks, p->marks_len);
-    lend(&tiles, expected_tiles, p->tiles_len);
-    lend(&scratch, expected_scratch, p->scratch_len);
-    seal(&strip);
-    seal(&marks);
-    if (r.code != 0)
-        seal(&tiles);
-    if (!was_judged(r))
-        seal(&scratch);
+    lend_picture(p, r, &e);
 
-    const uint64_t got = zav_strip_read(
-        strip.bytes, p->strip_len, marks.bytes, p->marks_len, tiles.bytes,
-        p->tiles_len, scratch.bytes, p->scratch_len);
+    const uint64_t got =
+        zav_strip_read(lent.strip.bytes, p->strip_len, lent.marks.bytes,
+                       p->marks_len, lent.tiles.bytes, p->tiles_len,
+                       lent.scratch.bytes, p->scratch_len);
 
-    memcpy(expected_tiles, level, (size_t)r.width * r.height);
-    allow_scratch(p, r, &scratch, expected_scratch);
-    if (got == packed(r) && is_kept(&tiles, expected_tiles) &&
-        is_kept(&scratch, expected_scratch) && is_kept(&strip, p->strip) &&
-        is_kept(&marks, p->marks))
+    memcpy(e.tiles, level, (size_t)r.width * r.height);
+    if (was_judged(r))
+        memcpy(e.scratch, lent.scratch.bytes, p->strip_len);
+    if (got == packed(r) && all_kept(p, &e))
         return;
     describe(what, p);
     check_number(got, packed(r), what);
-    check_buffer(&tiles, expected_tiles, what);
-    check_buffer(&scratch, expected_scratch, what);
-    check_buffer(&strip, p->strip, what);
-    check_buffer(&marks, p->marks, what);
+    check_buffer(&lent.tiles, e.tiles, what);
+    check_buffer(&lent.scratch, e.scratch, what);
+    check_buffer(&lent.strip, p->strip, what);
+    check_buffer(&lent.marks, p->marks, what);
 }
 
 struct ref_result check_picture(const struct picture *p)

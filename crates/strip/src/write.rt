@@ -47,9 +47,8 @@ fn lay(w: usize, h: usize, par: usize, tiles: &[u8], out: &mut [u8]) -> usize
     requires { ⌜ IsLevel (lent w h par (now tiles)) × (384 ≤ length (now out)) ⌝ }
     ensures { λ r. ⌜ LaidAs w h par (now (tiles .entry)) (now (out .entry)) (now (out .exit)) r ⌝ }
 {
-    let b = record::record_length(w, h);
+    let b = record::put_record(w, h, par, tiles, out);
     let k = (b + 3) / 4;
-    record::put_record(w, h, par, tiles, b, out);
     fill(out, b, 4 * k);
     let c = remainder::lane_checks_of(&out[0..4 * k]);
     put_checks(out, k, c);

@@ -5,7 +5,7 @@ use mathlib.Core.List.{List, [], _∷_, _++_}
 use Prim.Native.Nat.{ℕ, zero, suc, _+_, _*_, _-_, _/_, _%_, _≤_, _<_}
 use native.Mathlib.Omega.{arith}
 use lib.ListN.{length, getD, take, drop}
-use lib.Seq.{take-at, drop-at, take-take, length-take-le}
+use lib.Seq.{take-take, length-take-le}
 use Rattle.account.proofs.Lanes.{bytes-lane}
 use Rattle.account.specs.Lanes as lanes
 use Rattle.gf256.specs.Gf256.{gf256}
@@ -15,51 +15,15 @@ use Rattle.level.specs.Level.{Level, AllTiles, Playable}
 use Rattle.level.specs.Record.{fieldAt}
 use Rattle.level.specs.Strip.{Legal, Reached, mendedOf, wearOf}
 use Rattle.level.specs.Reading.{ReadNumbers, refusedAt, returned, entering, mending, judging, Mends, Lowest, dataOf, tilesOf, levelOf, Headed, Shaped}
-use Rattle.level.proofs.Fields.{same-level}
-use Rattle.level.proofs.Judged.{length-tiles}
 use Rattle.level.proofs.Mended.{mendable, level-reached, passing, found, none-reached}
 use Rattle.record.specs.declared.Judged.{Judged}
-use Rattle.record.specs.Reading.{JudgedAs}
-use Rattle.record.proofs.Reading.{field-5}
-use Rattle.record.proofs.Tiles.{area-small}
+use Rattle.record.specs.Reading.{AcceptedAs}
+use Rattle.record.proofs.Reader.{passed, level-is, tiles-past}
 use Rattle.lanes.specs.Lanes.{Ready}
 use Rattle.strip.specs.declared.read.Reading.{Reading}
 use Rattle.strip.specs.declared.read.Reading.the-variants as reading
-use Rattle.strip.specs.Reading.{readNumbers, LevelRead, StripReadsAs, AcceptedAs, FinishedAs}
+use Rattle.strip.specs.Reading.{readNumbers, LevelRead, StripReadsAs, FinishedAs}
 use Rattle.strip.proofs.Entering.{early, refused-early, later}
-
--- ---- the record accepted
-
-module _ (lanes : ℕ) (bs board : List ℕ) (r : Judged) (J : JudgedAs lanes bs board r) where
-  pub area-few : r .code ≡ 0 → r .width * r .height ≤ 961
-  area-few z = area-small (r .width) (r .height) (omega (arith, J .spells z .width, field-5 bs 4)) (omega (arith, J .spells z .height, field-5 bs 9))
-
-  pub rejected : (tiles : List ℕ) → (r .code ≡ 0 → ⊥) → AcceptedAs lanes bs tiles tiles r
-  rejected tiles n = record {
-    first = J .first;
-    wide = λ z. absurd (n z);
-    high = λ z. absurd (n z);
-    par = λ z. absurd (n z);
-    tiles-are = λ z. absurd (n z);
-    kept = λ _. refl;
-  }
-
-  pub board-part : r .code ≡ 0 → 968 ≤ length board → length (take (r .width * r .height - 0) board) ≡ r .width * r .height
-  board-part z h = length-take-le (r .width * r .height - 0) board (omega (arith, area-few z)) ∙ omega arith
-
-  pub accepted : (tiles tiles' : List ℕ) → r .code ≡ 0 → 968 ≤ length board
-      → tiles' ≡ take (r .width * r .height - 0) board ++ drop (length (take (r .width * r .height - 0) board)) tiles → AcceptedAs lanes bs tiles tiles' r
-  accepted tiles tiles' z h e = record {
-    first = J .first;
-    wide = λ z. J .spells z .width;
-    high = λ z. J .spells z .height;
-    par = λ z. J .spells z .par;
-    tiles-are = λ z. e ∙ ap₂ (λ (x : List ℕ) (n : ℕ). x ++ drop n tiles) (ap (λ (n : ℕ). take n board) whole ∙ J .spells z .tiles) (board-part z h);
-    kept = λ n. absurd (n z);
-  }
-    where
-      whole : r .width * r .height - 0 ≡ r .width * r .height
-      whole = omega arith
 
 -- ---- with what was mended
 
@@ -81,24 +45,16 @@ module _ (bs tiles tiles' : List ℕ) (N e : ℕ) (j : Judged) (A : AcceptedAs 4
   finish-read v z ev = record {
     first = subst (First (judging 4 (λ ask. ask bs))) z (A .first);
     lane = refl;
-    wide = λ _. A .wide z;
-    high = λ _. A .high z;
+    wide = λ _. A .width z;
+    high = λ _. A .height z;
     par = λ _. A .par z;
     mended = λ _. refl;
     wear = λ _. ev;
-    tiles-are = λ _. A .tiles-are z;
+    tiles-are = λ _. A .tiles z;
     kept = λ n. absurd (n refl);
   }
 
 -- ---- the strip
-
--- nothing to refuse in a record
-passed : (bs : List ℕ) (c : ℕ) → c ≡ 0 → First (judging 4 (λ ask. ask bs)) c → Headed bs × Shaped 4 bs × AllTiles (tilesOf bs) × Playable (totals (tilesOf bs))
-passed bs c z (inl a) = absurd (omega (arith, a .1))
-passed bs c z (inr (a, inl b)) = absurd (omega (arith, b .1))
-passed bs c z (inr (a, inr (b, inl d))) = absurd (omega (arith, d .1))
-passed bs c z (inr (a, inr (b, inr (d, inl f)))) = absurd (omega (arith, f .1))
-passed bs c z (inr (a, inr (b, inr (d, inr (f, g))))) = (a, b, d, f)
 
 -- 7 to 10
 numbers : (bs : List ℕ) (c : ℕ) → (c ≡ 0 → ⊥) → First (judging 4 (λ ask. ask bs)) c → 7 ≤ c
@@ -156,21 +112,14 @@ module _ (s marks tiles scratch : List ℕ) where
           only = λ l u q. sym (passing 4 (omega arith) marks s t (rd .legal) short M l u q .level) ∙ same;
           mended-is = F .mended z ∙ counted;
           wear-is = F .wear z ∙ ap (λ (x : ℕ). wearOf x (length s)) (sym (F .mended z));
-          rest = ap (drop (readNumbers a .width * readNumbers a .height)) (F .tiles-are z) ∙ drop-at (tilesOf (dataOf 4 t)) (drop (readNumbers a .width * readNumbers a .height) tiles) (readNumbers a .width * readNumbers a .height) count;
+          rest = tiles-past (dataOf 4 t) tiles tiles' (readNumbers a .width) (readNumbers a .height) (readNumbers a .par) (F .wide z) (F .high z) (F .par z) (F .tiles-are z);
         }
           where
-            count : length (tilesOf (dataOf 4 t)) ≡ readNumbers a .width * readNumbers a .height
-            count =
-                length-tiles (dataOf 4 t) (fieldAt (dataOf 4 t) 4 5 * fieldAt (dataOf 4 t) 9 5)
-                ∙ ap₂ (λ (x y : ℕ). x * y) (sym (F .wide z)) (sym (F .high z))
-
             same : levelOf (dataOf 4 t) ≡ returned (readNumbers a) tiles'
-            same =
-                same-level (levelOf (dataOf 4 t)) (returned (readNumbers a) tiles') (sym (F .wide z)) (sym (F .high z)) (sym (F .par z))
-                (sym (ap (take (readNumbers a .width * readNumbers a .height)) (F .tiles-are z) ∙ take-at (tilesOf (dataOf 4 t)) (drop (readNumbers a .width * readNumbers a .height) tiles) (readNumbers a .width * readNumbers a .height) count))
+            same = level-is (dataOf 4 t) tiles tiles' (readNumbers a .width) (readNumbers a .height) (readNumbers a .par) (F .wide z) (F .high z) (F .par z) (F .tiles-are z)
 
             good : Headed (dataOf 4 t) × Shaped 4 (dataOf 4 t) × AllTiles (tilesOf (dataOf 4 t)) × Playable (totals (tilesOf (dataOf 4 t)))
-            good = passed (dataOf 4 t) (readNumbers a .code) z (F .first)
+            good = passed 4 (dataOf 4 t) (readNumbers a .code) z (F .first)
 
             reached : Reached 4 marks s (levelOf (dataOf 4 t)) t
             reached = level-reached 4 (omega arith) marks s t (rd .legal) M (good .0) (good .1) (good .2) (good .3)

@@ -10,7 +10,6 @@ use Rattle.level.specs.Level.{Level}
 use Rattle.level.specs.Record.{fieldAt}
 use Rattle.level.specs.Strip.{Reached, mendedOf, wearOf}
 use Rattle.level.specs.Reading.{ReadNumbers, refusedAt, returned, readingStrip, entering, Lowest, judging, tilesOf}
-use Rattle.record.specs.declared.Judged.{Judged}
 use Rattle.strip.specs.declared.read.Reading.{Reading}
 use Rattle.strip.specs.declared.read.Reading.the-variants as reading
 
@@ -44,15 +43,6 @@ pub record StripReadsAs (s marks tiles tiles' scratch scratch' : List ℕ) (a : 
 pub record EntersAs (s marks : List ℕ) (room scratch : ℕ) (e : Entered) : Type 0 where
   pub first : First (entering 4 s marks room scratch []) (e .code)
   pub count : e .code ≡ 0 → e .marked ≡ countTo (isMarked marks) (length marks)
-
--- the record bs judged, and its tiles written where nothing is refused
-pub record AcceptedAs (lanes : ℕ) (bs tiles tiles' : List ℕ) (r : Judged) : Type 0 where
-  pub first : First (judging lanes (λ ask. ask bs)) (r .code)
-  pub wide : r .code ≡ 0 → r .width ≡ fieldAt bs 4 5
-  pub high : r .code ≡ 0 → r .height ≡ fieldAt bs 9 5
-  pub par : r .code ≡ 0 → r .par ≡ fieldAt bs 14 10
-  pub tiles-are : r .code ≡ 0 → tiles' ≡ tilesOf bs ++ drop (r .width * r .height) tiles
-  pub kept : (r .code ≡ 0 → ⊥) → tiles' ≡ tiles
 
 -- the record bs of a strip of N cells, judged and unpacked
 pub record FinishedAs (bs : List ℕ) (N e : ℕ) (tiles tiles' : List ℕ) (n : ReadNumbers) : Type 0 where

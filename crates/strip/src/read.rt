@@ -6,10 +6,8 @@ ghost use Rattle.account.specs.Reach.{countTo, isMarked};
 ghost use Rattle.errata.specs.Errata.{Says};
 ghost use Rattle.level.specs.Strip.{Legal, wearOf};
 ghost use Rattle.lanes.specs.Lanes.{Ready, MendedAs};
-ghost use Rattle.level.specs.Reading.{returned};
-ghost use Rattle.strip.specs.Reading.{readNumbers, EntersAs, AcceptedAs, FinishedAs, StripReadsAs};
+ghost use Rattle.strip.specs.Reading.{readNumbers, EntersAs, FinishedAs, StripReadsAs};
 use code::repair::Entered;
-use record::Judged;
 
 // What reading answers: the level's numbers with what was mended, or a refusal's number and lane.
 pub enum Reading {
@@ -85,28 +83,12 @@ fn mend(strip: &[u8], marks: &[u8], f: usize, scratch: &mut [u8]) -> lanes::Mend
     lanes::mend(strip, marks, f, r, scratch)
 }
 
-// The record in the data cells, judged; its tiles are written only where nothing is refused.
-fn accept(bs: &[u8], lanes: usize, tiles: &mut [u8]) -> Judged
-    requires { ⌜ (4 ≤ length (now bs)) × (length (now bs) ≤ 364) × (1 ≤ lanes) × (lanes ≤ 16) × (961 ≤ length (now tiles)) ⌝ }
-    ensures { λ r. ⌜ AcceptedAs lanes (now (bs .entry)) (now (tiles .entry)) (now (tiles .exit)) r ⌝ }
-{
-    let mut board = [0u8; 968];
-    let j = record::judge(bs, lanes, &mut board);
-    let code = j.code;
-    if code != 0 {
-        return j;
-    }
-    let m = j.width * j.height;
-    code::word::put_data(&board[0..m], tiles);
-    j
-}
-
 // The record in the data cells of a strip of n cells of which so many were mended.
 fn finish(bs: &[u8], n: usize, mended: usize, tiles: &mut [u8]) -> Reading
     requires { ⌜ (4 ≤ length (now bs)) × (length (now bs) ≤ 364) × (961 ≤ length (now tiles)) × (mended ≤ 8) × (24 ≤ n) ⌝ }
     ensures { λ r. ⌜ FinishedAs (now (bs .entry)) n mended (now (tiles .entry)) (now (tiles .exit)) (readNumbers r) ⌝ }
 {
-    let j = accept(bs, 4, tiles);
+    let j = record::accept(bs, 4, tiles);
     let code = j.code;
     if code != 0 {
         return Reading::Refused { code, lane: 0 };

@@ -423,8 +423,8 @@ pub fn accept(bs: &[u8], lanes: usize, tiles: &mut [u8]) -> Judged
 {
     let mut board = [0u8; 968];
     let j = judge(bs, lanes, &mut board);
-    let code = j.code;
-    if code != 0 {
+    let refusal = j.code;
+    if refusal != 0 {
         return j;
     }
     let m = j.width * j.height;

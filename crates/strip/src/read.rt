@@ -67,7 +67,7 @@ fn enter(strip: &[u8], marks: &[u8], tiles: usize, scratch: usize) -> Entered
 
 // Percent of the cells that were mended, rounded down.
 fn wear(mended: usize, n: usize) -> usize
-    requires { ⌜ (mended ≤ 8) × (24 ≤ n) ⌝ }
+    requires { ⌜ (mended ≤ 8) × (24 ≤ n) × (n ≤ 384) ⌝ }
     ensures { λ r. ⌜ r ≡ wearOf mended n ⌝ }
 {
     100 * mended / n
@@ -85,7 +85,7 @@ fn mend(strip: &[u8], marks: &[u8], f: usize, scratch: &mut [u8]) -> lanes::Mend
 
 // The record in the data cells of a strip of n cells of which so many were mended.
 fn finish(bs: &[u8], n: usize, mended: usize, tiles: &mut [u8]) -> Reading
-    requires { ⌜ (4 ≤ length (now bs)) × (length (now bs) ≤ 364) × (961 ≤ length (now tiles)) × (mended ≤ 8) × (24 ≤ n) ⌝ }
+    requires { ⌜ (4 ≤ length (now bs)) × (length (now bs) ≤ 364) × (961 ≤ length (now tiles)) × (mended ≤ 8) × (24 ≤ n) × (n ≤ 384) ⌝ }
     ensures { λ r. ⌜ FinishedAs (now (bs .entry)) n mended (now (tiles .entry)) (now (tiles .exit)) (readNumbers r) ⌝ }
 {
     let j = record::accept(bs, 4, tiles);

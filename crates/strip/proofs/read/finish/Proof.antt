@@ -4,7 +4,6 @@ use Rattle.strip.proofs.read.finish.Statement.{statement}
 use Rattle.strip.proofs.read.finish.Tie as tie
 use Rattle.strip.proofs.read.finish.Reads as reads
 use Rattle.strip.proofs.read.finish.Lts as lts
-use Rattle.strip.proofs.read.accept.Reads as accept-reads
 use Rattle.strip.proofs.read.wear.Reads as wear-reads
 
 -- src/read.rt:109:9

@@ -81,7 +81,7 @@ finish-requires c κs =
     let x = c .before .before .before .before .before .before .mend .last .1 .1 .1 .0 in
     let e : length x ≡ length (a .scratch .now) = search needs in
     let l : length (take (length (a .strip .now) - 20 - 0) x) ≡ length (a .strip .now) - 20 = length-take-le (length (a .strip .now) - 20 - 0) x (omega (arith, r .0 .legal .to, r .0 .legal .cells, r .0 .room, e)) ∙ omega arith in
-    (omega (arith, l, r .0 .legal .from, r .0 .legal .cells), omega (arith, l, r .0 .legal .to, r .0 .legal .cells), r .1, c .before .before .before .before .before .before .mend .ensures .small, omega (arith, r .0 .legal .from, r .0 .legal .cells))
+    (omega (arith, l, r .0 .legal .from, r .0 .legal .cells), omega (arith, l, r .0 .legal .to, r .0 .legal .cells), r .1, c .before .before .before .before .before .before .mend .ensures .small, omega (arith, r .0 .legal .from, r .0 .legal .cells), omega (arith, r .0 .legal .to, r .0 .legal .cells))
 
 -- src/read.rt:124:1
 same-length-2 : tie.Need-same-length-2

@@ -2,7 +2,7 @@
 use mathlib.Core.Path.{_≡_, refl, sym, ap, ap₂, _∙_, subst}
 use mathlib.Core.Logic.{inl, inr}
 use mathlib.Core.List.{List, _++_}
-use Prim.Native.Nat.{ℕ, _+_, _*_, _-_, _/_, _≤_, _<_}
+use Prim.Native.Nat.{ℕ, _+_, _*_, _-_, _≤_}
 use native.Mathlib.Omega.{arith}
 use lib.ListN.{length, take, drop}
 use lib.Seq.{take-at, drop-at, take-all}
@@ -56,9 +56,6 @@ module _ (bs old : List ℕ) where
 
   module _ (r : Judged) (board new : List ℕ) (z : r .code ≡ 0) (J : JudgedAs 1 bs board r)
       (put : new ≡ take (r .width * r .height - 0) board ++ drop (length (take (r .width * r .height - 0) board)) old) where
-    m : ℕ
-    m = r .width * r .height
-
     sp : Spells bs board r
     sp = J .spells z
 

@@ -1,38 +1,28 @@
 use Rattle.record.proofs.Reader.{not-read-1, not-read-4, not-read-later, reads}
-use Prim.Native.Nat.{_*_, _-_, _≤_}
-use lib.ListN.{length, length-take}
+use Prim.Native.Nat.{_*_, _-_}
+use lib.ListN.{length-take}
 use native.Mathlib.Omega.{arith}
 use borrow.Author.Needs.{needs}
 use Rattle.record.proofs.read.Statement.{statement}
 use Rattle.record.proofs.read.Tie as tie
-use Rattle.record.proofs.read.Reads as reads
-use Rattle.record.proofs.read.Lts as lts
-use Rattle.code.proofs.word.put_data.Reads as put-data-reads
-use Rattle.record.proofs.judge.Reads as judge-reads
 
--- src/lib.rt:427:9
 returns : tie.Need-returns
 returns c = let a = c .before .before .before .args in not-read-1 (a .bytes .now) (a .tiles .now) (λ w. omega (arith, w .from, c .if1 .taken))
 
--- src/lib.rt:430:9
 returns-2 : tie.Need-returns-2
 returns-2 c = let a = c .before .before .before .before .args in not-read-1 (a .bytes .now) (a .tiles .now) (λ w. omega (arith, w .to, c .if2 .taken))
 
--- src/lib.rt:433:9
 returns-3 : tie.Need-returns-3
 returns-3 c =
     let a = c .before .before .before .before .before .args in
     not-read-4 (a .bytes .now) (a .tiles .now) (record { from = omega (arith, c .before .before .if1 .left); to = omega (arith, c .before .if2 .left) }) (λ w. omega (arith, w, c .if3 .taken))
 
--- src/lib.rt:436:29
 slice-aggregate-judge : tie.Need-slice-aggregate-judge
 slice-aggregate-judge c = search needs
 
--- src/lib.rt:436:9
 judge-requires : tie.Need-judge-requires
 judge-requires c κs = search needs
 
--- src/lib.rt:438:9
 returns-4 : tie.Need-returns-4
 returns-4 c =
     let a = c .before .before .before .before .before .before .before .before .before .before .args in
@@ -40,33 +30,26 @@ returns-4 c =
     not-read-later (a .bytes .now) (a .tiles .now) (j .result .code) (record { from = omega (arith, c .before .before .before .before .before .before .before .if1 .left); to = omega (arith, c .before .before .before .before .before .before .if2 .left) }) (omega (arith, c .before .before .before .before .before .if3 .left))
     (λ z. omega (arith, z, c .if4 .taken)) (j .ensures .first)
 
--- src/lib.rt:440:13
 mul-m : tie.Need-mul-m
 mul-m c = omega (arith, c .before .before .before .before .judge .ensures .spells (omega (arith, c .before .if4 .left)) .few)
 
--- src/lib.rt:441:26
 sub-put-data : tie.Need-sub-put-data
 sub-put-data c = search needs
 
--- src/lib.rt:441:26
 part-put-data-start : tie.Need-part-put-data-start
 part-put-data-start c = search needs
 
--- src/lib.rt:441:26
 part-put-data-end : tie.Need-part-put-data-end
 part-put-data-end c = let j = c .before .before .before .before .before .judge in omega (arith, j .ensures .spells (omega (arith, c .before .before .if4 .left)) .few, j .kept .1 .1 .0)
 
--- src/lib.rt:441:5
 put-data-requires : tie.Need-put-data-requires
 put-data-requires c κs =
     let j = c .before .before .before .before .before .before .before .judge in
     omega (arith, j .ensures .spells (omega (arith, c .before .before .before .before .if4 .left)) .few, length-take (j .result .width * j .result .height - 0) (j .last .1 .1 .0), c .before .before .before .before .before .before .before .before .before .if3 .left)
 
--- src/lib.rt:423:1
 same-length : tie.Need-same-length
 same-length c = search needs
 
--- src/lib.rt:423:1
 returns-5 : tie.Need-returns-5
 returns-5 c =
     let a = c .before .before .before .before .before .before .before .before .before .before .before .before .before .before .before .before .before .args in

@@ -5,25 +5,23 @@
  * each accepts of damage beyond reach. Only the ratios travel to another
  * machine.
  */
-#define _POSIX_C_SOURCE 199309L /* for clock_gettime */
 #include <fec.h>
 #include <stdbool.h>
 #include <stdio.h>
 #include <stdlib.h>
 #include <string.h>
-#include <time.h>
 
+#include "beside.h"
 #include "draw.h"
+#include "harness.h"
 #include "reference.h"
 #include "zavullimen_words.h"
-
-#define COUNT(array) (sizeof(array) / sizeof *(array))
 
 enum {
     WORDS = 64,    /* words per pass: few enough for the cache */
     ROUNDS = 200,  /* passes of each, in turn; the quickest counts */
     DRAWN = 20000, /* damaged words per line of the second table */
-    FULL = 255     /* length of a word that is not shortened */
+    FULL = REF_WORD_MAX
 };
 
 struct damage {
@@ -31,35 +29,6 @@ struct damage {
     int wrong;
     int marked;
 };
-
-/* ---- libfec ---- */
-
-/* The same code: field 0x11D, first root alpha^253 = alpha^-2, five roots. */
-static void *new_fec(size_t len)
-{
-    void *fec = init_rs_char(8, 0x11D, 253, 1, REF_CHECK_BYTES,
-                             FULL - (int)len);
-
-    if (fec == NULL) {
-        fprintf(stderr, "libfec did not accept the code\n");
-        exit(1);
-    }
-    return fec;
-}
-
-/*
- * libfec takes the places of the marks, counted in the shortened word. (Other
- * copies of this decoder count the leading pad too; they would fail below.)
- */
-static void find_erasures(const uint8_t *marks, size_t len,
-                          int erasures[REF_CHECK_BYTES])
-{
-    int count = 0;
-
-    for (size_t i = 0; i < len; i++)
-        if (marks[i])
-            erasures[count++] = (int)i;
-}
 
 /* ---- a batch of words with one kind of damage ---- */
 
@@ -139,14 +108,6 @@ static void fec_repair(struct batch *b)
 }
 
 /* ---- timing ---- */
-
-static double now(void)
-{
-    struct timespec t;
-
-    clock_gettime(CLOCK_MONOTONIC, &t);
-    return (double)t.tv_sec * 1e9 + (double)t.tv_nsec;
-}
 
 static void time_pass(struct batch *b, pass *run, double *least)
 {

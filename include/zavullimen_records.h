@@ -18,7 +18,28 @@
 extern "C" {
 #endif
 
-#define ZAV_RECORD_MAX 364 /* bytes in a record, and in a buffer for one */
+#define ZAV_RECORD_MIN 4   /* bytes in a record */
+#define ZAV_RECORD_MAX 364 /* and in a buffer for one */
+#define ZAV_TILES_MAX 961  /* tiles of a level, and in a buffer for them */
+
+/*
+ * A reader's result has the width in bits 11 to 15, the height in bits 16 to
+ * 20 and the par in bits 21 to 30.
+ */
+static inline unsigned zav_width(uint64_t result)
+{
+    return (unsigned)(result >> 11 & 0x1F);
+}
+
+static inline unsigned zav_height(uint64_t result)
+{
+    return (unsigned)(result >> 16 & 0x1F);
+}
+
+static inline unsigned zav_par(uint64_t result)
+{
+    return (unsigned)(result >> 21 & 0x3FF);
+}
 
 /*
  * Write the level's record to the front of the buffer, and return the length
@@ -30,6 +51,18 @@ extern "C" {
 uint64_t zav_record_write(size_t width, size_t height, size_t par,
                           const uint8_t *tiles, size_t tiles_len,
                           uint8_t *record, size_t record_len);
+
+/*
+ * Read a level from its record: its tiles, one byte each, are put in front of
+ * the tile buffer, and width, height and par are returned; tile bytes past
+ * the level keep their value. Nothing is written when refused (1: record not
+ * 4 to 364 bytes, 4: tiles_len under 961, 7: version not 1, or width or
+ * height 0, 8: record_len not that of the size, or a filling bit set, 9: a
+ * tile code 7, 10: not one player, no crate, or crates and goals unequal),
+ * and the record never is.
+ */
+uint64_t zav_record_read(const uint8_t *record, size_t record_len,
+                         uint8_t *tiles, size_t tiles_len);
 
 #ifdef __cplusplus
 }

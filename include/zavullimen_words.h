@@ -29,21 +29,54 @@ extern "C" {
 /* The code of a result. Where several refusals apply, the lowest is given. */
 enum zav_result_code {
     ZAV_DONE = 0,
-    ZAV_BAD_LENGTH = 1,        /* data, word or lane too short or too long */
+    ZAV_BAD_LENGTH = 1,        /* of the data, word, lane, record or strip */
     ZAV_BAD_MARKS_LENGTH = 2,  /* not one mark per cell */
     ZAV_BAD_MARK = 3,          /* a mark above 1 */
     ZAV_BAD_BUFFER_LENGTH = 4, /* word buffer not data + 5; others too short */
+    ZAV_SHORT_SCRATCH = 5,     /* scratch too short */
     ZAV_BEYOND_REACH = 6,      /* no clean word within reach */
     ZAV_OUT_OF_RANGE = 7,      /* a record's version, width, height or par */
-    ZAV_BAD_SIZE = 8,          /* not as many tiles as the size says */
+    ZAV_BAD_SIZE = 8,          /* length and size disagree, or filling set */
     ZAV_BAD_TILE = 9,          /* a tile code above 6 */
     ZAV_NOT_PLAYABLE = 10      /* not one player, or crates and goals amiss */
 };
 
+/* What a code says, for people; the text may change, the code does not. */
+static inline const char *zav_refusal_text(unsigned code)
+{
+    switch (code) {
+    case ZAV_DONE:
+        return "no refusal";
+    case ZAV_BAD_LENGTH:
+        return "this length is not allowed";
+    case ZAV_BAD_MARKS_LENGTH:
+        return "there is not one mark for each cell";
+    case ZAV_BAD_MARK:
+        return "a mark is neither 0 nor 1";
+    case ZAV_BAD_BUFFER_LENGTH:
+        return "the buffer for the result has the wrong length";
+    case ZAV_SHORT_SCRATCH:
+        return "the scratch is too short";
+    case ZAV_BEYOND_REACH:
+        return "too many cells are wrong or marked";
+    case ZAV_OUT_OF_RANGE:
+        return "the version, width, height or par is out of range";
+    case ZAV_BAD_SIZE:
+        return "the length does not fit the size, or the filling is not zero";
+    case ZAV_BAD_TILE:
+        return "there is no such tile code";
+    case ZAV_NOT_PLAYABLE:
+        return "not one player, no crate, or crates and goals unequal";
+    default:
+        return "unknown refusal";
+    }
+}
+
 /*
  * Results are packed in one number: the code in bits 0 to 4, mended in bits
- * 31 to 36, length in bits 55 to 63, all other bits zero. With a refusal
- * everything but the code is zero.
+ * 31 to 36, length in bits 55 to 63, and what the other headers name; all
+ * other bits are zero. With a refusal everything but the code is zero, and
+ * of a strip beyond reach the lane.
  */
 static inline unsigned zav_code(uint64_t result)
 {

@@ -196,17 +196,24 @@ uint8_t *map_zeros(size_t len)
     return map(len, PROT_READ);
 }
 
-void unmap_zeros(uint8_t *zeros, size_t len)
+uint8_t *map_scratch(size_t len)
 {
-    munmap(zeros, len);
+    return map(len, PROT_READ | PROT_WRITE);
+}
+
+void unmap_long(uint8_t *bytes, size_t len)
+{
+    munmap(bytes, len);
 }
 
 /* ---- checks ---- */
 
 uint64_t packed(struct ref_result r)
 {
-    return (uint64_t)r.code | (uint64_t)r.mended << 31 |
-           (uint64_t)r.length << 55;
+    return (uint64_t)r.code | (uint64_t)r.lane << 5 |
+           (uint64_t)r.width << 11 | (uint64_t)r.height << 16 |
+           (uint64_t)r.par << 21 | (uint64_t)r.mended << 31 |
+           (uint64_t)r.wear << 44 | (uint64_t)r.length << 55;
 }
 
 const char *hex(char text[HEX_TEXT], const uint8_t *bytes, size_t len)

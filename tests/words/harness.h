@@ -54,9 +54,10 @@ void seal(struct lent *b);
 /* The bytes are as expected, and the guard bytes are untouched. */
 bool is_kept(const struct lent *b, const uint8_t *expected);
 
-/* A read-only stretch of zero bytes, for lengths past 2^32. */
+/* A stretch of zero bytes for lengths past 2^32, read-only or to be written. */
 uint8_t *map_zeros(size_t len);
-void unmap_zeros(uint8_t *zeros, size_t len);
+uint8_t *map_scratch(size_t len);
+void unmap_long(uint8_t *bytes, size_t len);
 
 /* ---- checks: a difference fails the group ---- */
 

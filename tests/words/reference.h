@@ -19,11 +19,17 @@ enum {
     REF_REACH = 5 /* the most that 2e + f may come to */
 };
 
-/* length is what the writer wrote; for the test it is 1 if clean. */
+/*
+ * length is what the writer wrote; for the test it is 1 if clean. What comes
+ * after it belongs to records and strips.
+ */
 struct ref_result {
     unsigned code;
     unsigned mended;
     unsigned length;
+    unsigned lane;
+    unsigned width, height, par;
+    unsigned wear;
 };
 
 uint8_t ref_product(uint8_t a, uint8_t b);

@@ -24,6 +24,23 @@ static void pack_text(const struct text *t, uint8_t *record)
             record[p / 8] |= (uint8_t)(0x80 >> p % 8);
 }
 
+static void unpack_text(struct text *t, const uint8_t *bytes, size_t len)
+{
+    t->len = 0;
+    for (size_t i = 0; i < len; i++)
+        put(t, bytes[i], 8);
+}
+
+/* The number spelt by so many bits from place `from` on. */
+static unsigned take(const struct text *t, size_t from, int bits)
+{
+    unsigned value = 0;
+
+    for (int b = 0; b < bits; b++)
+        value = 2 * value + (t->bits[from + (size_t)b] == '1');
+    return value;
+}
+
 static bool is_side(size_t n)
 {
     return n != 0 && n <= REF_SIDE_MAX;
@@ -46,6 +63,21 @@ static size_t count(const uint8_t *tiles, size_t len, char thing)
     return n;
 }
 
+/* 9 or 10, or 0 for tiles that make a level. */
+static unsigned refusal_of_tiles(const uint8_t *tiles, size_t len)
+{
+    for (size_t i = 0; i < len; i++)
+        if (tiles[i] > 6)
+            return 9;
+
+    const size_t crates = count(tiles, len, 'c');
+
+    if (count(tiles, len, 'p') != 1 || crates == 0 ||
+        crates != count(tiles, len, 'g'))
+        return 10;
+    return 0;
+}
+
 static unsigned refusal_of(size_t width, size_t height, size_t par,
                            const uint8_t *tiles, size_t tiles_len,
                            size_t record_len)
@@ -56,28 +88,27 @@ static unsigned refusal_of(size_t width, size_t height, size_t par,
         return 7;
     if (tiles_len != width * height)
         return 8;
-    for (size_t i = 0; i < tiles_len; i++)
-        if (tiles[i] > 6)
-            return 9;
-
-    const size_t crates = count(tiles, tiles_len, 'c');
-
-    if (count(tiles, tiles_len, 'p') != 1 || crates == 0 ||
-        crates != count(tiles, tiles_len, 'g'))
-        return 10;
-    return 0;
+    return refusal_of_tiles(tiles, tiles_len);
 }
 
-struct ref_result ref_record_write(size_t width, size_t height, size_t par,
-                                   const uint8_t *tiles, size_t tiles_len,
-                                   uint8_t *record, size_t record_len)
+static size_t round_up(size_t n, size_t unit)
 {
-    struct ref_result r = {0};
+    return (n + unit - 1) / unit * unit;
+}
+
+/* Where the fields end and the tiles start, in bits. */
+enum { VERSION_AT = 0, WIDTH_AT = 4, HEIGHT_AT = 9, PAR_AT = 14, TILES_AT = 24 };
+
+size_t ref_record_len(size_t tiles)
+{
+    return round_up(TILES_AT + 3 * tiles, 8) / 8;
+}
+
+size_t ref_lay_record(size_t width, size_t height, size_t par,
+                      const uint8_t *tiles, size_t tiles_len, uint8_t *record)
+{
     struct text t = {.len = 0};
 
-    r.code = refusal_of(width, height, par, tiles, tiles_len, record_len);
-    if (r.code != 0)
-        return r;
     put(&t, 1, 4);
     put(&t, width, 5);
     put(&t, height, 5);
@@ -87,6 +118,68 @@ struct ref_result ref_record_write(size_t width, size_t height, size_t par,
     while (t.len % 8 != 0)
         put(&t, 0, 1);
     pack_text(&t, record);
-    r.length = (unsigned)(t.len / 8);
+    return t.len / 8;
+}
+
+struct ref_result ref_record_write(size_t width, size_t height, size_t par,
+                                   const uint8_t *tiles, size_t tiles_len,
+                                   uint8_t *record, size_t record_len)
+{
+    struct ref_result r = {0};
+
+    r.code = refusal_of(width, height, par, tiles, tiles_len, record_len);
+    if (r.code == 0)
+        r.length = (unsigned)ref_lay_record(width, height, par, tiles,
+                                            tiles_len, record);
     return r;
+}
+
+/* ---- reading ---- */
+
+static bool has_filling(const struct text *t, size_t from)
+{
+    for (size_t p = from; p < t->len; p++)
+        if (t->bits[p] == '1')
+            return true;
+    return false;
+}
+
+struct ref_result ref_level_of(const uint8_t *bytes, size_t len, size_t unit,
+                               uint8_t *tiles)
+{
+    struct text t;
+    uint8_t taken[REF_TILES_MAX];
+
+    unpack_text(&t, bytes, len);
+
+    const struct ref_result level = {.width = take(&t, WIDTH_AT, 5),
+                                     .height = take(&t, HEIGHT_AT, 5),
+                                     .par = take(&t, PAR_AT, 10)};
+    const size_t tiles_len = (size_t)level.width * level.height;
+
+    if (take(&t, VERSION_AT, 4) != 1 || !is_side(level.width) ||
+        !is_side(level.height))
+        return (struct ref_result){.code = 7};
+    if (len != round_up(ref_record_len(tiles_len), unit) ||
+        has_filling(&t, TILES_AT + 3 * tiles_len))
+        return (struct ref_result){.code = 8};
+    for (size_t i = 0; i < tiles_len; i++)
+        taken[i] = (uint8_t)take(&t, TILES_AT + 3 * i, 3);
+
+    const unsigned code = refusal_of_tiles(taken, tiles_len);
+
+    if (code != 0)
+        return (struct ref_result){.code = code};
+    memcpy(tiles, taken, tiles_len);
+    return level;
+}
+
+struct ref_result ref_record_read(const uint8_t *record, size_t record_len,
+                                  uint8_t *tiles, size_t tiles_len)
+{
+    if (record_len < REF_RECORD_MIN || record_len > REF_RECORD_MAX)
+        return (struct ref_result){.code = 1};
+    if (tiles_len < REF_TILES_MAX)
+        return (struct ref_result){.code = 4};
+    return ref_level_of(record, record_len, 1, tiles);
 }

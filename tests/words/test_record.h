@@ -1,4 +1,4 @@
-/* test_record.h - the record writer against the second implementation. */
+/* test_record.h - the record reader against the second implementation. */
 #ifndef TEST_RECORD_H
 #define TEST_RECORD_H
 

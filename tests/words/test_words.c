@@ -1,5 +1,6 @@
 /*
- * test_words.c - the library's words against the second implementation.
+ * test_words.c - the library against the second implementation: words here,
+ * and the main program, which runs all subjects.
  *
  * Usage: test_words [PERCENT]. PERCENT scales the number of random cases.
  */
@@ -11,8 +12,12 @@
 #include "draw.h"
 #include "harness.h"
 #include "reference.h"
+#include "test_header.h"
+#include "test_huge.h"
 #include "test_record.h"
 #include "test_repair.h"
+#include "test_strip.h"
+#include "test_writer.h"
 #include "zavullimen_words.h"
 
 /* ---- the field ---- */
@@ -256,57 +261,6 @@ static void test_test_lengths(void)
     group_end();
 }
 
-/* ---- lengths that a narrower number would cut ---- */
-
-/* Only refused calls: they write nothing, so read-only zeros can be lent. */
-static void check_huge_word(uint8_t *zeros, uint8_t *more, size_t past)
-{
-    group_case();
-    check_number(zav_word_test(zeros, past + 10),
-                 packed(ref_word_test(zeros, past + 10)), "test");
-    check_number(zav_word_write(zeros, past + 10, more, past + 15),
-                 packed(ref_word_write(zeros, past + 10, more, past + 15)),
-                 "write, both lengths");
-    check_number(zav_word_write(zeros, 10, more, past + 15),
-                 packed(ref_word_write(zeros, 10, more, past + 15)),
-                 "write, buffer length");
-}
-
-static void check_huge_repair(const struct repair *entry, uint8_t *zeros,
-                              size_t len, const uint8_t *marks,
-                              size_t marks_len)
-{
-    const struct ref_result r = entry->reference(zeros, len, marks, marks_len);
-
-    group_case();
-    check_number(entry->run(zeros, len, marks, marks_len), packed(r),
-                 entry->name);
-}
-
-static void test_huge_lengths(void)
-{
-    static const size_t past[] = {(size_t)1 << 8, (size_t)1 << 16,
-                                  (size_t)1 << 31, (size_t)1 << 32};
-    const size_t most = ((size_t)1 << 32) + 4096;
-    uint8_t *zeros = map_zeros(most);
-    uint8_t *more = map_zeros(most);
-
-    group_begin("all entries", "lengths past 2^8, 2^16, 2^31 and 2^32");
-    for (size_t k = 0; k < COUNT(past); k++) {
-        const size_t len = past[k] + 10;
-
-        check_huge_word(zeros, more, past[k]);
-        for (size_t e = 0; e < REPAIRS; e++) {
-            check_huge_repair(&repairs[e], zeros, len, more, len);
-            check_huge_repair(&repairs[e], zeros, 10, more, len);
-            check_huge_repair(&repairs[e], zeros, len, more, 10);
-        }
-    }
-    group_end();
-    unmap_zeros(zeros, most);
-    unmap_zeros(more, most);
-}
-
 /* ---- cells worked by hand in the paper ---- */
 
 static void check_worked_product(uint8_t a, uint8_t b, uint8_t product)
@@ -392,31 +346,10 @@ static void test_worked_cells(void)
     group_end();
 }
 
-/* ---- the header ---- */
-
-/* All other bits are set, to see that the unpackers leave them out. */
-static void test_unpackers(void)
-{
-    group_begin("header", "unpackers");
-    for (unsigned length = 0; length < 512; length++)
-        for (unsigned mended = 0; mended < 64; mended++) {
-            const unsigned code = (unsigned)draw_below(32);
-            const struct ref_result all = {31, 63, 511};
-            const struct ref_result r = {code, mended, length};
-            const uint64_t result = packed(r) | ~packed(all);
-
-            group_case();
-            check_number(zav_code(result), code, "code");
-            check_number(zav_mended(result), mended, "mended");
-            check_number(zav_length(result), length, "length");
-        }
-    group_end();
-}
-
 int main(int argc, char **argv)
 {
     groups_start(argc > 1 ? (unsigned)strtoul(argv[1], NULL, 10) : 100);
-    test_unpackers();
+    test_header();
     test_worked_cells();
     test_products();
     test_powers();
@@ -430,7 +363,13 @@ int main(int argc, char **argv)
     test_test_lengths();
     for (size_t e = 0; e < REPAIRS; e++)
         test_repair(&repairs[e]);
+    for (size_t e = 0; e < WRITERS; e++)
+        test_writer(&writers[e]);
     test_record();
-    test_huge_lengths();
+    test_strip();
+    test_strip_entry();
+    test_strip_damage();
+    test_strip_wild();
+    test_huge();
     return groups_finish();
 }

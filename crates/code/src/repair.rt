@@ -25,9 +25,9 @@ pub struct Marked {
     pub sum: usize,
 }
 
-// One pass with no branch, so that it can run wide.
-fn tally(marks: &[u8]) -> Marked
-    requires { ⌜ length (now marks) ≤ 255 ⌝ }
+// One pass with no branch, so that it can run wide. The bound, more than a strip has, keeps the sum from overflowing.
+pub fn tally(marks: &[u8]) -> Marked
+    requires { ⌜ length (now marks) ≤ 4096 ⌝ }
     ensures { λ r. ⌜ Tallied (now (marks .entry)) r ⌝ }
 {
     let mut any: u8 = 0;

@@ -9,7 +9,13 @@ use Rattle.gf256.specs.Gf256.{gf256}
 use Rattle.code.specs.Refusal.{First, Numbers}
 use Rattle.code.specs.Word.{writtenNumbers, testedNumbers, WritesAs, TestsAs}
 use Rattle.code.specs.Repair.{repairedNumbers, repairing, RepairsAs}
+use Rattle.level.specs.Reading.{ReadNumbers}
 use Rattle.record.specs.Writing.{RecordWritesAs}
+use Rattle.record.specs.Reading.{readNumbers, RecordReadsAs}
+use Rattle.record.specs.declared.RecordRead.{RecordRead}
+use Rattle.strip.specs.Writing.{StripWritesAs}
+use Rattle.strip.specs.Reading as strips
+use Rattle.strip.specs.declared.read.Reading.{Reading}
 use Rattle.code.specs.declared.word.Written.{Written}
 use Rattle.code.specs.declared.word.Tested.{Tested}
 use Rattle.code.specs.declared.repair.Repaired.{Repaired}
@@ -20,6 +26,11 @@ packedAt k code value = code % 32 + value % 512 * 2 ^ k
 
 abbrev pub packed : ℕ → Numbers → ℕ
 packed k a = packedAt k (a .code) (a .value)
+
+-- a reader's numbers: code in bits 0 to 4, lane from 5, width from 11, height from 16, par from 21, mended from 31, wear from 44
+abbrev pub packedRead : ReadNumbers → ℕ
+packedRead n =
+    n .code % 32 + n .lane % 16 * 2 ^ 5 + n .width % 32 * 2 ^ 11 + n .height % 32 * 2 ^ 16 + n .par % 1024 * 2 ^ 21 + n .mended % 64 * 2 ^ 31 + n .wear % 64 * 2 ^ 44
 
 -- five bytes, the first in the lowest place
 abbrev pub packedSums : List ℕ → ℕ
@@ -55,3 +66,18 @@ pub record RecordExport (w h par : ℕ) (tiles old new : List ℕ) (r : ℕ) : T
   pub answer : Written
   pub writes : RecordWritesAs w h par tiles old new answer
   pub is : r ≡ packed 55 (writtenNumbers answer)
+
+pub record RecordReadExport (bs old new : List ℕ) (r : ℕ) : Type 0 where
+  pub answer : RecordRead
+  pub reads : RecordReadsAs bs old new answer
+  pub is : r ≡ packedRead (readNumbers answer)
+
+pub record StripExport (w h par : ℕ) (tiles old new : List ℕ) (r : ℕ) : Type 0 where
+  pub answer : Written
+  pub writes : StripWritesAs w h par tiles old new answer
+  pub is : r ≡ packed 55 (writtenNumbers answer)
+
+pub record StripReadExport (s marks tiles tiles' scratch scratch' : List ℕ) (r : ℕ) : Type 0 where
+  pub answer : Reading
+  pub reads : strips.StripReadsAs s marks tiles tiles' scratch scratch' answer
+  pub is : r ≡ packedRead (strips.readNumbers answer)

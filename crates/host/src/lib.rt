@@ -7,11 +7,15 @@ ghost use Rattle.gf256.specs.Gf256.{gf256, times};
 ghost use Rattle.code.specs.Word.{writtenNumbers, testedNumbers};
 ghost use Rattle.code.specs.Repair.{repairedNumbers};
 ghost use Rattle.code.specs.Lane.{wordOf};
-ghost use Rattle.host.specs.Packed.{packedAt, packed, packedSums, WriteExport, TestExport, RepairExport, LaneExport, RecordExport};
+ghost use Rattle.record.specs.Reading.{readNumbers};
+ghost use Rattle.strip.specs.Reading as strips;
+ghost use Rattle.host.specs.Packed.{packedAt, packed, packedRead, packedSums, WriteExport, TestExport, RepairExport, LaneExport, RecordExport, RecordReadExport, StripExport, StripReadExport};
 use code::lane::Lane;
 use code::repair::Repaired;
 use code::word::Tested;
 use code::word::Written;
+use record::RecordRead;
+use strip::read::Reading;
 
 // A code in the lowest five bits, and a value from bit 55 on.
 fn pack_length(code: u8, value: usize) -> u64
@@ -183,4 +187,84 @@ pub extern "C" fn zav_record_write(
     ensures { λ r. ⌜ RecordExport width height par (now (tiles .entry)) (now («record» .entry)) (now («record» .exit)) r ⌝ }
 {
     pack_written(record::write(width, height, par, tiles, record))
+}
+
+// The numbers of a reader, each at its place.
+fn pack_numbers(
+    code: u8,
+    lane: usize,
+    width: usize,
+    height: usize,
+    par: usize,
+    mended: usize,
+    wear: usize,
+) -> u64
+    ensures { λ r. ⌜ r ≡ packedRead record { code = code; lane = lane; width = width; height = height; par = par; mended = mended; wear = wear } ⌝ }
+{
+    (code % 32) as u64
+        + ((lane % 16) as u64) * 32
+        + ((width % 32) as u64) * 2048
+        + ((height % 32) as u64) * 65536
+        + ((par % 1024) as u64) * 2097152
+        + ((mended % 64) as u64) * 2147483648
+        + ((wear % 64) as u64) * 17592186044416
+}
+
+fn pack_level(a: RecordRead) -> u64
+    ensures { λ r. ⌜ r ≡ packedRead (readNumbers a) ⌝ }
+{
+    match a {
+        RecordRead::Level { width, height, par } => pack_numbers(0, 0, width, height, par, 0, 0),
+        RecordRead::Refused(c) => pack_numbers(c, 0, 0, 0, 0, 0, 0),
+    }
+}
+
+fn pack_reading(a: Reading) -> u64
+    ensures { λ r. ⌜ r ≡ packedRead (strips.readNumbers a) ⌝ }
+{
+    match a {
+        Reading::Read {
+            width,
+            height,
+            par,
+            mended,
+            wear,
+        } => pack_numbers(0, 0, width, height, par, mended, wear),
+        Reading::Refused { code, lane } => pack_numbers(code, lane, 0, 0, 0, 0, 0),
+    }
+}
+
+// Reads a record.
+#[no_mangle]
+pub extern "C" fn zav_record_read(record: &[u8], tiles: &mut [u8]) -> u64
+    ensures { λ r. ⌜ RecordReadExport (now («record» .entry)) (now (tiles .entry)) (now (tiles .exit)) r ⌝ }
+{
+    pack_level(record::read(record, tiles))
+}
+
+// Writes the strip of a level.
+#[no_mangle]
+pub extern "C" fn zav_strip_write(
+    width: usize,
+    height: usize,
+    par: usize,
+    tiles: &[u8],
+    strip: &mut [u8],
+) -> u64
+    ensures { λ r. ⌜ StripExport width height par (now (tiles .entry)) (now (strip .entry)) (now (strip .exit)) r ⌝ }
+{
+    pack_written(strip::write::write(width, height, par, tiles, strip))
+}
+
+// Reads a strip.
+#[no_mangle]
+pub extern "C" fn zav_strip_read(
+    strip: &[u8],
+    marks: &[u8],
+    tiles: &mut [u8],
+    scratch: &mut [u8],
+) -> u64
+    ensures { λ r. ⌜ StripReadExport (now (strip .entry)) (now (marks .entry)) (now (tiles .entry)) (now (tiles .exit)) (now (scratch .entry)) (now (scratch .exit)) r ⌝ }
+{
+    pack_reading(strip::read::read(strip, marks, tiles, scratch))
 }

@@ -1,5 +1,5 @@
 -- What is promised of levels, records and strips alone, each with its sentence.
-use mathlib.Core.Path.{_≡_}
+use mathlib.Core.Path.{_≡_, sym, _∙_}
 use mathlib.Core.List.{List}
 use Prim.Native.Nat.{ℕ, _+_, _*_, _/_, _≤_, _<_}
 use lib.ListN.{length}
@@ -12,6 +12,7 @@ use Rattle.level.proofs.Determined as determined
 use Rattle.level.proofs.RecordOf as records
 use Rattle.level.proofs.Strips as strips
 use Rattle.level.proofs.OneStrip as one
+use Rattle.level.proofs.Mended as mended
 
 -- Each level has a record, and one.
 pub some-record : (l : Level) → IsLevel l → IsRecord l (recordOf l)
@@ -28,6 +29,10 @@ record-injective = fields.record-injective
 pub one-strip : (R : ℕ) → 0 < R → (l : Level) (s t : List ℕ) → IsLevel l → IsStrip R l s → IsStrip R l t
     → columns R (recordLength (l .width) (l .height)) ≤ 250 → s ≡ t
 one-strip = one.one-strip
+
+-- Two levels with one strip are one level.
+pub strip-injective : (R : ℕ) → 0 < R → (l m : Level) (s : List ℕ) → IsLevel l → IsLevel m → IsStrip R l s → IsStrip R m s → l ≡ m
+strip-injective R some l m s il im a b = sym (mended.strip-passes R some l s il a .level) ∙ mended.strip-passes R some m s im b .level
 
 -- "no other level has a strip of that length within reach"
 pub one-level : (R : ℕ) → 0 < R → (marks s : List ℕ) → length s / R ≤ 255 → (l m : Level) (t u : List ℕ) → Reached R marks s l t → Reached R marks s m u → l ≡ m

@@ -5,7 +5,7 @@ use mathlib.Core.List.{List, _++_}
 use Prim.Native.Nat.{ℕ, _+_, _*_, _-_, _≤_}
 use native.Mathlib.Omega.{arith}
 use lib.ListN.{length, take, drop}
-use lib.Seq.{take-at, drop-at, take-all}
+use lib.Seq.{take-at, drop-at, take-all, length-take-le}
 use Rattle.account.specs.Code.{Cells}
 use Rattle.gf256.specs.Gf256.{gf256}
 use Rattle.code.specs.Refusal.{First}
@@ -14,12 +14,12 @@ use Rattle.level.specs.Tile.{totals}
 use Rattle.level.specs.Level.{Level, IsLevel, AllTiles, Playable}
 use Rattle.level.specs.Record.{fieldAt, recordLength, IsRecord}
 use Rattle.level.specs.Strip.{columns}
-use Rattle.level.specs.Reading.{tilesOf, levelOf, Headed, Shaped, judging, readingRecord, returned}
+use Rattle.level.specs.Reading.{tilesOf, levelOf, Headed, Shaped, judging, readingRecord}
 use Rattle.level.proofs.Fields.{same-level}
 use Rattle.level.proofs.Judged.{length-tiles, spelled-record, spelled-level}
 use Rattle.record.specs.declared.Judged.{Judged}
 use Rattle.record.specs.declared.RecordRead.the-variants as read
-use Rattle.record.specs.Reading.{readNumbers, RecordReadsAs, JudgedAs, Spells}
+use Rattle.record.specs.Reading.{RecordReadsAs, JudgedAs, AcceptedAs}
 
 -- what is not refused has passed every rule
 pub passed : (R : ℕ) (bs : List ℕ) (c : ℕ) → c ≡ 0 → First (judging R (λ ask. ask bs)) c → Headed bs × Shaped R bs × AllTiles (tilesOf bs) × Playable (totals (tilesOf bs))
@@ -41,48 +41,74 @@ whole-record bs by h s =
         go : (B : ℕ) → 1 * columns 1 B ≡ B
         go B = omega arith
 
+-- the level that the bytes spell is the one returned, and what is past its tiles keeps its value
+module _ (bs old new : List ℕ) (w h par : ℕ) (ew : w ≡ fieldAt bs 4 5) (eh : h ≡ fieldAt bs 9 5) (ep : par ≡ fieldAt bs 14 10)
+    (put : new ≡ tilesOf bs ++ drop (w * h) old) where
+  count : length (tilesOf bs) ≡ w * h
+  count = length-tiles bs (fieldAt bs 4 5 * fieldAt bs 9 5) ∙ sym (ap₂ (λ (x y : ℕ). x * y) ew eh)
+
+  pub level-is : levelOf bs ≡ record { width = w; height = h; par = par; tiles = take (w * h) new }
+  level-is =
+      same-level (levelOf bs) (record { width = w; height = h; par = par; tiles = take (w * h) new }) (sym ew) (sym eh) (sym ep)
+      (sym (ap (take (w * h)) put ∙ take-at (tilesOf bs) (drop (w * h) old) (w * h) count))
+
+  pub tiles-past : drop (w * h) new ≡ drop (w * h) old
+  tiles-past = ap (drop (w * h)) put ∙ drop-at (tilesOf bs) (drop (w * h) old) (w * h) count
+
+-- ---- the record accepted
+
+module _ (lanes : ℕ) (bs board : List ℕ) (r : Judged) (J : JudgedAs lanes bs board r) (old : List ℕ) where
+  pub rejected : (r .code ≡ 0 → ⊥) → AcceptedAs lanes bs old old r
+  rejected n = record {
+    first = J .first;
+    width = λ z. absurd (n z);
+    height = λ z. absurd (n z);
+    par = λ z. absurd (n z);
+    tiles = λ z. absurd (n z);
+    kept = λ _. refl;
+  }
+
+  module _ (z : r .code ≡ 0) (room : 968 ≤ length board) where
+    pub board-part : length (take (r .width * r .height - 0) board) ≡ r .width * r .height
+    board-part = length-take-le (r .width * r .height - 0) board (omega (arith, J .spells z .few)) ∙ omega arith
+
+    pub accepted : (new : List ℕ) → new ≡ take (r .width * r .height - 0) board ++ drop (length (take (r .width * r .height - 0) board)) old → AcceptedAs lanes bs old new r
+    accepted new e = record {
+      first = J .first;
+      width = λ z. J .spells z .width;
+      height = λ z. J .spells z .height;
+      par = λ z. J .spells z .par;
+      tiles = λ z. e ∙ ap₂ (λ (x : List ℕ) (n : ℕ). x ++ drop n old) (ap (λ (n : ℕ). take n board) whole ∙ J .spells z .tiles) board-part;
+      kept = λ n. absurd (n z);
+    }
+      where
+        whole : r .width * r .height - 0 ≡ r .width * r .height
+        whole = omega arith
+
+-- ---- the record read
+
 module _ (bs old : List ℕ) where
-  none : (c : ℕ) → (c ≡ 0 → ⊥) → First (readingRecord bs (length old)) c → RecordReadsAs bs old old (read.Refused c)
-  none c n f = record { code = f; is-level = λ z. absurd (n z); is-record = λ z. absurd (n z); past = λ z. absurd (n z); kept = λ _. refl }
+  none : (new : List ℕ) (c : ℕ) → new ≡ old → (c ≡ 0 → ⊥) → First (readingRecord bs (length old)) c → RecordReadsAs bs old new (read.Refused c)
+  none new c e n f = record { code = f; is-level = λ z. absurd (n z); is-record = λ z. absurd (n z); past = λ z. absurd (n z); kept = λ _. e }
 
   pub not-read-1 : (Within 4 364 (length bs) → ⊥) → RecordReadsAs bs old old (read.Refused 1)
-  not-read-1 n = none 1 (λ z. omega arith) (inl (n, refl))
+  not-read-1 n = none old 1 refl (λ z. omega arith) (inl (n, refl))
 
   pub not-read-4 : Within 4 364 (length bs) → (961 ≤ length old → ⊥) → RecordReadsAs bs old old (read.Refused 4)
-  not-read-4 a n = none 4 (λ z. omega arith) (inr (a, inl (n, refl)))
+  not-read-4 a n = none old 4 refl (λ z. omega arith) (inr (a, inl (n, refl)))
 
-  pub not-read-later : (c : ℕ) → Within 4 364 (length bs) → 961 ≤ length old → (c ≡ 0 → ⊥) → First (judging 1 (λ ask. ask bs)) c → RecordReadsAs bs old old (read.Refused c)
-  not-read-later c a b n f = none c n (inr (a, inr (b, f)))
+  pub not-read-later : (r : Judged) (new : List ℕ) → (r .code ≡ 0 → ⊥) → AcceptedAs 1 bs old new r → Within 4 364 (length bs) → 961 ≤ length old → RecordReadsAs bs old new (read.Refused (r .code))
+  not-read-later r new n A a b = none new (r .code) (A .kept n) n (inr (a, inr (b, A .first)))
 
-  module _ (r : Judged) (board new : List ℕ) (z : r .code ≡ 0) (J : JudgedAs 1 bs board r)
-      (put : new ≡ take (r .width * r .height - 0) board ++ drop (length (take (r .width * r .height - 0) board)) old) where
-    sp : Spells bs board r
-    sp = J .spells z
-
-    put-tiles : new ≡ tilesOf bs ++ drop (length (tilesOf bs)) old
-    put-tiles = put ∙ ap (λ (ts : List ℕ). ts ++ drop (length ts) old) (ap (λ (k : ℕ). take k board) none-off ∙ sp .tiles)
-      where
-        none-off : r .width * r .height - 0 ≡ r .width * r .height
-        none-off = omega arith
-
-    count : length (tilesOf bs) ≡ r .width * r .height
-    count = length-tiles bs (fieldAt bs 4 5 * fieldAt bs 9 5) ∙ sym (ap₂ (λ (x y : ℕ). x * y) (sp .width) (sp .height))
-
-    level-is : levelOf bs ≡ returned (readNumbers (read.Level (r .width) (r .height) (r .par))) new
-    level-is =
-        same-level (levelOf bs) (returned (readNumbers (read.Level (r .width) (r .height) (r .par))) new) (sym (sp .width)) (sym (sp .height)) (sym (sp .par))
-        (sym (ap (take (r .width * r .height)) put-tiles ∙ take-at (tilesOf bs) (drop (length (tilesOf bs)) old) (r .width * r .height) count))
-
-    pub reads : Cells gf256 bs → Within 4 364 (length bs) → 961 ≤ length old → RecordReadsAs bs old new (read.Level (r .width) (r .height) (r .par))
-    reads by a b =
-        let p = passed 1 bs (r .code) z (J .first) in
-        record {
-          code = inr (a, inr (b, subst (First (judging 1 (λ ask. ask bs))) z (J .first)));
-          is-level = λ _. subst IsLevel level-is (spelled-level bs (p .0) (p .2) (p .3));
-          is-record = λ _. subst (λ (l : Level). IsRecord l bs) level-is (whole-record bs by (p .0) (p .1));
-          past = λ _.
-              ap (drop (r .width * r .height)) put-tiles
-              ∙ drop-at (tilesOf bs) (drop (length (tilesOf bs)) old) (r .width * r .height) count
-              ∙ ap (λ (k : ℕ). drop k old) count;
-          kept = λ k. absurd (k refl);
-        }
+  pub reads : (r : Judged) (new : List ℕ) → r .code ≡ 0 → AcceptedAs 1 bs old new r → Cells gf256 bs → Within 4 364 (length bs) → 961 ≤ length old
+      → RecordReadsAs bs old new (read.Level (r .width) (r .height) (r .par))
+  reads r new z A by a b =
+      let p = passed 1 bs (r .code) z (A .first) in
+      let e = level-is bs old new (r .width) (r .height) (r .par) (A .width z) (A .height z) (A .par z) (A .tiles z) in
+      record {
+        code = inr (a, inr (b, subst (First (judging 1 (λ ask. ask bs))) z (A .first)));
+        is-level = λ _. subst IsLevel e (spelled-level bs (p .0) (p .2) (p .3));
+        is-record = λ _. subst (λ (l : Level). IsRecord l bs) e (whole-record bs by (p .0) (p .1));
+        past = λ _. tiles-past bs old new (r .width) (r .height) (r .par) (A .width z) (A .height z) (A .par z) (A .tiles z);
+        kept = λ k. absurd (k refl);
+      }

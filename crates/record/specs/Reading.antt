@@ -1,6 +1,6 @@
 -- Reading a record.
 use mathlib.Core.Path.{_≡_}
-use mathlib.Core.List.{List, [], _∷_}
+use mathlib.Core.List.{List, [], _∷_, _++_}
 use Prim.Native.Nat.{ℕ, _+_, _*_, _/_, _%_, _≤_, _<_}
 use lib.ListN.{length, getD, take, drop}
 use Rattle.level.specs.Level.{IsLevel}
@@ -59,3 +59,12 @@ pub record JudgedAs (lanes : ℕ) (bs board : List ℕ) (r : Judged) : Type 0 wh
   pub first : First (judging lanes (λ ask. ask bs)) (r .code)
   pub spells : r .code ≡ 0 → Spells bs board r
   pub none : (r .code ≡ 0 → ⊥) → r ≡ without (r .code)
+
+-- the bytes judged, and their tiles written where nothing is refused
+pub record AcceptedAs (lanes : ℕ) (bs old new : List ℕ) (r : Judged) : Type 0 where
+  pub first : First (judging lanes (λ ask. ask bs)) (r .code)
+  pub width : r .code ≡ 0 → r .width ≡ fieldAt bs 4 5
+  pub height : r .code ≡ 0 → r .height ≡ fieldAt bs 9 5
+  pub par : r .code ≡ 0 → r .par ≡ fieldAt bs 14 10
+  pub tiles : r .code ≡ 0 → new ≡ tilesOf bs ++ drop (r .width * r .height) old
+  pub kept : (r .code ≡ 0 → ⊥) → new ≡ old

@@ -13,7 +13,7 @@ ghost use Rattle.level.specs.Written.{recordOf};
 ghost use Rattle.level.specs.Reading.{Shaped};
 ghost use Rattle.record.specs.Sum.{Same, packed, weighed, weight, Packs};
 ghost use Rattle.record.specs.Writing.{lent, Ranged, boarding, lending, RecordWritesAs, headBytes, TileByte};
-ghost use Rattle.record.specs.Reading.{Heads, eight, Unpacks, without, JudgedAs, RecordReadsAs};
+ghost use Rattle.record.specs.Reading.{Heads, eight, Unpacks, without, JudgedAs, AcceptedAs, RecordReadsAs};
 use code::word::Written;
 
 // What a tile adds.
@@ -375,7 +375,7 @@ fn refused(code: u8) -> Judged
 }
 
 // Refusals 7 to 10 of a record, or of the data cells of a strip of that many lanes. Its tiles are put on the board.
-pub fn judge(bs: &[u8], lanes: usize, board: &mut [u8]) -> Judged
+fn judge(bs: &[u8], lanes: usize, board: &mut [u8]) -> Judged
     requires { ⌜ (4 ≤ length (now bs)) × (length (now bs) ≤ 364) × (1 ≤ lanes) × (lanes ≤ 16) × (968 ≤ length (now board)) ⌝ }
     ensures { λ r. ⌜ JudgedAs lanes (now (bs .entry)) (now (board .exit)) r ⌝ }
 {
@@ -416,7 +416,23 @@ pub enum RecordRead {
     Refused(u8),
 }
 
-// Reads a record. Nothing is written before it is judged.
+// The record judged, or the data cells of a strip of that many lanes; its tiles are written only where nothing is refused.
+pub fn accept(bs: &[u8], lanes: usize, tiles: &mut [u8]) -> Judged
+    requires { ⌜ (4 ≤ length (now bs)) × (length (now bs) ≤ 364) × (1 ≤ lanes) × (lanes ≤ 16) × (961 ≤ length (now tiles)) ⌝ }
+    ensures { λ r. ⌜ AcceptedAs lanes (now (bs .entry)) (now (tiles .entry)) (now (tiles .exit)) r ⌝ }
+{
+    let mut board = [0u8; 968];
+    let j = judge(bs, lanes, &mut board);
+    let code = j.code;
+    if code != 0 {
+        return j;
+    }
+    let m = j.width * j.height;
+    code::word::put_data(&board[0..m], tiles);
+    j
+}
+
+// Reads a record.
 pub fn read(bytes: &[u8], tiles: &mut [u8]) -> RecordRead
     ensures { λ r. ⌜ RecordReadsAs (now (bytes .entry)) (now (tiles .entry)) (now (tiles .exit)) r ⌝ }
 {
@@ -429,16 +445,14 @@ pub fn read(bytes: &[u8], tiles: &mut [u8]) -> RecordRead
     if tiles.len() < 961 {
         return RecordRead::Refused(4);
     }
-    let mut board = [0u8; 968];
-    let r = judge(bytes, 1, &mut board);
-    if r.code != 0 {
-        return RecordRead::Refused(r.code);
+    let j = accept(bytes, 1, tiles);
+    let code = j.code;
+    if code != 0 {
+        return RecordRead::Refused(code);
     }
-    let m = r.width * r.height;
-    code::word::put_data(&board[0..m], tiles);
     RecordRead::Level {
-        width: r.width,
-        height: r.height,
-        par: r.par,
+        width: j.width,
+        height: j.height,
+        par: j.par,
     }
 }

@@ -5,9 +5,10 @@ use Prim.Native.Nat.{ℕ, _+_, _*_, _/_, _%_, _<_}
 use lib.Bits.{bitXor}
 use lib.IntN.{ℤ, pos, negsuc}
 use lib.Signed.{_≤ℤ_}
-use lib.ListN.{getD}
+use lib.ListN.{getD, take}
 use Rattle.account.specs.Field.{power}
 use Rattle.account.specs.Code.{alphaTo, Clean, S}
+use Rattle.account.specs.Lanes.{lane}
 use Rattle.gf256.specs.Gf256.{gf256, times}
 
 -- the five bytes, the highest power first
@@ -55,3 +56,17 @@ pub record Remains (w : List ℕ) (r : ℕ) : Type 0 where
 pub record Checks (d : List ℕ) (x : ℕ) : Type 0 where
   pub small : x < 1099511627776
   pub clean : Clean gf256 (d ++ unpacked x)
+
+-- ---- the four lanes of the cells s, all at once
+
+-- the remainders of their first i bytes
+abbrev pub LanesTo : ℕ → List ℕ → List ℕ → Type 0
+LanesTo i s r = (j : ℕ) → j < 4 → Remains (take i (lane 4 j s)) (getD r j 0)
+
+-- their remainders
+abbrev pub LanesRemain : List ℕ → List ℕ → Type 0
+LanesRemain s r = (j : ℕ) → j < 4 → Remains (lane 4 j s) (getD r j 0)
+
+-- their check bytes
+abbrev pub LanesCheck : List ℕ → List ℕ → Type 0
+LanesCheck s x = (j : ℕ) → j < 4 → Checks (lane 4 j s) (getD x j 0)

@@ -1,16 +1,17 @@
 // The remainder of a word by the generator, and what is made of it: the test and the check bytes. (Document 004 takes the
 // remainder first: the five sums of the remainder are those of the word.) Five bytes are packed in one number, the highest power
-// on top. The table is made once for a word and lent.
+// on top. The table is made once for a word, or for the four lanes of a strip, and lent.
 ghost use mathlib.Core.Path.{_≡_};
-ghost use mathlib.Core.List.{_∷_, []};
+ghost use mathlib.Core.List.{List, _∷_, []};
 ghost use Prim.Native.Nat.{ℕ, _+_, _-_, _*_, _/_, _%_, _<_, _≤_};
 ghost use lib.ListN.{length};
 ghost use lib.Seq.{sets};
 ghost use lib.ListN.{take};
 ghost use Rattle.account.specs.Code.{syndrome};
+ghost use Rattle.account.specs.Lanes.{lane};
 ghost use Rattle.gf256.specs.Gf256.{gf256};
 ghost use Rattle.gf256.specs.Tables.{Tables};
-ghost use Rattle.remainder.specs.Remainder.{Reductions, Reduced, Moved, Remains, Checks, at5, unpacked};
+ghost use Rattle.remainder.specs.Remainder.{Reductions, Reduced, Moved, Remains, Checks, LanesTo, LanesRemain, LanesCheck, at5, unpacked};
 
 // What a half byte v, low or high, at the power 5 + k comes to: entry 32 k + v, or 32 k + 16 + v.
 pub const REDUCTIONS: [u64; 128] = [
@@ -226,13 +227,89 @@ pub fn remainder_of(w: &[u8]) -> u64
     of_word(&t, w)
 }
 
-// The five check bytes after data, packed: the remainder of the data with five zeros after it.
+// One byte more of lane j of s, after i of them. (Cell p of s is byte p div 4 of lane p mod 4.)
+fn next_of(t: &[u64; 128], r: u64, s: &[u8], i: usize, j: usize) -> u64
+    requires { ⌜ Reductions (now t) × (j < 4) × (i < length (now s) / 4) × Remains (take i (lane 4 j (now s))) r ⌝ }
+    ensures { λ x. ⌜ Remains (take (i + 1) (lane 4 j (now (s .entry)))) x ⌝ }
+{
+    step(t, r, s[4 * i + j])
+}
+
+// Four bytes more.
+fn next4_of(t: &[u64; 128], r: u64, s: &[u8], i: usize, j: usize) -> u64
+    requires { ⌜ Reductions (now t) × (j < 4) × (i + 3 < length (now s) / 4) × Remains (take i (lane 4 j (now s))) r ⌝ }
+    ensures { λ x. ⌜ Remains (take (i + 4) (lane 4 j (now (s .entry)))) x ⌝ }
+{
+    let p = 4 * i + j;
+    step4(t, r, s[p], s[p + 4], s[p + 8], s[p + 12])
+}
+
+// The remainders of the first columns (a byte of each lane), as many as four does not divide.
+fn lanes_head(t: &[u64; 128], s: &[u8]) -> [u64; 4]
+    requires { ⌜ Reductions (now t) ⌝ }
+    ensures { λ r. ⌜ LanesTo (length (now (s .entry)) / 4 % 4) (now (s .entry)) r ⌝ }
+{
+    let h = s.len() / 4 % 4;
+    let mut a: u64 = 0;
+    let mut b: u64 = 0;
+    let mut c: u64 = 0;
+    let mut d: u64 = 0;
+    let mut i = 0;
+    while i < h {
+        a = next_of(t, a, s, i, 0);
+        b = next_of(t, b, s, i, 1);
+        c = next_of(t, c, s, i, 2);
+        d = next_of(t, d, s, i, 3);
+        i += 1;
+    }
+    [a, b, c, d]
+}
+
+// The remainders of the four lanes of s, in one pass: the four chains of steps need not wait for each other.
+fn of_lanes(t: &[u64; 128], s: &[u8]) -> [u64; 4]
+    requires { ⌜ Reductions (now t) ⌝ }
+    ensures { λ r. ⌜ LanesRemain (now (s .entry)) r ⌝ }
+{
+    let first = lanes_head(t, s);
+    let mut a = first[0];
+    let mut b = first[1];
+    let mut c = first[2];
+    let mut d = first[3];
+    let n = s.len() / 4;
+    let mut i = n % 4;
+    while i < n {
+        a = next4_of(t, a, s, i, 0);
+        b = next4_of(t, b, s, i, 1);
+        c = next4_of(t, c, s, i, 2);
+        d = next4_of(t, d, s, i, 3);
+        i += 4;
+    }
+    [a, b, c, d]
+}
+
+// The same, with the table made here. Cells after the last whole column count for nothing.
+pub fn remainders_of(s: &[u8]) -> [u64; 4]
+    ensures { λ r. ⌜ LanesRemain (now (s .entry)) r ⌝ }
+{
+    let t = REDUCTIONS;
+    of_lanes(&t, s)
+}
+
+// The five check bytes after data with the remainder r, packed: the remainder of the data with five zeros after it.
+fn finish(t: &[u64; 128], r: u64) -> u64
+    requires { ⌜ Reductions (now t) × (r < 1099511627776) ⌝ }
+    ensures { λ x. ⌜ ((d : List ℕ) → Remains d r → Checks d x) ⌝ }
+{
+    step(t, step4(t, r, 0, 0, 0, 0), 0)
+}
+
+// The five check bytes after data.
 fn checks(t: &[u64; 128], data: &[u8]) -> u64
     requires { ⌜ Reductions (now t) ⌝ }
     ensures { λ x. ⌜ Checks (now («data» .entry)) x ⌝ }
 {
     let r = of_word(t, data);
-    step(t, step4(t, r, 0, 0, 0, 0), 0)
+    finish(t, r)
 }
 
 // The same, with the table made here.
@@ -241,6 +318,27 @@ pub fn checks_of(data: &[u8]) -> u64
 {
     let t = REDUCTIONS;
     checks(&t, data)
+}
+
+// The five check bytes after each lane of data.
+fn lane_checks(t: &[u64; 128], data: &[u8]) -> [u64; 4]
+    requires { ⌜ Reductions (now t) ⌝ }
+    ensures { λ x. ⌜ LanesCheck (now («data» .entry)) x ⌝ }
+{
+    let r = of_lanes(t, data);
+    let a = finish(t, r[0]);
+    let b = finish(t, r[1]);
+    let c = finish(t, r[2]);
+    let d = finish(t, r[3]);
+    [a, b, c, d]
+}
+
+// The same, with the table made here.
+pub fn lane_checks_of(data: &[u8]) -> [u64; 4]
+    ensures { λ x. ⌜ LanesCheck (now («data» .entry)) x ⌝ }
+{
+    let t = REDUCTIONS;
+    lane_checks(&t, data)
 }
 
 // The polynomial of the five packed bytes at y.

@@ -1,0 +1,4 @@
+pub mod Cells
+pub mod Marks
+pub mod Repairs
+pub mod Sofar

@@ -1,0 +1,13 @@
+use borrow.Author.Needs.{needs}
+use Rattle.remainder.proofs.Kernel.{reductions-right}
+use Rattle.remainder.proofs.lane_checks_of.Statement.{statement}
+use Rattle.remainder.proofs.lane_checks_of.Tie as tie
+
+lane-checks-requires : tie.Need-lane-checks-requires
+lane-checks-requires c κs = reductions-right
+
+returns : tie.Need-returns
+returns c = search needs
+
+pub lane-checks-of-spec : {M : Type 1} → statement M
+lane-checks-of-spec = tie.close (tie.spec lane-checks-requires returns)

@@ -1,0 +1,5 @@
+pub mod Placing
+pub mod Entering
+pub mod Reader
+pub mod Laid
+pub mod Theorems

@@ -1,0 +1,174 @@
+/* pictures.c - strips as the reader is given them, and the check of one call. */
+#include "pictures.h"
+
+#include <stdio.h>
+#include <string.h>
+
+#include "harness.h"
+#include "zavullimen_strips.h"
+
+/* ---- making ---- */
+
+void picture_data(struct picture *p, const uint8_t *data, size_t k)
+{
+    p->strip_len = p->marks_len = ref_lay_strip(data, k, p->strip);
+    memset(p->marks, 0, sizeof p->marks);
+    p->tiles_len = draw_below(2) ? REF_TILES_MAX : TILES_ROOM;
+    p->scratch_len = draw_below(2) ? REF_SCRATCH_MIN : SCRATCH_ROOM;
+}
+
+void picture_board(struct picture *p, const struct board *b)
+{
+    uint8_t data[REF_RECORD_MAX] = {0};
+
+    picture_data(p, data, ref_k_of(record_of(b, data)));
+}
+
+void picture_any_level(struct picture *p, struct board *b)
+{
+    draw_any_level(b);
+    picture_board(p, b);
+}
+
+size_t lane_len(const struct picture *p)
+{
+    return p->strip_len / REF_LANES;
+}
+
+void take_lane(const struct picture *p, size_t lane, struct sample *s)
+{
+    s->len = s->marks_len = lane_len(p);
+    for (size_t i = 0; i < s->len; i++) {
+        s->word[i] = p->strip[REF_LANES * i + lane];
+        s->marks[i] = p->marks[REF_LANES * i + lane];
+    }
+}
+
+void put_lane(struct picture *p, size_t lane, const struct sample *s)
+{
+    for (size_t i = 0; i < s->len; i++) {
+        p->strip[REF_LANES * i + lane] = s->word[i];
+        p->marks[REF_LANES * i + lane] = s->marks[i];
+    }
+}
+
+void damage_lane(struct picture *p, size_t lane, size_t wrong, size_t marked,
+                 enum under_mark under)
+{
+    struct sample s;
+
+    take_lane(p, lane, &s);
+    draw_damage(&s, wrong, marked, under);
+    put_lane(p, lane, &s);
+}
+
+/* ---- checking ---- */
+
+static struct {
+    struct lent strip, marks, tiles, scratch;
+} lent;
+
+/* What the buffers that are written to must hold. */
+struct expected {
+    uint8_t tiles[TILES_ROOM];
+    uint8_t scratch[SCRATCH_ROOM];
+};
+
+static bool was_judged(struct ref_result r)
+{
+    return r.code == 0 || r.code >= 6;
+}
+
+/* Lend all four, and seal what this result does not let be written. */
+static void lend_picture(const struct picture *p, struct ref_result r,
+                         struct expected *e)
+{
+    draw_bytes(e->tiles, p->tiles_len);
+    draw_bytes(e->scratch, p->scratch_len);
+    lend(&lent.strip, p->strip, p->strip_len);
+    lend(&lent.marks, p->marks, p->marks_len);
+    lend(&lent.tiles, e->tiles, p->tiles_len);
+    lend(&lent.scratch, e->scratch, p->scratch_len);
+    seal(&lent.strip);
+    seal(&lent.marks);
+    if (r.code != 0)
+        seal(&lent.tiles);
+    if (!was_judged(r))
+        seal(&lent.scratch);
+}
+
+static bool all_kept(const struct picture *p, const struct expected *e)
+{
+    return is_kept(&lent.tiles, e->tiles) &&
+           is_kept(&lent.scratch, e->scratch) &&
+           is_kept(&lent.strip, p->strip) && is_kept(&lent.marks, p->marks);
+}
+
+static void describe(char *what, const struct picture *p)
+{
+    char strip[HEX_TEXT], marks[HEX_TEXT];
+
+    sprintf(what, "strip of %zu %s with %zu marks %s, tiles %zu, scratch %zu",
+            p->strip_len, hex(strip, p->strip, p->strip_len), p->marks_len,
+            hex(marks, p->marks, p->marks_len), p->tiles_len, p->scratch_len);
+}
+
+/* What the call leaves must be as expected; `level` is what the tiles hold.
+   Once cells are looked at, as much scratch as there are cells is free. */
+static void check_read(const struct picture *p, struct ref_result r,
+                       const uint8_t *level)
+{
+    struct expected e;
+    char what[2 * HEX_TEXT + 160];
+
+    group_case();
+    lend_picture(p, r, &e);
+
+    const uint64_t got =
+        zav_strip_read(lent.strip.bytes, p->strip_len, lent.marks.bytes,
+                       p->marks_len, lent.tiles.bytes, p->tiles_len,
+                       lent.scratch.bytes, p->scratch_len);
+
+    memcpy(e.tiles, level, (size_t)r.width * r.height);
+    if (was_judged(r))
+        memcpy(e.scratch, lent.scratch.bytes, p->strip_len);
+    if (got == packed(r) && all_kept(p, &e))
+        return;
+    describe(what, p);
+    check_number(got, packed(r), what);
+    check_buffer(&lent.tiles, e.tiles, what);
+    check_buffer(&lent.scratch, e.scratch, what);
+    check_buffer(&lent.strip, p->strip, what);
+    check_buffer(&lent.marks, p->marks, what);
+}
+
+struct ref_result check_picture(const struct picture *p)
+{
+    uint8_t level[REF_TILES_MAX] = {0};
+    const struct ref_result r =
+        ref_strip_read(p->strip, p->strip_len, p->marks, p->marks_len, level,
+                       p->tiles_len, p->scratch_len);
+
+    check_read(p, r, level);
+    return r;
+}
+
+void check_level(const struct picture *p, const struct board *b,
+                 unsigned mended)
+{
+    const struct ref_result r = {.width = (unsigned)b->width,
+                                 .height = (unsigned)b->height,
+                                 .par = (unsigned)b->par,
+                                 .mended = mended,
+                                 .wear = 100 * mended /
+                                         (unsigned)p->strip_len};
+
+    check_read(p, r, b->tiles);
+}
+
+void check_refused(const struct picture *p, unsigned code, unsigned lane)
+{
+    static const uint8_t no_tiles[1];
+
+    check_read(p, (struct ref_result){.code = code, .lane = lane}, no_tiles);
+}

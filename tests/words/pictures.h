@@ -1,0 +1,54 @@
+/*
+ * pictures.h - strips as the reader is given them, and the check of one call.
+ */
+#ifndef PICTURES_H
+#define PICTURES_H
+
+#include "boards.h"
+#include "draw.h"
+
+/* Long enough for a strip or a scratch that is too long. */
+enum { STRIP_ROOM = 512, SCRATCH_ROOM = REF_SCRATCH_MIN + 64 };
+
+struct picture {
+    uint8_t strip[STRIP_ROOM];
+    size_t strip_len;
+    uint8_t marks[STRIP_ROOM];
+    size_t marks_len;
+    size_t tiles_len;
+    size_t scratch_len;
+};
+
+/* 4k data bytes in clean lanes, no marks, buffers of the least length or more. */
+void picture_data(struct picture *p, const uint8_t *data, size_t k);
+
+/* The board's record, filled up, in the same way. */
+void picture_board(struct picture *p, const struct board *b);
+
+/* A random level's strip, and the level. */
+void picture_any_level(struct picture *p, struct board *b);
+
+/* Cells in each lane. */
+size_t lane_len(const struct picture *p);
+
+/* A lane with its marks, taken out and put back. */
+void take_lane(const struct picture *p, size_t lane, struct sample *s);
+void put_lane(struct picture *p, size_t lane, const struct sample *s);
+
+/* Mark so many cells of a lane and change so many others. */
+void damage_lane(struct picture *p, size_t lane, size_t wrong, size_t marked,
+                 enum under_mark under);
+
+/*
+ * Read the picture and compare with the second implementation, all buffers
+ * included. Returns what that one says.
+ */
+struct ref_result check_picture(const struct picture *p);
+
+/* The same where the test knows what must come out; the second implementation
+   is not asked, as it takes long. */
+void check_level(const struct picture *p, const struct board *b,
+                 unsigned mended);
+void check_refused(const struct picture *p, unsigned code, unsigned lane);
+
+#endif

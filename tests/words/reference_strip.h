@@ -1,0 +1,32 @@
+/*
+ * reference_strip.h - a second implementation of strips, for the tests.
+ */
+#ifndef REFERENCE_STRIP_H
+#define REFERENCE_STRIP_H
+
+#include "reference_record.h"
+
+enum { REF_LANES = 4, REF_STRIP_MIN = 24, REF_STRIP_MAX = 384,
+       REF_SCRATCH_MIN = 384,
+       REF_K_MAX = REF_STRIP_MAX / REF_LANES - REF_CHECK_BYTES };
+
+/* Data bytes in each lane of the strip for a record of so many bytes. */
+size_t ref_k_of(size_t record_len);
+
+/*
+ * Lay 4k data bytes into four clean lanes, whether or not they are a level's
+ * record. Returns the length of the strip.
+ */
+size_t ref_lay_strip(const uint8_t *data, size_t k, uint8_t *strip);
+
+struct ref_result ref_strip_write(size_t width, size_t height, size_t par,
+                                  const uint8_t *tiles, size_t tiles_len,
+                                  uint8_t *strip, size_t strip_len);
+
+/* The scratch may hold anything afterwards, so only its length matters. */
+struct ref_result ref_strip_read(const uint8_t *strip, size_t strip_len,
+                                 const uint8_t *marks, size_t marks_len,
+                                 uint8_t *tiles, size_t tiles_len,
+                                 size_t scratch_len);
+
+#endif

@@ -1,0 +1,80 @@
+/* test_header.c - what the headers themselves do: fields and texts. */
+#include "test_header.h"
+
+#include <string.h>
+
+#include "draw.h"
+#include "harness.h"
+#include "zavullimen_strips.h"
+
+static const struct ref_result all_set = {
+    .code = 31, .mended = 63, .length = 511, .lane = 15,
+    .width = 31, .height = 31, .par = 1023, .wear = 63};
+
+static struct ref_result draw_result(void)
+{
+    return (struct ref_result){.code = (unsigned)draw_below(32),
+                               .mended = (unsigned)draw_below(64),
+                               .length = (unsigned)draw_below(512),
+                               .lane = (unsigned)draw_below(16),
+                               .width = (unsigned)draw_below(32),
+                               .height = (unsigned)draw_below(32),
+                               .par = (unsigned)draw_below(1024),
+                               .wear = (unsigned)draw_below(64)};
+}
+
+static void check_unpackers(struct ref_result r, uint64_t result)
+{
+    group_case();
+    check_number(zav_code(result), r.code, "code");
+    check_number(zav_mended(result), r.mended, "mended");
+    check_number(zav_length(result), r.length, "length");
+    check_number(zav_lane(result), r.lane, "lane");
+    check_number(zav_width(result), r.width, "width");
+    check_number(zav_height(result), r.height, "height");
+    check_number(zav_par(result), r.par, "par");
+    check_number(zav_wear(result), r.wear, "wear");
+}
+
+/* The bits of no field are first set and then clear, to see that the unpackers
+   leave them out. */
+static void test_unpackers(void)
+{
+    group_begin("header", "unpackers");
+    for (size_t k = 0; k < scaled(30000); k++) {
+        const struct ref_result r = draw_result();
+
+        check_unpackers(r, packed(r) | ~packed(all_set));
+        check_unpackers(r, packed(r));
+    }
+    group_end();
+}
+
+/* Each refusal has words of its own, and no other number has any. */
+static void test_texts(void)
+{
+    static const char unknown[] = "unknown refusal";
+
+    group_begin("header", "refusals in words");
+    for (unsigned code = 0; code <= 10; code++)
+        for (unsigned other = 0; other <= 300; other++) {
+            const bool same = strcmp(zav_refusal_text(code),
+                                     zav_refusal_text(other)) == 0;
+
+            group_case();
+            if (same != (code == other))
+                group_fail("%u and %u: the same words or not", code, other);
+        }
+    for (unsigned code = 11; code <= 300; code++)
+        if (strcmp(zav_refusal_text(code), unknown) != 0)
+            group_fail("%u is no refusal, and has words", code);
+    if (strcmp(zav_refusal_text(0), "no refusal") != 0)
+        group_fail("0 is a refusal");
+    group_end();
+}
+
+void test_header(void)
+{
+    test_unpackers();
+    test_texts();
+}

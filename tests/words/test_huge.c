@@ -1,0 +1,127 @@
+/* test_huge.c - lengths that a narrower number would cut, at all entries. */
+#include "test_huge.h"
+
+#include "harness.h"
+#include "reference_strip.h"
+#include "test_repair.h"
+#include "test_writer.h"
+#include "zavullimen_strips.h"
+
+/* Only refused calls: they write nothing, so read-only zeros can be lent. */
+static void check_huge_word(uint8_t *zeros, uint8_t *more, size_t past)
+{
+    group_case();
+    check_number(zav_word_test(zeros, past + 10),
+                 packed(ref_word_test(zeros, past + 10)), "test");
+    check_number(zav_word_write(zeros, past + 10, more, past + 15),
+                 packed(ref_word_write(zeros, past + 10, more, past + 15)),
+                 "write, both lengths");
+    check_number(zav_word_write(zeros, 10, more, past + 15),
+                 packed(ref_word_write(zeros, 10, more, past + 15)),
+                 "write, buffer length");
+}
+
+static void check_huge_repair(const struct repair *entry, uint8_t *zeros,
+                              size_t len, const uint8_t *marks,
+                              size_t marks_len)
+{
+    const struct ref_result r = entry->reference(zeros, len, marks, marks_len);
+
+    group_case();
+    check_number(entry->run(zeros, len, marks, marks_len), packed(r),
+                 entry->name);
+}
+
+/* The zeros in front of a long buffer are no record: 7 if it is not cut. */
+static void check_huge_record(uint8_t *zeros, uint8_t *more, size_t past)
+{
+    group_case();
+    check_number(zav_record_read(zeros, past + 4, more, REF_TILES_MAX),
+                 packed(ref_record_read(zeros, past + 4, more, REF_TILES_MAX)),
+                 "record reader, record");
+    check_number(zav_record_read(zeros, 4, more, past + 4),
+                 packed(ref_record_read(zeros, 4, more, past + 4)),
+                 "record reader, tile buffer");
+}
+
+/* Tiles past the size, and a buffer that is longer than it need be. */
+static void check_huge_writer(const struct writer *entry, uint8_t *zeros,
+                              uint8_t *more, size_t past)
+{
+    group_case();
+    check_number(entry->run(2, 2, 0, zeros, past + 4, more, entry->room),
+                 packed(entry->reference(2, 2, 0, zeros, past + 4, more,
+                                         entry->room)), "tiles");
+    check_number(entry->run(0, 2, 0, zeros, 4, more, past + 4),
+                 packed(entry->reference(0, 2, 0, zeros, 4, more, past + 4)),
+                 "buffer");
+}
+
+/* The buffers of the strip reader. */
+struct stretch {
+    uint8_t *strip, *marks, *tiles, *scratch;
+};
+
+struct lengths {
+    size_t strip, marks, tiles, scratch;
+};
+
+static void check_huge_strip(struct stretch s, struct lengths len)
+{
+    group_case();
+    check_number(zav_strip_read(s.strip, len.strip, s.marks, len.marks,
+                                s.tiles, len.tiles, s.scratch, len.scratch),
+                 packed(ref_strip_read(s.strip, len.strip, s.marks, len.marks,
+                                       s.tiles, len.tiles, len.scratch)),
+                 "strip reader");
+}
+
+/* Each length by itself, and strip and marks together. */
+static void check_huge_lengths_of_strip(struct stretch s, size_t past)
+{
+    const struct lengths all[] = {
+        {past + 24, past + 24, REF_TILES_MAX, REF_SCRATCH_MIN},
+        {past + 24, 24, REF_TILES_MAX, REF_SCRATCH_MIN},
+        {24, past + 24, REF_TILES_MAX, REF_SCRATCH_MIN},
+        {24, 24, past + 4, REF_SCRATCH_MIN},
+        {24, 24, REF_TILES_MAX, past + 4},
+    };
+
+    for (size_t k = 0; k < COUNT(all); k++)
+        check_huge_strip(s, all[k]);
+}
+
+static void check_past(struct stretch s, size_t past)
+{
+    const size_t len = past + 10;
+
+    check_huge_word(s.strip, s.tiles, past);
+    for (size_t e = 0; e < REPAIRS; e++) {
+        check_huge_repair(&repairs[e], s.strip, len, s.marks, len);
+        check_huge_repair(&repairs[e], s.strip, 10, s.marks, len);
+        check_huge_repair(&repairs[e], s.strip, len, s.marks, 10);
+    }
+    check_huge_record(s.strip, s.tiles, past);
+    for (size_t e = 0; e < WRITERS; e++)
+        check_huge_writer(&writers[e], s.strip, s.tiles, past);
+    check_huge_lengths_of_strip(s, past);
+}
+
+/* All are zeros. Only the scratch is written to, as every call is refused. */
+void test_huge(void)
+{
+    static const size_t past[] = {(size_t)1 << 8, (size_t)1 << 16,
+                                  (size_t)1 << 31, (size_t)1 << 32};
+    const size_t most = ((size_t)1 << 32) + 4096;
+    const struct stretch s = {map_zeros(most), map_zeros(most),
+                              map_zeros(most), map_scratch(most)};
+
+    group_begin("all entries", "lengths past 2^8, 2^16, 2^31 and 2^32");
+    for (size_t k = 0; k < COUNT(past); k++)
+        check_past(s, past[k]);
+    group_end();
+    unmap_long(s.strip, most);
+    unmap_long(s.marks, most);
+    unmap_long(s.tiles, most);
+    unmap_long(s.scratch, most);
+}

@@ -1,0 +1,305 @@
+/*
+ * test_strip_damage.c - strips with counted damage in each lane.
+ *
+ * Here the damage says what must come out, so that there can be many cases;
+ * some are put to the second implementation as well.
+ */
+#include <string.h>
+
+#include "draw.h"
+#include "harness.h"
+#include "pictures.h"
+#include "test_strip.h"
+
+static const char subject[] = "strip reader, damage";
+
+/* Lanes as bits, all four of them. */
+enum { ALL_LANES = (1 << REF_LANES) - 1 };
+
+static bool has_lane(unsigned lanes, size_t lane)
+{
+    return lanes >> lane & 1;
+}
+
+/* A split with 2e + f = sum; returns e. */
+static unsigned damage_exactly(struct picture *p, size_t lane, size_t sum)
+{
+    const size_t wrong = draw_below(sum / 2 + 1);
+
+    damage_lane(p, lane, wrong, sum - 2 * wrong, draw_under_mark());
+    return (unsigned)wrong;
+}
+
+/* Damage within reach in these lanes; returns the sum of e. */
+static unsigned damage_within(struct picture *p, unsigned lanes)
+{
+    unsigned wrong = 0;
+
+    for (size_t lane = 0; lane < REF_LANES; lane++)
+        if (has_lane(lanes, lane))
+            wrong += damage_exactly(p, lane, draw_below(REF_REACH + 1));
+    return wrong;
+}
+
+/* ---- one lane, the others clean ---- */
+
+static void check_split(size_t lane, size_t wrong, size_t marked)
+{
+    struct picture p;
+    struct board b;
+
+    picture_any_level(&p, &b);
+    damage_lane(&p, lane, wrong, marked, draw_under_mark());
+    check_picture(&p);
+    if (2 * wrong + marked <= REF_REACH)
+        check_level(&p, &b, (unsigned)wrong);
+    else
+        check_refused(&p, 6, (unsigned)lane);
+}
+
+/* Every split with 2e + f = sum, in each lane. */
+static void test_splits(const char *name, size_t least, size_t most)
+{
+    group_begin(subject, name);
+    for (size_t sum = least; sum <= most; sum++)
+        for (size_t lane = 0; lane < REF_LANES; lane++)
+            for (size_t wrong = 0; 2 * wrong <= sum; wrong++)
+                for (size_t k = 0; k < scaled(60); k++)
+                    check_split(lane, wrong, sum - 2 * wrong);
+    group_end();
+}
+
+/* ---- all lanes ---- */
+
+static void test_all_lanes(void)
+{
+    struct picture p;
+    struct board b;
+
+    group_begin(subject, "within 5 in every lane gives the level back");
+    for (size_t k = 0; k < scaled(10000); k++) {
+        picture_any_level(&p, &b);
+        check_level(&p, &b, damage_within(&p, ALL_LANES));
+    }
+    group_end();
+}
+
+static void test_limit_of_all_lanes(void)
+{
+    struct picture p;
+    struct board b;
+
+    group_begin(subject, "exactly 5 in every lane gives the level back");
+    for (size_t k = 0; k < scaled(4000); k++) {
+        unsigned wrong = 0;
+
+        picture_any_level(&p, &b);
+        for (size_t lane = 0; lane < REF_LANES; lane++)
+            wrong += damage_exactly(&p, lane, REF_REACH);
+        check_level(&p, &b, wrong);
+    }
+    group_end();
+}
+
+static unsigned lowest_of(unsigned lanes)
+{
+    unsigned lane = 0;
+
+    while (!has_lane(lanes, lane))
+        lane++;
+    return lane;
+}
+
+/* Exactly 6 in some lanes, within reach in the others. */
+static void check_beyond(unsigned lanes)
+{
+    struct picture p;
+    struct board b;
+
+    picture_any_level(&p, &b);
+    damage_within(&p, ALL_LANES & ~lanes);
+    for (size_t lane = 0; lane < REF_LANES; lane++)
+        if (has_lane(lanes, lane))
+            damage_exactly(&p, lane, REF_REACH + 1);
+    check_refused(&p, 6, lowest_of(lanes));
+}
+
+static void test_lowest_lane(void)
+{
+    group_begin(subject, "exactly 6 in any lanes, and the lowest is named");
+    for (unsigned lanes = 1; lanes <= ALL_LANES; lanes++)
+        for (size_t k = 0; k < scaled(500); k++)
+            check_beyond(lanes);
+    group_end();
+}
+
+/* ---- marks ---- */
+
+static void test_marked_lanes(void)
+{
+    struct picture p;
+    struct board b;
+
+    group_begin(subject, "whole lanes marked, their bytes right or not");
+    for (unsigned lanes = 1; lanes <= ALL_LANES; lanes++)
+        for (size_t k = 0; k < scaled(50); k++) {
+            picture_any_level(&p, &b);
+            for (size_t lane = 0; lane < REF_LANES; lane++)
+                if (has_lane(lanes, lane))
+                    damage_lane(&p, lane, 0, lane_len(&p), draw_under_mark());
+            check_refused(&p, 6, lowest_of(lanes));
+        }
+    group_end();
+}
+
+static void test_five_marks(void)
+{
+    struct picture p;
+    struct board b;
+
+    group_begin(subject, "five marks in every lane, over bytes of any kind");
+    for (size_t k = 0; k < scaled(2000); k++) {
+        const enum under_mark under = draw_under_mark();
+
+        picture_any_level(&p, &b);
+        for (size_t lane = 0; lane < REF_LANES; lane++)
+            damage_lane(&p, lane, 0, 5, under);
+        check_level(&p, &b, 0);
+    }
+    group_end();
+}
+
+/* Five neighbouring cells of each lane: the front, the check cells, between. */
+static void test_marked_runs(void)
+{
+    struct picture p;
+    struct board b;
+
+    group_begin(subject, "a run of 20 marked cells, anywhere");
+    for (size_t k = 0; k < scaled(2000); k++) {
+        picture_any_level(&p, &b);
+
+        const size_t start = draw_below(p.strip_len - 20 + 1);
+
+        memset(p.marks + start, 1, 20);
+        draw_bytes(p.strip + start, 20);
+        check_level(&p, &b, 0);
+    }
+    group_end();
+}
+
+/* What stands under the marks changes nothing, whatever the answer. */
+static void test_under_marks(void)
+{
+    struct picture p;
+    struct board b;
+
+    group_begin(subject, "other bytes under the same marks, the same answer");
+    for (size_t k = 0; k < scaled(300); k++) {
+        picture_any_level(&p, &b);
+        for (size_t lane = 0; lane < REF_LANES; lane++)
+            damage_lane(&p, lane, draw_below(3), draw_below(4), ANY_BYTE);
+
+        const uint64_t first = packed(check_picture(&p));
+
+        for (size_t i = 0; i < p.strip_len; i++)
+            if (p.marks[i])
+                p.strip[i] = draw_byte();
+        check_number(packed(check_picture(&p)), first, "reference");
+    }
+    group_end();
+}
+
+/* ---- mended and wear ---- */
+
+/* So many wrong cells, at most two in a lane, the lanes in turn. */
+static void check_wear(size_t k, unsigned wrong)
+{
+    const size_t first = draw_below(REF_LANES);
+    struct picture p;
+    struct board b;
+
+    if (!draw_level_for(&b, REF_LANES * k, REF_LANES))
+        return;
+    picture_board(&p, &b);
+    for (size_t lane = 0; lane < REF_LANES; lane++)
+        damage_lane(&p, (first + lane) % REF_LANES,
+                    wrong / REF_LANES + (lane < wrong % REF_LANES),
+                    draw_below(2), WRONG_BYTE);
+    check_level(&p, &b, wrong);
+}
+
+static void test_wear(void)
+{
+    group_begin(subject, "0 to 8 wrong cells at every length of a level");
+    for (size_t k = 1; k <= REF_K_MAX; k++)
+        for (unsigned wrong = 0; wrong <= 2 * REF_LANES; wrong++)
+            check_wear(k, wrong);
+    group_end();
+}
+
+/* Filling bytes are data cells: spoilt they are mended, and counted. */
+static void test_spoilt_filling(void)
+{
+    struct picture p;
+    struct board b;
+
+    group_begin(subject, "filling bytes spoilt, mended and counted");
+    for (size_t w = 1; w <= REF_SIDE_MAX; w++)
+        for (size_t h = 2; h <= REF_SIDE_MAX; h++) {
+            unsigned wrong = 0;
+
+            draw_level(&b, w, h);
+            picture_board(&p, &b);
+
+            const size_t data_len =
+                p.strip_len - REF_LANES * REF_CHECK_BYTES;
+
+            for (size_t q = ref_record_len(w * h); q < data_len; q++, wrong++)
+                p.strip[q] ^= draw_nonzero();
+            check_level(&p, &b, wrong);
+        }
+    group_end();
+}
+
+/* Each cell of a strip by itself. */
+static void test_single_cells(void)
+{
+    static const size_t sides[][2] = {{2, 1}, {5, 4}, {12, 11}, {31, 31}};
+    struct picture p;
+    struct board b;
+
+    group_begin(subject, "every cell wrong by itself, and marked by itself");
+    for (size_t k = 0; k < COUNT(sides); k++) {
+        draw_level(&b, sides[k][0], sides[k][1]);
+        picture_board(&p, &b);
+        for (size_t cell = 0; cell < p.strip_len; cell++) {
+            const uint8_t right = p.strip[cell];
+
+            p.strip[cell] ^= draw_nonzero();
+            check_level(&p, &b, 1);
+            p.marks[cell] = 1;
+            check_level(&p, &b, 0);
+            p.marks[cell] = 0;
+            p.strip[cell] = right;
+        }
+    }
+    group_end();
+}
+
+void test_strip_damage(void)
+{
+    test_splits("every split of 2e + f from 0 to 4, in each lane", 0, 4);
+    test_splits("every split of 2e + f = 5, in each lane", 5, 5);
+    test_splits("every split of 2e + f = 6, in each lane", 6, 6);
+    test_all_lanes();
+    test_limit_of_all_lanes();
+    test_lowest_lane();
+    test_marked_lanes();
+    test_five_marks();
+    test_marked_runs();
+    test_under_marks();
+    test_wear();
+    test_spoilt_filling();
+    test_single_cells();
+}

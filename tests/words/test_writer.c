@@ -1,0 +1,262 @@
+/*
+ * test_writer.c - the record and strip writers against the second
+ * implementation.
+ */
+#include "test_writer.h"
+
+#include <stdio.h>
+#include <string.h>
+
+#include "boards.h"
+#include "draw.h"
+#include "harness.h"
+#include "zavullimen_strips.h"
+
+/* Width 2, height 1, par 5, tiles 4 5. */
+static const uint8_t worked_record[] = {0x11, 0x04, 0x05, 0x94};
+static const uint8_t worked_strip[] = {
+    0x11, 0x04, 0x05, 0x94, 0xB2, 0x1F, 0xD1, 0xA4, 0x20, 0xBF, 0x59, 0x07,
+    0x20, 0xBF, 0x59, 0x07, 0xB2, 0x1F, 0xD1, 0xA4, 0x11, 0x04, 0x05, 0x94};
+
+const struct writer writers[WRITERS] = {
+    {"record writer", zav_record_write, ref_record_write, REF_RECORD_MAX,
+     worked_record, sizeof worked_record},
+    {"strip writer", zav_strip_write, ref_strip_write, REF_STRIP_MAX,
+     worked_strip, sizeof worked_strip},
+};
+
+/* Room for what is written and for bytes past it. */
+enum { BUFFER_ROOM = REF_STRIP_MAX + 64 };
+
+static void check_board(const struct writer *entry, const struct board *b,
+                        size_t room)
+{
+    static struct lent tiles, buffer;
+    uint8_t before[BUFFER_ROOM], expected[BUFFER_ROOM];
+    char what[160];
+
+    group_case();
+    draw_bytes(before, sizeof before);
+    memcpy(expected, before, sizeof before);
+
+    const struct ref_result r =
+        entry->reference(b->width, b->height, b->par, b->tiles, b->tiles_len,
+                         expected, room);
+
+    lend(&tiles, b->tiles, b->tiles_len);
+    lend(&buffer, before, room);
+    seal(&tiles);
+    if (r.code != 0)
+        seal(&buffer);
+    sprintf(what, "%zu by %zu, par %zu, %zu tiles, buffer %zu", b->width,
+            b->height, b->par, b->tiles_len, room);
+    check_number(entry->run(b->width, b->height, b->par, tiles.bytes,
+                            b->tiles_len, buffer.bytes, room),
+                 packed(r), what);
+    check_buffer(&buffer, expected, what);
+    check_buffer(&tiles, b->tiles, what);
+}
+
+/* With a buffer that is long enough. */
+static void check_written(const struct writer *entry, const struct board *b)
+{
+    check_board(entry, b, draw_between(entry->room, BUFFER_ROOM));
+}
+
+static void test_every_size(const struct writer *entry)
+{
+    struct board b;
+
+    group_begin(entry->name, "every size from 1 by 1 to 31 by 31");
+    for (size_t w = 1; w <= REF_SIDE_MAX; w++)
+        for (size_t h = 1; h <= REF_SIDE_MAX; h++) {
+            draw_level(&b, w, h);
+            check_written(entry, &b);
+        }
+    group_end();
+}
+
+static void test_every_par(const struct writer *entry)
+{
+    struct board b;
+
+    group_begin(entry->name, "every par from 0 to 1030");
+    draw_level(&b, 7, 5);
+    for (b.par = 0; b.par <= 1030; b.par++)
+        check_written(entry, &b);
+    group_end();
+}
+
+/* All boards of up to four tiles, with codes up to 7: most are no levels. */
+static void test_small_boards(const struct writer *entry)
+{
+    struct board b = {.height = 1, .par = 3};
+    size_t boards = 1;
+
+    group_begin(entry->name, "every board of one to four tiles");
+    for (size_t n = 1; n <= 4; n++) {
+        b.width = b.tiles_len = n;
+        boards *= 8;
+        for (size_t k = 0; k < boards; k++) {
+            for (size_t i = 0; i < n; i++)
+                b.tiles[i] = (uint8_t)(k >> 3 * i & 7);
+            check_board(entry, &b, entry->room);
+        }
+    }
+    group_end();
+}
+
+/* Each of these is spoilt in one case of four, so that several meet. */
+static bool spoil(void)
+{
+    return draw_below(4) == 0;
+}
+
+static void spoil_numbers(struct board *b)
+{
+    static const size_t sides[] = {0, 1, 3, 31, 32, 258, 66000,
+                                   ((size_t)1 << 32) + 2, SIZE_MAX};
+    static const size_t pars[] = {0, 1023, 1024, 66000,
+                                  ((size_t)1 << 32) + 2, SIZE_MAX};
+
+    if (spoil())
+        b->width = sides[draw_below(COUNT(sides))];
+    if (spoil())
+        b->height = sides[draw_below(COUNT(sides))];
+    if (spoil())
+        b->par = pars[draw_below(COUNT(pars))];
+}
+
+static void spoil_tiles(struct board *b)
+{
+    if (spoil())
+        b->tiles[draw_below(b->tiles_len)] = draw_byte();
+    if (spoil())
+        b->tiles[draw_below(b->tiles_len)] = (uint8_t)draw_below(7);
+    if (spoil())
+        b->tiles_len += draw_below(3) - 1;
+}
+
+static void test_refusals(const struct writer *entry)
+{
+    const size_t rooms[] = {0, 1, entry->room - 1, entry->room,
+                            entry->room + 1};
+    struct board b;
+
+    group_begin(entry->name, "refusals, several at once");
+    for (size_t k = 0; k < scaled(30000); k++) {
+        draw_level(&b, draw_between(1, 8), draw_between(2, 8));
+        b.tiles[b.tiles_len] = (uint8_t)draw_below(8); /* one too many */
+        spoil_numbers(&b);
+        spoil_tiles(&b);
+        check_board(entry, &b,
+                    spoil() ? rooms[draw_below(COUNT(rooms))] : entry->room);
+    }
+    group_end();
+}
+
+/* A number that a narrower one would cut to a legal one. */
+static void check_wide(const struct writer *entry, const struct board *level,
+                       size_t past)
+{
+    struct board b = *level;
+
+    b.width += past;
+    check_written(entry, &b);
+    b = *level;
+    b.height += past;
+    check_written(entry, &b);
+    b = *level;
+    b.par += past;
+    check_written(entry, &b);
+}
+
+static void test_wide_numbers(const struct writer *entry)
+{
+    struct board b;
+
+    group_begin(entry->name, "width, height or par past 2^5 up to 2^63");
+    for (int bit = 5; bit < 64; bit++) {
+        draw_level(&b, 2, 2);
+        b.par = 2;
+        check_wide(entry, &b, (size_t)1 << bit);
+    }
+    group_end();
+}
+
+/* No size at all, with no tiles at all: the numbers are judged first. */
+static void test_nothing(const struct writer *entry)
+{
+    struct board b = {.par = 5};
+
+    group_begin(entry->name, "no tiles, and sides of 0 and 1");
+    for (b.width = 0; b.width < 2; b.width++)
+        for (b.height = 0; b.height < 2; b.height++)
+            check_written(entry, &b);
+    group_case();
+    check_number(entry->run(0, 0, 0, NULL, 0, NULL, 0),
+                 packed(entry->reference(0, 0, 0, NULL, 0, NULL, 0)), "NULL");
+    group_end();
+}
+
+/* Tiles of one code only, as an editor leaves them. */
+static void test_plain_tiles(const struct writer *entry)
+{
+    struct board b;
+
+    group_begin(entry->name, "boards of one code");
+    for (unsigned code = 0; code < 256; code++) {
+        draw_level(&b, 31, 31);
+        memset(b.tiles, (int)code, b.tiles_len);
+        check_written(entry, &b);
+        b.tiles[draw_below(b.tiles_len)] = 5;
+        check_written(entry, &b);
+    }
+    group_end();
+}
+
+/* Every length of the buffer, from none to longer than is needed. */
+static void test_rooms(const struct writer *entry)
+{
+    struct board b;
+
+    group_begin(entry->name, "buffers of every length");
+    for (size_t room = 0; room <= BUFFER_ROOM; room++) {
+        draw_any_level(&b);
+        check_board(entry, &b, room);
+    }
+    group_end();
+}
+
+static void test_worked(const struct writer *entry)
+{
+    static const uint8_t tiles[] = {4, 5};
+    const struct ref_result length = {.length = (unsigned)entry->worked_len};
+    uint8_t got[BUFFER_ROOM], reference[BUFFER_ROOM];
+
+    group_begin(entry->name, "what the paper works by hand");
+    group_case();
+    check_number(entry->run(2, 1, 5, tiles, sizeof tiles, got, sizeof got),
+                 packed(length), "library");
+    check_number(packed(entry->reference(2, 1, 5, tiles, sizeof tiles,
+                                         reference, sizeof reference)),
+                 packed(length), "reference");
+    if (memcmp(got, entry->worked, entry->worked_len) != 0)
+        group_fail("the library writes other bytes");
+    if (memcmp(reference, entry->worked, entry->worked_len) != 0)
+        group_fail("the reference writes other bytes");
+    group_end();
+}
+
+void test_writer(const struct writer *entry)
+{
+    test_worked(entry);
+    test_every_size(entry);
+    test_every_par(entry);
+    test_small_boards(entry);
+    test_refusals(entry);
+    test_wide_numbers(entry);
+    test_nothing(entry);
+    test_plain_tiles(entry);
+    test_rooms(entry);
+}

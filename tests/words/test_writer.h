@@ -1,0 +1,28 @@
+/*
+ * test_writer.h - the record and strip writers against the second
+ * implementation.
+ */
+#ifndef TEST_WRITER_H
+#define TEST_WRITER_H
+
+#include "reference.h"
+
+/* The two writers differ in what they write, and in the room for it. */
+struct writer {
+    const char *name;
+    uint64_t (*run)(size_t, size_t, size_t, const uint8_t *, size_t, uint8_t *,
+                    size_t);
+    struct ref_result (*reference)(size_t, size_t, size_t, const uint8_t *,
+                                   size_t, uint8_t *, size_t);
+    size_t room;           /* the least that the buffer must hold */
+    const uint8_t *worked; /* what the paper works by hand */
+    size_t worked_len;
+};
+
+enum { WRITERS = 2 };
+extern const struct writer writers[WRITERS];
+
+/* All groups of one writer. */
+void test_writer(const struct writer *entry);
+
+#endif

@@ -1,7 +1,7 @@
 -- Fields by the bytes that they lie in, and bytes by the fields.
 use mathlib.Core.Path.{_≡_, refl, sym, ap, ap₂, _∙_}
 use mathlib.Core.List.{List}
-use Prim.Native.Nat.{ℕ, zero, suc, _+_, _*_, _-_, _/_, _%_, _^_, _≤_, _<_}
+use Prim.Native.Nat.{ℕ, zero, suc, _+_, _*_, _-_, _/_, _%_, _^_, _<_}
 use native.Mathlib.Nat.{two-pow-succ, pow-suc, div-div-eq-div-mul, mul-add}
 use native.Mathlib.Omega.{arith}
 use lib.Pow.{mod-pow-add}

@@ -2,7 +2,7 @@
 use mathlib.Core.Path.{_≡_, refl, sym, ap, ap₂, _∙_, subst}
 use mathlib.Core.Logic.{inl, inr}
 use mathlib.Core.List.{List}
-use Prim.Native.Nat.{ℕ, _+_, _*_, _-_, _≤_, _<_}
+use Prim.Native.Nat.{ℕ, _*_, _-_, _≤_}
 use native.Mathlib.Omega.{arith}
 use lib.ListN.{length, take, drop}
 use Rattle.level.specs.Record.{fieldAt}
@@ -11,8 +11,8 @@ use Rattle.level.proofs.Windows.{field-below}
 use Rattle.code.specs.Refusal.{First}
 use Rattle.record.specs.declared.Head.{Head}
 use Rattle.record.specs.declared.Judged.{Judged}
-use Rattle.record.specs.Sum.{boarding}
-use Rattle.record.specs.Reading.{Heads, Unpacks, without, Spells, JudgedAs}
+use Rattle.record.specs.Writing.{boarding}
+use Rattle.record.specs.Reading.{Heads, Unpacks, without, JudgedAs}
 use Rattle.record.proofs.Tiles.{area-small}
 use Rattle.record.proofs.Reading.{field-5, on-board}
 

@@ -2,7 +2,7 @@
 use mathlib.Core.Path.{_≡_, refl, sym, ap, ap₂, _∙_, subst}
 use mathlib.Core.Logic.{inl, inr}
 use mathlib.Core.List.{List, _++_}
-use Prim.Native.Nat.{ℕ, _+_, _*_, _-_, _/_, _≤_, _<_}
+use Prim.Native.Nat.{ℕ, _+_, _*_, _-_, _≤_}
 use native.Mathlib.Omega.{arith}
 use lib.ListN.{length, take, drop}
 use lib.Seq.{take-at, drop-at, take-all, length-take-le}
@@ -14,7 +14,7 @@ use Rattle.level.specs.Tile.{totals}
 use Rattle.level.specs.Level.{Level, IsLevel, AllTiles, Playable}
 use Rattle.level.specs.Record.{fieldAt, recordLength, IsRecord}
 use Rattle.level.specs.Strip.{columns}
-use Rattle.level.specs.Reading.{tilesOf, levelOf, Headed, Shaped, judging, readingRecord, returned}
+use Rattle.level.specs.Reading.{tilesOf, levelOf, Headed, Shaped, judging, readingRecord}
 use Rattle.level.proofs.Fields.{same-level}
 use Rattle.level.proofs.Judged.{length-tiles, spelled-record, spelled-level}
 use Rattle.record.specs.declared.Judged.{Judged}

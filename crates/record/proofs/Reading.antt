@@ -1,7 +1,7 @@
 -- A record read: its fields from its bytes.
-use mathlib.Core.Path.{_≡_, refl, sym, ap, ap₂, _∙_, subst}
+use mathlib.Core.Path.{_≡_, sym, ap, _∙_, subst}
 use mathlib.Core.Bool.{Bool, true, false}
-use mathlib.Core.Logic.{_⊎_, inl, inr, ⊎-elim}
+use mathlib.Core.Logic.{_⊎_, ⊎-elim}
 use mathlib.Core.List.{List, [], _∷_, _++_}
 use Prim.Native.Nat.{ℕ, zero, suc, _+_, _*_, _-_, _/_, _%_, _^_, _≤_, _<_}
 use native.Mathlib.Nat.{eq-or-lt-of-le, mul-le-mul, le-trans, div-le-self}
@@ -10,13 +10,12 @@ use native.Mathlib.Omega.{arith}
 use lib.ListN.{length, getD, take, drop, set, length-append, length-drop, List·getD-append}
 use lib.Seq.{sets, sets-eq, getD-take, getD-drop, getD-append-add, length-take-le, take-all, ext-getD}
 use Rattle.errata.specs.Errata.{Says}
-use Rattle.level.specs.Record.{bitAt, fieldAt, recordLength}
+use Rattle.level.specs.Record.{bitAt, fieldAt}
 use Rattle.level.specs.Strip.{columns}
 use Rattle.level.specs.Reading.{tilesIn, Shaped}
 use Rattle.level.proofs.Strips.{lt-or-ge}
 use Rattle.level.proofs.Judged.{length-tiles, getD-tiles}
 use Rattle.level.proofs.Windows.{field-below, within-byte, across, field-part}
-use Rattle.record.specs.declared.Head.{Head}
 use Rattle.record.specs.Reading.{Heads, eight, Unpacks}
 
 -- five bits

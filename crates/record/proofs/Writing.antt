@@ -11,7 +11,7 @@ use Rattle.account.specs.Lists.{listOf}
 use Rattle.account.proofs.Lanes.{getD-past}
 use Rattle.account.proofs.Lists.{length-listOf}
 use Rattle.level.specs.Level.{Level, AllTiles}
-use Rattle.level.specs.Written.{digit, spelled, recordBit, recordByte}
+use Rattle.level.specs.Written.{digit, recordBit, recordByte}
 use Rattle.level.proofs.Strips.{lt-or-ge}
 use Rattle.level.proofs.RecordOf.{bit-1, bit-2, bit-3, bit-4, bit-5}
 use Rattle.level.proofs.Windows.{run, run-append, window}

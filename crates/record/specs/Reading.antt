@@ -27,6 +27,7 @@ pub record RecordReadsAs (bs old new : List ℕ) (a : RecordRead) : Type 0 where
 
 -- ---- parts
 
+-- the fields in front of the tiles
 pub record Heads (bs : List ℕ) (r : Head) : Type 0 where
   pub version : r .version ≡ fieldAt bs 0 4
   pub width : r .width ≡ fieldAt bs 4 5
@@ -37,9 +38,11 @@ pub record Heads (bs : List ℕ) (r : Head) : Type 0 where
 abbrev pub eight : ℕ → ℕ → ℕ → List ℕ
 eight x y z = (x / 32) ∷ (x / 4 % 8) ∷ (x % 4 * 2 + y / 128) ∷ (y / 16 % 8) ∷ (y / 2 % 8) ∷ (y % 2 * 4 + z / 64) ∷ (z / 8 % 8) ∷ (z % 8) ∷ []
 
+-- the first m tiles of a record's part from byte 3
 pub record Unpacks (part : List ℕ) (m : ℕ) (board : List ℕ) : Type 0 where
   pub tile : (i : ℕ) → i < m → getD board i 0 ≡ fieldAt part (3 * i) 3
 
+-- a refusal
 abbrev pub without : ℕ → Judged
 without code = record { code = code; width = 0; height = 0; par = 0 }
 
@@ -51,6 +54,7 @@ pub record Spells (bs board : List ℕ) (r : Judged) : Type 0 where
   pub few : r .width * r .height ≤ 961
   pub tiles : take (r .width * r .height) board ≡ tilesOf bs
 
+-- a record (lanes = 1), or the data cells of a strip, judged
 pub record JudgedAs (lanes : ℕ) (bs board : List ℕ) (r : Judged) : Type 0 where
   pub first : First (judging lanes (λ ask. ask bs)) (r .code)
   pub spells : r .code ≡ 0 → Spells bs board r

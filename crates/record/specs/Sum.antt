@@ -1,13 +1,11 @@
--- The sum over a board: the rows of the program are those of the definition, and are summed packed in one number.
+-- Parts: the rows of the program are those of the definition, and the sum over a board is taken of rows packed in one number.
 use mathlib.Core.Path.{_≡_}
 use mathlib.Core.Bool.{cond}
 use mathlib.Core.List.{List, [], _∷_}
 use Prim.Native.Nat.{ℕ, _+_, _*_, _<_}
 use lib.Dec.{ltb}
 use lib.ListN.{getD}
-use Rattle.level.specs.Tile.{Row, adds, totals}
-use Rattle.level.specs.Level.{AllTiles, Playable}
-use Rattle.code.specs.Refusal.{Rule, unless}
+use Rattle.level.specs.Tile.{Row, adds}
 use Rattle.record.specs.declared.Adds.{Adds}
 
 pub record Same (r : Adds) (row : Row) : Type 0 where
@@ -18,7 +16,7 @@ pub record Same (r : Adds) (row : Row) : Type 0 where
 abbrev pub packed : Row → ℕ
 packed r = r .player + 65536 * r .crate' + 4294967296 * r .goal
 
--- what a tile adds; the top bits count what is no tile code
+-- what a tile adds; the bits from 48 on count what is no tile code
 abbrev pub weighed : ℕ → ℕ
 weighed t = cond (ltb t 7) (packed (adds t)) 281474976710656
 
@@ -29,7 +27,3 @@ weight (t ∷ ts) = weighed t + weight ts
 pub record Packs (rows : List ℕ) : Type 0 where
   pub row-at : (t : ℕ) → t < 7 → getD rows t 0 ≡ packed (adds t)
   pub other : getD rows 7 0 ≡ 281474976710656
-
--- 9: "a tile code above 6"; 10: "not one player, no crate, or crates and goals unequal"
-abbrev pub boarding : List ℕ → List Rule
-boarding tiles = unless 9 (AllTiles tiles) ∷ unless 10 (Playable (totals tiles)) ∷ []

@@ -3,13 +3,13 @@ use mathlib.Core.Path.{_≡_}
 use mathlib.Core.List.{List, [], _∷_, _++_}
 use Prim.Native.Nat.{ℕ, _+_, _*_, _/_, _%_, _≤_}
 use lib.ListN.{length, drop}
-use Rattle.level.specs.Level.{Level, Sized}
+use Rattle.level.specs.Tile.{totals}
+use Rattle.level.specs.Level.{Level, Sized, AllTiles, Playable}
 use Rattle.level.specs.Record.{recordLength}
 use Rattle.level.specs.Written.{recordByte, recordOf}
 use Rattle.code.specs.Refusal.{Rule, unless, First}
 use Rattle.code.specs.Word.{writtenNumbers}
 use Rattle.code.specs.declared.word.Written.{Written}
-use Rattle.record.specs.Sum.{boarding}
 
 -- "The record and strip writers take width, height, par, tiles"
 abbrev pub lent : ℕ → ℕ → ℕ → List ℕ → Level
@@ -19,6 +19,10 @@ lent w h par tiles = record { width = w; height = h; par = par; tiles = tiles }
 pub record Ranged (w h par : ℕ) : Type 0 where
   pub sized : Sized w h
   pub par-small : par ≤ 1023
+
+-- 9: "a tile code above 6"; 10: "not one player, no crate, or crates and goals unequal"
+abbrev pub boarding : List ℕ → List Rule
+boarding tiles = unless 9 (AllTiles tiles) ∷ unless 10 (Playable (totals tiles)) ∷ []
 
 -- 7; 8: "lent tiles not width times height"; 9; 10
 abbrev pub lending : ℕ → ℕ → ℕ → List ℕ → List Rule
@@ -37,6 +41,7 @@ pub record RecordWritesAs (w h par : ℕ) (tiles old new : List ℕ) (a : Writte
 
 -- ---- parts
 
+-- version, width, height and par
 abbrev pub headBytes : ℕ → ℕ → ℕ → List ℕ
 headBytes w h par = (16 + w / 2) ∷ (w % 2 * 128 + h * 4 + par / 256) ∷ (par % 256) ∷ []
 

@@ -11,8 +11,8 @@ ghost use Rattle.level.specs.Level.{Sized, AllTiles, IsLevel};
 ghost use Rattle.level.specs.Record.{bitAt, fieldAt, recordLength};
 ghost use Rattle.level.specs.Written.{recordOf};
 ghost use Rattle.level.specs.Reading.{Shaped};
-ghost use Rattle.record.specs.Sum.{Same, packed, weighed, weight, Packs, boarding};
-ghost use Rattle.record.specs.Writing.{lent, Ranged, lending, RecordWritesAs, headBytes, TileByte};
+ghost use Rattle.record.specs.Sum.{Same, packed, weighed, weight, Packs};
+ghost use Rattle.record.specs.Writing.{lent, Ranged, boarding, lending, RecordWritesAs, headBytes, TileByte};
 ghost use Rattle.record.specs.Reading.{Heads, eight, Unpacks, without, JudgedAs, AcceptedAs, RecordReadsAs};
 use code::word::Written;
 

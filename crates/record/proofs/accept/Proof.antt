@@ -5,46 +5,34 @@ use Rattle.record.proofs.Reader.{rejected, board-part, accepted}
 use borrow.Author.Needs.{needs}
 use Rattle.record.proofs.accept.Statement.{statement}
 use Rattle.record.proofs.accept.Tie as tie
-use Rattle.record.proofs.accept.Reads as reads
-use Rattle.record.proofs.accept.Lts as lts
-use Rattle.code.proofs.word.put_data.Reads as put-data-reads
-use Rattle.record.proofs.judge.Reads as judge-reads
 
--- src/lib.rt:425:30
 slice-aggregate-judge : tie.Need-slice-aggregate-judge
 slice-aggregate-judge c = search needs
 
--- src/lib.rt:425:9
 judge-requires : tie.Need-judge-requires
 judge-requires c κs = search needs
 
--- src/lib.rt:428:9
 returns : tie.Need-returns
 returns c =
     let a = c .before .before .before .before .before .before .args in
     let j = c .before .before .judge in
     rejected (a .lanes) (a .bs .now) (j .last .1 .1 .0) (j .result) (j .ensures) (a .tiles .now) (c .if1 .taken)
 
--- src/lib.rt:430:13
 mul-m : tie.Need-mul-m
 mul-m c = omega (arith, c .before .before .before .judge .ensures .spells (c .before .if1 .left) .few)
 
--- src/lib.rt:431:26
 sub-put-data : tie.Need-sub-put-data
 sub-put-data c = search needs
 
--- src/lib.rt:431:26
 part-put-data-start : tie.Need-part-put-data-start
 part-put-data-start c = search needs
 
--- src/lib.rt:431:26
 part-put-data-end : tie.Need-part-put-data-end
 part-put-data-end c =
     let j = c .before .before .before .before .judge in
     let n : length (j .last .1 .1 .0) ≡ 968 = search needs in
     omega (arith, j .ensures .spells (c .before .before .if1 .left) .few)
 
--- src/lib.rt:431:5
 put-data-requires : tie.Need-put-data-requires
 put-data-requires c κs =
     let a = c .before .before .before .before .before .before .before .before .before .before .args in
@@ -53,11 +41,9 @@ put-data-requires c κs =
     let z = c .before .before .before .before .if1 .left in
     omega (arith, c .before .before .before .before .before .before .before .before .before .before .pre .4, j .ensures .spells z .few, board-part (a .lanes) (a .bs .now) (j .last .1 .1 .0) (j .result) (j .ensures) (a .tiles .now) z (omega (arith, n)))
 
--- src/lib.rt:420:1
 same-length : tie.Need-same-length
 same-length c = search needs
 
--- src/lib.rt:420:1
 returns-2 : tie.Need-returns-2
 returns-2 c =
     let a = c .before .before .before .before .before .before .before .before .before .before .before .before .before .args in

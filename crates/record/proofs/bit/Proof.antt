@@ -3,26 +3,19 @@ use Rattle.level.specs.Record.{bitAt}
 use borrow.Author.Needs.{needs}
 use Rattle.record.proofs.bit.Statement.{statement}
 use Rattle.record.proofs.bit.Tie as tie
-use Rattle.record.proofs.bit.Reads as reads
-use Rattle.record.proofs.bit.Lts as lts
 
--- src/lib.rt:324:13
 shared-slice-read-b : tie.Need-shared-slice-read-b
 shared-slice-read-b c = search needs
 
--- src/lib.rt:325:12
 sub-result : tie.Need-sub-result
 sub-result c = search needs
 
--- src/lib.rt:325:12
 cast-result : tie.Need-cast-result
 cast-result c = search needs
 
--- src/lib.rt:325:6
 shr-result : tie.Need-shr-result
 shr-result c = search needs
 
--- src/lib.rt:319:1
 returns : tie.Need-returns
 unfolding bitAt
 returns c = refl

@@ -7,9 +7,6 @@ use Prim.Native.Nat.{ℕ, _*_, _-_, _≤_, _<_}
 use mathlib.Core.Path.{_≡_}
 use Rattle.record.proofs.blank.Statement.{statement}
 use Rattle.record.proofs.blank.Tie as tie
-use Rattle.record.proofs.blank.Reads as reads
-use Rattle.record.proofs.blank.Lts as lts
-use Rattle.record.proofs.bit.Reads as bit-reads
 
 abbrev Inv-loop : tie.InvT-loop
 Inv-loop bs from end p₀ p = (end ≡ 8 * length bs) × (from ≤ p) × ((q : ℕ) → from ≤ q → q < p → bitAt bs q ≡ 0)
@@ -17,37 +14,29 @@ Inv-loop bs from end p₀ p = (end ≡ 8 * length bs) × (from ≤ p) × ((q : �
 abbrev μ-loop : tie.MeasureT-loop
 μ-loop bs from end p₀ p = end - p
 
--- src/lib.rt:333:15
 mul-end : tie.Need-mul-end Inv-loop μ-loop
 mul-end c = search needs
 
--- src/lib.rt:335:5
 loop-holds : tie.Need-loop-holds Inv-loop μ-loop
 loop-holds c = (omega arith, omega arith, λ q a b. absurd (omega arith))
 
--- src/lib.rt:336:12
 bit-requires : tie.Need-bit-requires Inv-loop μ-loop
 bit-requires c κs = search needs
 
--- src/lib.rt:337:13
 returns : tie.Need-returns Inv-loop μ-loop
 returns c = λ f. let l = c .before .before .before .loop in omega (arith, f (l .p) (l .inv .1) (omega arith), c .before .bit .ensures)
 
--- src/lib.rt:339:9
 add-p : tie.Need-add-p Inv-loop μ-loop
 add-p c = search needs
 
--- src/lib.rt:335:5
 loop-less : tie.Need-loop-less Inv-loop μ-loop
 loop-less c = search needs
 
--- src/lib.rt:335:5
 loop-again : tie.Need-loop-again Inv-loop μ-loop
 loop-again c =
     let l = c .before .before .before .loop in
     (omega arith, omega arith, range-more (λ q. bitAt (c .before .before .before .before .before .args .bs .now) q ≡ 0) (c .before .before .before .before .before .args .from) (l .p) (l .inv .2) (omega (arith, c .before .bit .ensures)))
 
--- src/lib.rt:329:1
 returns-2 : tie.Need-returns-2 Inv-loop μ-loop
 returns-2 c = λ q a b. c .before .loop .inv .2 q a (omega arith)
 

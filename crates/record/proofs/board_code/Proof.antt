@@ -5,24 +5,16 @@ use mathlib.Core.Path.{refl}
 use borrow.Author.Needs.{needs}
 use Rattle.record.proofs.board_code.Statement.{statement}
 use Rattle.record.proofs.board_code.Tie as tie
-use Rattle.record.proofs.board_code.Reads as reads
-use Rattle.record.proofs.board_code.Lts as lts
-use Rattle.record.proofs.rows.Reads as rows-reads
-use Rattle.record.proofs.tally.Reads as tally-reads
 
--- src/lib.rt:118:17
 rows-requires : tie.Need-rows-requires
 rows-requires c κs = search needs
 
--- src/lib.rt:119:9
 tally-requires : tie.Need-tally-requires
 tally-requires c κs = search needs
 
--- src/lib.rt:121:9
 returns : tie.Need-returns
 returns c = inl (not-all (c .before .before .before .before .before .args .tiles .now) (c .before .tally .result) (c .before .before .before .before .before .pre) (c .before .tally .ensures) (λ z. omega (arith, z, c .if1 .taken)), refl)
 
--- src/lib.rt:127:9
 returns-2 : tie.Need-returns-2
 returns-2 c =
     let ts = c .before .before .before .before .before .before .args .tiles .now in
@@ -30,7 +22,6 @@ returns-2 c =
     let s = sums ts x (c .before .before .before .before .before .before .pre) (c .before .before .tally .ensures) (omega arith) in
     inr (all-tiles ts x (c .before .before .before .before .before .before .pre) (c .before .before .tally .ensures) (omega arith), inl (λ p. omega (arith, p .one-player, s, c .if2 .taken), refl))
 
--- src/lib.rt:130:9
 returns-3 : tie.Need-returns-3
 returns-3 c =
     let ts = c .before .before .before .before .before .before .before .args .tiles .now in
@@ -38,7 +29,6 @@ returns-3 c =
     let s = sums ts x (c .before .before .before .before .before .before .before .pre) (c .before .before .before .tally .ensures) (omega arith) in
     inr (all-tiles ts x (c .before .before .before .before .before .before .before .pre) (c .before .before .before .tally .ensures) (omega arith), inl (λ p. omega (arith, p .some-crate, s, c .if3 .taken), refl))
 
--- src/lib.rt:133:9
 returns-4 : tie.Need-returns-4
 returns-4 c =
     let ts = c .before .before .before .before .before .before .before .before .args .tiles .now in
@@ -46,7 +36,6 @@ returns-4 c =
     let s = sums ts x (c .before .before .before .before .before .before .before .before .pre) (c .before .before .before .before .tally .ensures) (omega arith) in
     inr (all-tiles ts x (c .before .before .before .before .before .before .before .before .pre) (c .before .before .before .before .tally .ensures) (omega arith), inl (λ p. omega (arith, p .as-many, s, c .if4 .taken), refl))
 
--- src/lib.rt:114:1
 returns-5 : tie.Need-returns-5
 returns-5 c =
     let ts = c .before .before .before .before .before .before .before .before .args .tiles .now in

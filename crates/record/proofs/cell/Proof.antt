@@ -4,18 +4,13 @@ use mathlib.Core.Path.{sym}
 use borrow.Author.Needs.{needs}
 use Rattle.record.proofs.cell.Statement.{statement}
 use Rattle.record.proofs.cell.Tie as tie
-use Rattle.record.proofs.cell.Reads as reads
-use Rattle.record.proofs.cell.Lts as lts
 
--- src/lib.rt:283:16
 shared-slice-read-result : tie.Need-shared-slice-read-result
 shared-slice-read-result c = search needs
 
--- src/lib.rt:283:9
 returns : tie.Need-returns
 returns c = search needs
 
--- src/lib.rt:279:1
 returns-2 : tie.Need-returns-2
 returns-2 c = let a = c .before .args in sym (getD-past (a .bs .now) (a .q) (omega arith))
 

@@ -8,23 +8,16 @@ use mathlib.Core.Path.{refl}
 use borrow.Author.Needs.{needs}
 use Rattle.record.proofs.check.Statement.{statement}
 use Rattle.record.proofs.check.Tie as tie
-use Rattle.record.proofs.check.Reads as reads
-use Rattle.record.proofs.check.Lts as lts
-use Rattle.record.proofs.board_code.Reads as board-code-reads
-use Rattle.record.proofs.ranged.Reads as ranged-reads
 
--- src/lib.rt:228:9
 ranged-requires : tie.Need-ranged-requires
 ranged-requires c κs = search needs
 
--- src/lib.rt:229:9
 returns : tie.Need-returns
 returns c =
     let a = c .before .before .before .args in
     let t = c .before .ranged in
     inl (denied (Ranged (a .w) (a .h) (a .par)) (t .result) (not-true (t .result) (c .if1 .taken)) (t .ensures), refl)
 
--- src/lib.rt:231:23
 mul-if2 : tie.Need-mul-if2
 mul-if2 c =
     let a = c .before .before .before .args in
@@ -32,7 +25,6 @@ mul-if2 c =
     let g = said (Ranged (a .w) (a .h) (a .par)) (t .result) (not-false (t .result) (c .if1 .left)) (t .ensures) in
     omega (arith, area-small (a .w) (a .h) (g .sized .not-wider) (g .sized .not-higher))
 
--- src/lib.rt:232:9
 returns-2 : tie.Need-returns-2
 returns-2 c =
     let a = c .before .before .before .before .args in
@@ -40,7 +32,6 @@ returns-2 c =
     let g = said (Ranged (a .w) (a .h) (a .par)) (t .result) (not-false (t .result) (c .before .if1 .left)) (t .ensures) in
     inr (g, inl (λ e. omega (arith, e, c .if2 .taken), refl))
 
--- src/lib.rt:234:5
 board-code-requires : tie.Need-board-code-requires
 board-code-requires c κs =
     let a = c .before .before .before .before .args in
@@ -48,7 +39,6 @@ board-code-requires c κs =
     let g = said (Ranged (a .w) (a .h) (a .par)) (t .result) (not-false (t .result) (c .before .if1 .left)) (t .ensures) in
     omega (arith, area-small (a .w) (a .h) (g .sized .not-wider) (g .sized .not-higher), c .if2 .left)
 
--- src/lib.rt:225:1
 returns-3 : tie.Need-returns-3
 returns-3 c =
     let a = c .before .before .before .before .before .args in

@@ -4,50 +4,37 @@ use mathlib.Core.Path.{refl}
 use borrow.Author.Needs.{needs}
 use Rattle.record.proofs.head_of.Statement.{statement}
 use Rattle.record.proofs.head_of.Tie as tie
-use Rattle.record.proofs.head_of.Reads as reads
-use Rattle.record.proofs.head_of.Lts as lts
 
--- src/lib.rt:267:13
 shared-slice-read-a : tie.Need-shared-slice-read-a
 shared-slice-read-a c = search needs
 
--- src/lib.rt:267:13
 cast-a : tie.Need-cast-a
 cast-a c = omega (arith, c .shared-slice-known .given 0)
 
--- src/lib.rt:268:13
 shared-slice-read-b : tie.Need-shared-slice-read-b
 shared-slice-read-b c = search needs
 
--- src/lib.rt:268:13
 cast-b : tie.Need-cast-b
 cast-b c = omega (arith, c .shared-slice-known2 .given 1)
 
--- src/lib.rt:269:13
 shared-slice-read-c : tie.Need-shared-slice-read-c
 shared-slice-read-c c = search needs
 
--- src/lib.rt:269:13
 cast-c : tie.Need-cast-c
 cast-c c = omega (arith, c .shared-slice-known3 .given 2)
 
--- src/lib.rt:272:16
 mul-t11 : tie.Need-mul-t11
 mul-t11 c = search needs
 
--- src/lib.rt:272:16
 add-t13 : tie.Need-add-t13
 add-t13 c = omega (arith, c .shared-slice-known3 .given 0, c .shared-slice-known3 .given 1)
 
--- src/lib.rt:274:14
 mul-t17 : tie.Need-mul-t17
 mul-t17 c = search needs
 
--- src/lib.rt:274:14
 add-t18 : tie.Need-add-t18
 add-t18 c = omega (arith, c .shared-slice-known3 .given 2, c .shared-slice-known3 .given 1)
 
--- src/lib.rt:263:1
 returns : tie.Need-returns
 returns c = heads (c .before .before .before .args .bs .now) _ _ _ refl refl refl (omega (arith, c .shared-slice-known3 .given 0)) (omega (arith, c .shared-slice-known3 .given 1)) (omega (arith, c .shared-slice-known3 .given 2))
 

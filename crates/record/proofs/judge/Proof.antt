@@ -8,53 +8,37 @@ use native.Mathlib.Omega.{arith}
 use borrow.Author.Needs.{needs}
 use Rattle.record.proofs.judge.Statement.{statement}
 use Rattle.record.proofs.judge.Tie as tie
-use Rattle.record.proofs.judge.Reads as reads
-use Rattle.record.proofs.judge.Lts as lts
-use Rattle.record.proofs.board_code.Reads as board-code-reads
-use Rattle.record.proofs.head_of.Reads as head-of-reads
-use Rattle.record.proofs.refused.Reads as refused-reads
-use Rattle.record.proofs.shaped.Reads as shaped-reads
-use Rattle.record.proofs.unpack.Reads as unpack-reads
 
--- src/lib.rt:380:9
 head-of-requires : tie.Need-head-of-requires
 head-of-requires c κs = search needs
 
--- src/lib.rt:382:9
 refused-requires : tie.Need-refused-requires
 refused-requires c κs = search needs
 
--- src/lib.rt:382:9
 returns : tie.Need-returns
 returns c =
     let a = c .before .before .before .before .before .before .args in
     judged-7 (a .lanes) (a .bs .now) (a .board .now) (c .refused .result) (c .refused .ensures) (λ h. omega (arith, h .version, c .before .before .before .head-of .ensures .version, c .before .if1 .taken))
 
--- src/lib.rt:385:9
 refused-requires-2 : tie.Need-refused-requires-2
 refused-requires-2 c κs = search needs
 
--- src/lib.rt:385:9
 returns-2 : tie.Need-returns-2
 returns-2 c =
     let a = c .before .before .before .before .before .before .before .before .args in
     judged-7 (a .lanes) (a .bs .now) (a .board .now) (c .refused2 .result) (c .refused2 .ensures) (λ h. omega (arith, h .sized .wide, c .before .before .before .before .before .head-of .ensures .width, c .before .if2 .taken))
 
--- src/lib.rt:388:9
 refused-requires-3 : tie.Need-refused-requires-3
 refused-requires-3 c κs = search needs
 
--- src/lib.rt:388:9
 returns-3 : tie.Need-returns-3
 returns-3 c =
     let a = c .before .before .before .before .before .before .before .before .before .before .args in
     judged-7 (a .lanes) (a .bs .now) (a .board .now) (c .refused3 .result) (c .refused3 .ensures) (λ h. omega (arith, h .sized .high, c .before .before .before .before .before .before .before .head-of .ensures .height, c .before .if3 .taken))
 
--- src/lib.rt:390:13
 mul-m : tie.Need-mul-m
 mul-m c = let f = c .before .before .before .before .before .before .before .head-of in omega (arith, area-few (c .before .before .before .before .before .before .before .before .before .before .args .bs .now) (f .result) (f .ensures))
 
--- src/lib.rt:391:9
 shaped-requires : tie.Need-shaped-requires
 shaped-requires c κs =
     let f = c .before .before .before .before .before .before .before .head-of in
@@ -62,11 +46,9 @@ shaped-requires c κs =
     let q = c .before .before .before .before .before .before .before .before .before .before .pre in
     (q .1, q .2, q .3, area-is bs (f .result) (f .ensures), area-few bs (f .result) (f .ensures))
 
--- src/lib.rt:392:9
 refused-requires-4 : tie.Need-refused-requires-4
 refused-requires-4 c κs = search needs
 
--- src/lib.rt:392:9
 returns-4 : tie.Need-returns-4
 returns-4 c =
     let a = c .before .before .before .before .before .before .before .before .before .before .before .before .before .args in
@@ -76,49 +58,38 @@ returns-4 c =
     (headed (a .bs .now) (f .result) (f .ensures) (omega (arith, c .before .before .before .before .before .before .before .before .if1 .left)) (omega (arith, c .before .before .before .before .before .before .if2 .left)) (omega (arith, c .before .before .before .before .if3 .left)))
     (denied (Shaped (a .lanes) (a .bs .now)) (s .result) (not-true (s .result) (c .before .if4 .taken)) (s .ensures))
 
--- src/lib.rt:394:12
 sub-unpack : tie.Need-sub-unpack
 sub-unpack c = search needs
 
--- src/lib.rt:394:12
 part-unpack-start : tie.Need-part-unpack-start
 part-unpack-start c = search needs
 
--- src/lib.rt:394:12
 part-unpack-end : tie.Need-part-unpack-end
 part-unpack-end c = search needs
 
--- src/lib.rt:394:5
 unpack-requires : tie.Need-unpack-requires
 unpack-requires c κs = let f = c .before .before .before .before .before .before .before .before .before .before .before .head-of in (area-few (c .before .before .before .before .before .before .before .before .before .before .before .before .before .before .args .bs .now) (f .result) (f .ensures), c .before .before .before .before .before .before .before .before .before .before .before .before .before .before .pre .4)
 
--- src/lib.rt:395:27
 sub-board-code : tie.Need-sub-board-code
 sub-board-code c = search needs
 
--- src/lib.rt:395:27
 part-board-code-start : tie.Need-part-board-code-start
 part-board-code-start c = search needs
 
--- src/lib.rt:395:27
 part-board-code-end : tie.Need-part-board-code-end
 part-board-code-end c = let f = c .before .before .before .before .before .before .before .before .before .before .before .before .before .before .before .head-of in omega (arith, area-few (c .before .before .before .before .before .before .before .before .before .before .before .before .before .before .before .before .before .before .args .bs .now) (f .result) (f .ensures), c .before .before .before .unpack .kept .1 .1 .0, c .before .before .before .before .before .before .before .before .before .before .before .before .before .before .before .before .before .before .pre .4)
 
--- src/lib.rt:395:9
 board-code-requires : tie.Need-board-code-requires
 board-code-requires c κs =
     let f = c .before .before .before .before .before .before .before .before .before .before .before .before .before .before .before .before .head-of in
     omega (arith, area-few (c .before .before .before .before .before .before .before .before .before .before .before .before .before .before .before .before .before .before .before .args .bs .now) (f .result) (f .ensures), length-take (f .result .width * f .result .height - 0) (c .before .before .before .before .unpack .last .1 .1 .0))
 
--- src/lib.rt:397:9
 refused-requires-5 : tie.Need-refused-requires-5
 refused-requires-5 c κs = search needs
 
--- src/lib.rt:397:9
 same-length : tie.Need-same-length
 same-length c = search needs
 
--- src/lib.rt:397:9
 returns-5 : tie.Need-returns-5
 returns-5 c =
     let a = c .before .before .before .before .before .before .before .before .before .before .before .before .before .before .before .before .before .before .before .before .before .before .args in
@@ -132,11 +103,9 @@ returns-5 c =
     (said (Shaped (a .lanes) (a .bs .now)) (s .result) (not-false (s .result) (c .before .before .before .before .before .before .before .before .before .before .if4 .left)) (s .ensures))
     (boarded (a .bs .now) (f .result) (f .ensures) (u .last .1 .1 .0) (b .result) r (u .ensures) (b .ensures))
 
--- src/lib.rt:376:1
 same-length-2 : tie.Need-same-length-2
 same-length-2 c = search needs
 
--- src/lib.rt:376:1
 returns-6 : tie.Need-returns-6
 returns-6 c =
     let a = c .before .before .before .before .before .before .before .before .before .before .before .before .before .before .before .before .before .before .before .before .before .args in

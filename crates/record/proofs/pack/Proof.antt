@@ -3,31 +3,22 @@ use native.Mathlib.Omega.{arith}
 use borrow.Author.Needs.{needs}
 use Rattle.record.proofs.pack.Statement.{statement}
 use Rattle.record.proofs.pack.Tie as tie
-use Rattle.record.proofs.pack.Reads as reads
-use Rattle.record.proofs.pack.Lts as lts
-use Rattle.record.proofs.adds_of.Reads as adds-of-reads
 
--- src/lib.rt:77:9
 adds-of-requires : tie.Need-adds-of-requires
 adds-of-requires c κs = search needs
 
--- src/lib.rt:78:16
 mul-result : tie.Need-mul-result
 mul-result c = omega (arith, adds-small (c .before .before .args .t), c .before .adds-of .ensures)
 
--- src/lib.rt:78:5
 add-result : tie.Need-add-result
 add-result c = omega (arith, adds-small (c .before .before .before .args .t), c .before .before .adds-of .ensures)
 
--- src/lib.rt:78:35
 mul-result-2 : tie.Need-mul-result-2
 mul-result-2 c = omega (arith, adds-small (c .before .before .before .before .args .t), c .before .before .before .adds-of .ensures)
 
--- src/lib.rt:78:5
 add-result-2 : tie.Need-add-result-2
 add-result-2 c = omega (arith, adds-small (c .before .before .before .before .args .t), c .before .before .before .adds-of .ensures)
 
--- src/lib.rt:73:1
 returns : tie.Need-returns
 returns c = omega (arith, c .before .before .before .adds-of .ensures)
 

@@ -1,95 +1,71 @@
 use Prim.Native.Nat.{_+_, _*_, _/_, _%_}
 use Rattle.record.proofs.Reading.{stored}
-use lib.Seq.{length-sets}
 use lib.ListN.{length-set}
 use native.Mathlib.Omega.{arith}
 use borrow.Author.Needs.{needs}
 use Rattle.record.proofs.put_eight.Statement.{statement}
 use Rattle.record.proofs.put_eight.Tie as tie
-use Rattle.record.proofs.put_eight.Reads as reads
-use Rattle.record.proofs.put_eight.Lts as lts
 
--- src/lib.rt:293:5
 slice-write-board : tie.Need-slice-write-board
 slice-write-board c = search needs
 
--- src/lib.rt:294:11
 add-board : tie.Need-add-board
 add-board c = search needs
 
--- src/lib.rt:294:5
 slice-write-board-2 : tie.Need-slice-write-board-2
 slice-write-board-2 c = simp length-set (omega arith)
 
--- src/lib.rt:295:20
 mul-board : tie.Need-mul-board
 mul-board c = search needs
 
--- src/lib.rt:295:20
 add-board-2 : tie.Need-add-board-2
 add-board-2 c = search needs
 
--- src/lib.rt:295:11
 add-board-3 : tie.Need-add-board-3
 add-board-3 c = search needs
 
--- src/lib.rt:295:5
 slice-write-board-3 : tie.Need-slice-write-board-3
 slice-write-board-3 c = simp length-set (omega arith)
 
--- src/lib.rt:296:11
 add-board-4 : tie.Need-add-board-4
 add-board-4 c = search needs
 
--- src/lib.rt:296:5
 slice-write-board-4 : tie.Need-slice-write-board-4
 slice-write-board-4 c = simp length-set (omega arith)
 
--- src/lib.rt:297:11
 add-board-5 : tie.Need-add-board-5
 add-board-5 c = search needs
 
--- src/lib.rt:297:5
 slice-write-board-5 : tie.Need-slice-write-board-5
 slice-write-board-5 c = simp length-set (omega arith)
 
--- src/lib.rt:298:20
 mul-board-2 : tie.Need-mul-board-2
 mul-board-2 c = search needs
 
--- src/lib.rt:298:20
 add-board-6 : tie.Need-add-board-6
 add-board-6 c = search needs
 
--- src/lib.rt:298:11
 add-board-7 : tie.Need-add-board-7
 add-board-7 c = search needs
 
--- src/lib.rt:298:5
 slice-write-board-6 : tie.Need-slice-write-board-6
 slice-write-board-6 c = simp length-set (omega arith)
 
--- src/lib.rt:299:11
 add-board-8 : tie.Need-add-board-8
 add-board-8 c = search needs
 
--- src/lib.rt:299:5
 slice-write-board-7 : tie.Need-slice-write-board-7
 slice-write-board-7 c = simp length-set (omega arith)
 
--- src/lib.rt:300:11
 add-board-9 : tie.Need-add-board-9
 add-board-9 c = search needs
 
--- src/lib.rt:300:5
 slice-write-board-8 : tie.Need-slice-write-board-8
 slice-write-board-8 c = simp length-set (omega arith)
 
--- src/lib.rt:289:1
 same-length : tie.Need-same-length
 same-length c = simp length-set
 
--- src/lib.rt:289:1
 returns : tie.Need-returns
 returns c = let a = c .args in stored (a .board .now) (a .k) (a .x / 32) (a .x / 4 % 8) (a .x % 4 * 2 + a .y / 128) (a .y / 16 % 8) (a .y / 2 % 8) (a .y % 2 * 4 + a .z / 64) (a .z / 8 % 8) (a .z % 8)
 

@@ -3,58 +3,43 @@ use native.Mathlib.Omega.{arith}
 use borrow.Author.Needs.{needs}
 use Rattle.record.proofs.put_head.Statement.{statement}
 use Rattle.record.proofs.put_head.Tie as tie
-use Rattle.record.proofs.put_head.Reads as reads
-use Rattle.record.proofs.put_head.Lts as lts
 
--- src/lib.rt:191:15
 add-out : tie.Need-add-out
 add-out c = search needs
 
--- src/lib.rt:191:14
 cast-out : tie.Need-cast-out
 cast-out c = search needs
 
--- src/lib.rt:191:5
 slice-write-out : tie.Need-slice-write-out
 slice-write-out c = search needs
 
--- src/lib.rt:192:15
 mul-out : tie.Need-mul-out
 mul-out c = search needs
 
--- src/lib.rt:192:29
 mul-out-2 : tie.Need-mul-out-2
 mul-out-2 c = search needs
 
--- src/lib.rt:192:15
 add-out-2 : tie.Need-add-out-2
 add-out-2 c = search needs
 
--- src/lib.rt:192:15
 add-out-3 : tie.Need-add-out-3
 add-out-3 c = search needs
 
--- src/lib.rt:192:14
 cast-out-2 : tie.Need-cast-out-2
 cast-out-2 c = search needs
 
--- src/lib.rt:192:5
 slice-write-out-2 : tie.Need-slice-write-out-2
 slice-write-out-2 c = simp length-set (omega arith)
 
--- src/lib.rt:193:14
 cast-out-3 : tie.Need-cast-out-3
 cast-out-3 c = search needs
 
--- src/lib.rt:193:5
 slice-write-out-3 : tie.Need-slice-write-out-3
 slice-write-out-3 c = search needs
 
--- src/lib.rt:187:1
 same-length : tie.Need-same-length
 same-length c = search needs
 
--- src/lib.rt:187:1
 returns : tie.Need-returns
 returns c = search needs
 

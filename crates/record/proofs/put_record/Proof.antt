@@ -1,21 +1,15 @@
 use Rattle.record.proofs.Writing.{head-start, head-past, long, next}
 use Rattle.record.specs.Writing.{lent}
 use Rattle.level.specs.Written.{recordByte, recordOf}
-use Rattle.level.specs.Record.{recordLength}
 use Rattle.account.specs.Lists.{listOf}
 use borrow.Author.Needs.{needs}
-use lib.ListN.{length, drop}
+use lib.ListN.{drop}
 use native.Mathlib.Omega.{arith}
 use Prim.Native.Nat.{ℕ, _+_, _-_, _≤_}
 use mathlib.Core.List.{List, _++_}
 use mathlib.Core.Path.{_≡_, refl, ap, ap₂, _∙_}
 use Rattle.record.proofs.put_record.Statement.{statement}
 use Rattle.record.proofs.put_record.Tie as tie
-use Rattle.record.proofs.put_record.Reads as reads
-use Rattle.record.proofs.put_record.Lts as lts
-use Rattle.record.proofs.put_head.Reads as put-head-reads
-use Rattle.record.proofs.record_length.Reads as record-length-reads
-use Rattle.record.proofs.tile_byte.Reads as tile-byte-reads
 
 abbrev Inv-loop : tie.InvT-loop
 Inv-loop w h par tiles out₀ n q₀ out q = (3 ≤ q) × (q ≤ n) × (out ≡ listOf q (recordByte (lent w h par tiles)) ++ drop q out₀)
@@ -23,30 +17,24 @@ Inv-loop w h par tiles out₀ n q₀ out q = (3 ≤ q) × (q ≤ n) × (out ≡ 
 abbrev μ-loop : tie.MeasureT-loop
 μ-loop w h par tiles out₀ n q₀ out q = n - q
 
--- src/lib.rt:216:9
 record-length-requires : tie.Need-record-length-requires Inv-loop μ-loop
 record-length-requires c κs = c .before .before .pre .0 .sized
 
--- src/lib.rt:217:5
 put-head-requires : tie.Need-put-head-requires Inv-loop μ-loop
 put-head-requires c κs = let s = c .before .before .before .before .pre .0 in (s .sized .not-wider, s .sized .not-higher, s .par-small, omega (arith, c .before .before .before .before .pre .1))
 
--- src/lib.rt:219:5
 loop-holds : tie.Need-loop-holds Inv-loop μ-loop
 loop-holds c =
     let a = c .before .before .before .before .before .before .before .args in
     let s = c .before .before .before .before .before .before .before .pre .0 in
     (omega arith, omega (arith, c .before .before .before .before .record-length .ensures .0), head-start (lent (a .w) (a .h) (a .par) (a .tiles .now)) (s .sized .not-wider) (s .sized .not-higher) (s .par-small) (a .out .now) (c .before .before .put-head .last .1 .1 .1 .0) (omega (arith, c .before .before .before .before .before .before .before .pre .1)) (c .before .before .put-head .ensures))
 
--- src/lib.rt:220:35
 sub-tile-byte : tie.Need-sub-tile-byte Inv-loop μ-loop
 sub-tile-byte c = search needs
 
--- src/lib.rt:220:18
 tile-byte-requires : tie.Need-tile-byte-requires Inv-loop μ-loop
 tile-byte-requires c κs = (c .before .before .before .before .before .before .before .before .before .pre .0 .codes, omega (arith, c .before .before .before .before .before .before .record-length .ensures .1))
 
--- src/lib.rt:220:9
 slice-write-out : tie.Need-slice-write-out Inv-loop μ-loop
 slice-write-out c =
     let a = c .before .before .before .before .before .before .before .before .before .before .args in
@@ -55,15 +43,12 @@ slice-write-out c =
     let m = c .before .before .before .before .before .put-head in
     omega (arith, long (recordByte l) (m .last .1 .1 .1 .0) (o .out) (o .q) (omega (arith, m .kept .1 .1 .1 .0, c .before .before .before .before .before .before .before .record-length .ensures .0, c .before .before .before .before .before .before .before .before .before .before .pre .1)) (o .inv .2), m .kept .1 .1 .1 .0, c .before .before .before .before .before .before .before .record-length .ensures .0, c .before .before .before .before .before .before .before .before .before .before .pre .1)
 
--- src/lib.rt:221:9
 add-q : tie.Need-add-q Inv-loop μ-loop
 add-q c = search needs
 
--- src/lib.rt:219:5
 loop-less : tie.Need-loop-less Inv-loop μ-loop
 loop-less c = search needs
 
--- src/lib.rt:219:5
 loop-again : tie.Need-loop-again Inv-loop μ-loop
 loop-again c =
     let a = c .before .before .before .before .before .before .before .before .before .before .args in
@@ -73,7 +58,6 @@ loop-again c =
     let z : 3 + (o .q - 3) ≡ o .q = omega arith in
     (omega arith, omega arith, next (recordByte l) (m .last .1 .1 .1 .0) (o .out) (o .q) (c .tile-byte .result) (omega (arith, m .kept .1 .1 .1 .0, c .before .before .before .before .before .before .before .record-length .ensures .0, c .before .before .before .before .before .before .before .before .before .before .pre .1)) (o .inv .2) (c .tile-byte .ensures l refl ∙ ap (recordByte l) z))
 
--- src/lib.rt:212:1
 same-length : tie.Need-same-length Inv-loop μ-loop
 same-length c =
     let a = c .before .before .before .before .before .before .before .before .before .args in
@@ -82,7 +66,6 @@ same-length c =
     let m = c .before .before .before .before .put-head in
     omega (arith, long (recordByte l) (m .last .1 .1 .1 .0) (o .out) (o .q) (omega (arith, m .kept .1 .1 .1 .0, c .before .before .before .before .before .before .record-length .ensures .0, c .before .before .before .before .before .before .before .before .before .pre .1)) (o .inv .2), m .kept .1 .1 .1 .0)
 
--- src/lib.rt:212:1
 returns : tie.Need-returns Inv-loop μ-loop
 unfolding recordOf
 returns c =

@@ -3,48 +3,37 @@ use Rattle.record.proofs.Reader.{not-read-1, not-read-4, not-read-later
 use borrow.Author.Needs.{needs}
 use Rattle.record.proofs.read.Statement.{statement}
 use Rattle.record.proofs.read.Tie as tie
-use Rattle.record.proofs.read.Reads as reads
-use Rattle.record.proofs.read.Lts as lts
-use Rattle.record.proofs.accept.Reads as accept-reads
 
--- src/lib.rt:440:9
 returns : tie.Need-returns
 returns c =
     let a = c .before .before .before .args in
     not-read-1 (a .bytes .now) (a .tiles .now) (λ w. omega (arith, w .from, c .if1 .taken))
 
--- src/lib.rt:443:9
 returns-2 : tie.Need-returns-2
 returns-2 c =
     let a = c .before .before .before .before .args in
     not-read-1 (a .bytes .now) (a .tiles .now) (λ w. omega (arith, w .to, c .if2 .taken))
 
--- src/lib.rt:446:9
 returns-3 : tie.Need-returns-3
 returns-3 c =
     let a = c .before .before .before .before .before .args in
     not-read-4 (a .bytes .now) (a .tiles .now) (record { from = omega (arith, c .before .before .if1 .left); to = omega (arith, c .before .if2 .left) }) (λ w. omega (arith, w, c .if3 .taken))
 
--- src/lib.rt:448:9
 accept-requires : tie.Need-accept-requires
 accept-requires c κs = search needs
 
--- src/lib.rt:451:9
 same-length : tie.Need-same-length
 same-length c = search needs
 
--- src/lib.rt:451:9
 returns-4 : tie.Need-returns-4
 returns-4 c =
     let a = c .before .before .before .before .before .before .before .before .before .before .args in
     let j = c .before .before .before .accept in
     not-read-later (a .bytes .now) (a .tiles .now) (j .result) _ (c .if4 .taken) (j .ensures) (record { from = omega (arith, c .before .before .before .before .before .before .before .if1 .left); to = omega (arith, c .before .before .before .before .before .before .if2 .left) }) (omega (arith, c .before .before .before .before .before .if3 .left))
 
--- src/lib.rt:436:1
 same-length-2 : tie.Need-same-length-2
 same-length-2 c = search needs
 
--- src/lib.rt:436:1
 returns-5 : tie.Need-returns-5
 returns-5 c =
     let a = c .before .before .before .before .before .before .before .before .before .before .args in

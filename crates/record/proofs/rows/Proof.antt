@@ -1,41 +1,29 @@
 use Rattle.record.proofs.Tiles.{packs}
-use mathlib.Core.Path.{refl}
 use borrow.Author.Needs.{needs}
 use Rattle.record.proofs.rows.Statement.{statement}
 use Rattle.record.proofs.rows.Tie as tie
-use Rattle.record.proofs.rows.Reads as reads
-use Rattle.record.proofs.rows.Lts as lts
-use Rattle.record.proofs.pack.Reads as pack-reads
 
--- src/lib.rt:85:6
 pack-requires : tie.Need-pack-requires
 pack-requires c κs = search needs
 
--- src/lib.rt:85:15
 pack-requires-2 : tie.Need-pack-requires-2
 pack-requires-2 c κs = search needs
 
--- src/lib.rt:85:24
 pack-requires-3 : tie.Need-pack-requires-3
 pack-requires-3 c κs = search needs
 
--- src/lib.rt:85:33
 pack-requires-4 : tie.Need-pack-requires-4
 pack-requires-4 c κs = search needs
 
--- src/lib.rt:85:42
 pack-requires-5 : tie.Need-pack-requires-5
 pack-requires-5 c κs = search needs
 
--- src/lib.rt:85:51
 pack-requires-6 : tie.Need-pack-requires-6
 pack-requires-6 c κs = search needs
 
--- src/lib.rt:85:60
 pack-requires-7 : tie.Need-pack-requires-7
 pack-requires-7 c κs = search needs
 
--- src/lib.rt:82:1
 returns : tie.Need-returns
 returns c = packs _ _ _ _ _ _ _ (c .before .before .before .before .before .before .pack .ensures) (c .before .before .before .before .before .pack2 .ensures) (c .before .before .before .before .pack3 .ensures) (c .before .before .before .pack4 .ensures) (c .before .before .pack5 .ensures) (c .before .pack6 .ensures) (c .pack7 .ensures)
 

@@ -3,55 +3,40 @@ use native.Mathlib.Omega.{arith}
 use borrow.Author.Needs.{needs}
 use Rattle.record.proofs.shaped.Statement.{statement}
 use Rattle.record.proofs.shaped.Tie as tie
-use Rattle.record.proofs.shaped.Reads as reads
-use Rattle.record.proofs.shaped.Lts as lts
-use Rattle.record.proofs.blank.Reads as blank-reads
 
--- src/lib.rt:349:18
 mul-n : tie.Need-mul-n
 mul-n c = search needs
 
--- src/lib.rt:349:18
 add-n : tie.Need-add-n
 add-n c = search needs
 
--- src/lib.rt:349:13
 add-n-2 : tie.Need-add-n-2
 add-n-2 c = search needs
 
--- src/lib.rt:350:35
 sub-if1 : tie.Need-sub-if1
 sub-if1 c = search needs
 
--- src/lib.rt:350:30
 add-if1 : tie.Need-add-if1
 add-if1 c = search needs
 
--- src/lib.rt:350:29
 div-if1 : tie.Need-div-if1
 div-if1 c = search needs
 
--- src/lib.rt:350:20
 mul-if1 : tie.Need-mul-if1
 mul-if1 c = let a = c .before .args in omega (arith, few (a .lanes) (a .m) (omega arith) (omega arith))
 
--- src/lib.rt:351:9
 returns : tie.Need-returns
 returns c = let a = c .before .before .args in misfits (a .lanes) (a .m) (a .bs .now) (c .before .before .pre .3) (λ z. omega (arith, z, c .if1 .taken))
 
--- src/lib.rt:353:20
 mul-blank : tie.Need-mul-blank
 mul-blank c = search needs
 
--- src/lib.rt:353:15
 add-blank : tie.Need-add-blank
 add-blank c = search needs
 
--- src/lib.rt:353:5
 blank-requires : tie.Need-blank-requires
 blank-requires c κs = search needs
 
--- src/lib.rt:345:1
 returns-2 : tie.Need-returns-2
 returns-2 c = let a = c .before .before .before .args in blank-is (c .blank .result) (a .lanes) (a .m) (a .bs .now) (c .before .before .before .pre .3) (c .before .if1 .left) (c .blank .ensures)
 

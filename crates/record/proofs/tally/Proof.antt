@@ -3,13 +3,10 @@ use Rattle.record.specs.Sum.{weight}
 use borrow.Author.Needs.{needs}
 use lib.ListN.{length, getD, drop}
 use native.Mathlib.Omega.{arith}
-use Prim.Native.Nat.{ℕ, _+_, _*_, _-_, _≤_}
+use Prim.Native.Nat.{_+_, _*_, _-_, _≤_}
 use mathlib.Core.Path.{_≡_}
 use Rattle.record.proofs.tally.Statement.{statement}
 use Rattle.record.proofs.tally.Tie as tie
-use Rattle.record.proofs.tally.Reads as reads
-use Rattle.record.proofs.tally.Lts as lts
-use Rattle.record.proofs.weigh.Reads as weigh-reads
 
 abbrev Inv-loop : tie.InvT-loop
 Inv-loop rows tiles x₀ i₀ x i = (i ≤ length tiles) × (x ≤ 281474976710656 * i) × (x + weight (drop i tiles) ≡ weight tiles)
@@ -17,31 +14,24 @@ Inv-loop rows tiles x₀ i₀ x i = (i ≤ length tiles) × (x ≤ 2814749767106
 abbrev μ-loop : tie.MeasureT-loop
 μ-loop rows tiles x₀ i₀ x i = length tiles - i
 
--- src/lib.rt:106:5
 loop-holds : tie.Need-loop-holds Inv-loop μ-loop
 loop-holds c = search needs
 
--- src/lib.rt:107:26
 shared-slice-read-weigh : tie.Need-shared-slice-read-weigh Inv-loop μ-loop
 shared-slice-read-weigh c = search needs
 
--- src/lib.rt:107:14
 weigh-requires : tie.Need-weigh-requires Inv-loop μ-loop
 weigh-requires c κs = c .before .before .before .before .pre .0
 
--- src/lib.rt:107:9
 add-x : tie.Need-add-x Inv-loop μ-loop
 add-x c = let l = c .before .before .before .loop in omega (arith, weighed-small (getD (c .before .before .before .before .before .args .tiles .now) (l .i) 0), c .weigh .ensures)
 
--- src/lib.rt:108:9
 add-i : tie.Need-add-i Inv-loop μ-loop
 add-i c = search needs
 
--- src/lib.rt:106:5
 loop-less : tie.Need-loop-less Inv-loop μ-loop
 loop-less c = search needs
 
--- src/lib.rt:106:5
 loop-again : tie.Need-loop-again Inv-loop μ-loop
 loop-again c =
     let l = c .before .before .before .loop in
@@ -49,7 +39,6 @@ loop-again c =
     let w = weighed-small (getD ts (l .i) 0) in
     (omega arith, omega (arith, w, c .weigh .ensures), omega (arith, weight-next ts (l .i) (omega arith), c .weigh .ensures, l .inv .2))
 
--- src/lib.rt:100:1
 returns : tie.Need-returns Inv-loop μ-loop
 returns c = let l = c .before .loop in omega (arith, weight-end (c .before .before .before .args .tiles .now) (l .i) (omega arith), l .inv .2)
 

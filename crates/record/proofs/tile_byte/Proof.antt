@@ -3,161 +3,121 @@ use native.Mathlib.Omega.{arith}
 use borrow.Author.Needs.{needs}
 use Rattle.record.proofs.tile_byte.Statement.{statement}
 use Rattle.record.proofs.tile_byte.Tie as tie
-use Rattle.record.proofs.tile_byte.Reads as reads
-use Rattle.record.proofs.tile_byte.Lts as lts
-use Rattle.record.proofs.tile_at.Reads as tile-at-reads
 
--- src/lib.rt:209:13
 mul-k : tie.Need-mul-k
 mul-k c = search needs
 
--- src/lib.rt:211:16
 tile-at-requires : tie.Need-tile-at-requires
 tile-at-requires c κs = search needs
 
--- src/lib.rt:211:16
 mul-result : tie.Need-mul-result
 mul-result c = search needs
 
--- src/lib.rt:211:56
 add-tile-at : tie.Need-add-tile-at
 add-tile-at c = search needs
 
--- src/lib.rt:211:41
 tile-at-requires-2 : tie.Need-tile-at-requires-2
 tile-at-requires-2 c κs = search needs
 
--- src/lib.rt:211:41
 mul-result-2 : tie.Need-mul-result-2
 mul-result-2 c = search needs
 
--- src/lib.rt:211:16
 add-result : tie.Need-add-result
 add-result c = search needs
 
--- src/lib.rt:211:84
 add-tile-at-2 : tie.Need-add-tile-at-2
 add-tile-at-2 c = search needs
 
--- src/lib.rt:211:69
 tile-at-requires-3 : tie.Need-tile-at-requires-3
 tile-at-requires-3 c κs = search needs
 
--- src/lib.rt:211:16
 add-result-2 : tie.Need-add-result-2
 add-result-2 c = search needs
 
--- src/lib.rt:211:9
 returns : tie.Need-returns
 returns c =
     let a = c .before .before .before .before .before .args in
     tile-byte-0 (a .tiles .now) (a .b) (c .before .before .before .before .before .pre .0) (c .before .before .tile-at .result) (c .before .tile-at2 .result) (c .tile-at3 .result) (omega (arith, c .before .before .before .if1 .taken))
     (c .before .before .tile-at .ensures .0) (c .before .tile-at2 .ensures .0) (c .tile-at3 .ensures .0)
 
--- src/lib.rt:214:31
 add-tile-at-3 : tie.Need-add-tile-at-3
 add-tile-at-3 c = search needs
 
--- src/lib.rt:214:16
 tile-at-requires-4 : tie.Need-tile-at-requires-4
 tile-at-requires-4 c κs = search needs
 
--- src/lib.rt:214:16
 mul-result-3 : tie.Need-mul-result-3
 mul-result-3 c = search needs
 
--- src/lib.rt:214:65
 add-tile-at-4 : tie.Need-add-tile-at-4
 add-tile-at-4 c = search needs
 
--- src/lib.rt:214:50
 tile-at-requires-5 : tie.Need-tile-at-requires-5
 tile-at-requires-5 c κs = search needs
 
--- src/lib.rt:214:50
 mul-result-4 : tie.Need-mul-result-4
 mul-result-4 c = search needs
 
--- src/lib.rt:214:16
 add-result-3 : tie.Need-add-result-3
 add-result-3 c = search needs
 
--- src/lib.rt:214:94
 add-tile-at-5 : tie.Need-add-tile-at-5
 add-tile-at-5 c = search needs
 
--- src/lib.rt:214:79
 tile-at-requires-6 : tie.Need-tile-at-requires-6
 tile-at-requires-6 c κs = search needs
 
--- src/lib.rt:214:79
 mul-result-5 : tie.Need-mul-result-5
 mul-result-5 c = search needs
 
--- src/lib.rt:214:16
 add-result-4 : tie.Need-add-result-4
 add-result-4 c = search needs
 
--- src/lib.rt:214:122
 add-tile-at-6 : tie.Need-add-tile-at-6
 add-tile-at-6 c = search needs
 
--- src/lib.rt:214:107
 tile-at-requires-7 : tie.Need-tile-at-requires-7
 tile-at-requires-7 c κs = search needs
 
--- src/lib.rt:214:16
 add-result-5 : tie.Need-add-result-5
 add-result-5 c = search needs
 
--- src/lib.rt:214:9
 returns-2 : tie.Need-returns-2
 returns-2 c =
     let a = c .before .before .before .before .before .before .before .args in
     tile-byte-1 (a .tiles .now) (a .b) (c .before .before .before .before .before .before .before .pre .0) (c .before .before .before .tile-at4 .result) (c .before .before .tile-at5 .result) (c .before .tile-at6 .result) (c .tile-at7 .result) (omega (arith, c .before .before .before .before .if2 .taken))
     (c .before .before .before .tile-at4 .ensures .0) (c .before .before .tile-at5 .ensures .0) (c .before .tile-at6 .ensures .0) (c .tile-at7 .ensures .0)
 
--- src/lib.rt:216:20
 add-tile-at-7 : tie.Need-add-tile-at-7
 add-tile-at-7 c = search needs
 
--- src/lib.rt:216:5
 tile-at-requires-8 : tie.Need-tile-at-requires-8
 tile-at-requires-8 c κs = search needs
 
--- src/lib.rt:216:5
 mul-result-6 : tie.Need-mul-result-6
 mul-result-6 c = search needs
 
--- src/lib.rt:216:53
 add-tile-at-8 : tie.Need-add-tile-at-8
 add-tile-at-8 c = search needs
 
--- src/lib.rt:216:38
 tile-at-requires-9 : tie.Need-tile-at-requires-9
 tile-at-requires-9 c κs = search needs
 
--- src/lib.rt:216:38
 mul-result-7 : tie.Need-mul-result-7
 mul-result-7 c = search needs
 
--- src/lib.rt:216:5
 add-result-6 : tie.Need-add-result-6
 add-result-6 c = search needs
 
--- src/lib.rt:216:81
 add-tile-at-9 : tie.Need-add-tile-at-9
 add-tile-at-9 c = search needs
 
--- src/lib.rt:216:66
 tile-at-requires-10 : tie.Need-tile-at-requires-10
 tile-at-requires-10 c κs = search needs
 
--- src/lib.rt:216:5
 add-result-7 : tie.Need-add-result-7
 add-result-7 c = search needs
 
--- src/lib.rt:205:1
 returns-3 : tie.Need-returns-3
 returns-3 c =
     let a = c .before .before .before .before .before .before .args in

@@ -1,4 +1,4 @@
-use mathlib.Core.Path.{ap, subst, sym}
+use mathlib.Core.Path.{ap, _≡_, _∙_}
 use mathlib.Core.List.{List}
 use Rattle.record.proofs.Reading.{unpack-goes}
 use Rattle.record.specs.Reading.{eight}
@@ -8,13 +8,8 @@ use lib.Seq.{length-sets}
 use lib.ListN.{length, getD}
 use native.Mathlib.Omega.{arith}
 use Prim.Native.Nat.{ℕ, _+_, _*_, _-_, _≤_, _<_}
-use mathlib.Core.Path.{_≡_, _∙_}
 use Rattle.record.proofs.unpack.Statement.{statement}
 use Rattle.record.proofs.unpack.Tie as tie
-use Rattle.record.proofs.unpack.Reads as reads
-use Rattle.record.proofs.unpack.Lts as lts
-use Rattle.record.proofs.cell.Reads as cell-reads
-use Rattle.record.proofs.put_eight.Reads as put-eight-reads
 
 abbrev Inv-loop : tie.InvT-loop
 Inv-loop part m board₀ g₀ board g = (8 * g ≤ m + 7) × (length board ≡ length board₀) × ((i : ℕ) → i < 8 * g → getD board i 0 ≡ fieldAt part (3 * i) 3)
@@ -22,63 +17,48 @@ Inv-loop part m board₀ g₀ board g = (8 * g ≤ m + 7) × (length board ≡ l
 abbrev μ-loop : tie.MeasureT-loop
 μ-loop part m board₀ g₀ board g = m - 8 * g
 
--- src/lib.rt:309:5
 loop-holds : tie.Need-loop-holds Inv-loop μ-loop
 loop-holds c = (omega arith, omega arith, λ i h. absurd (omega arith))
 
--- src/lib.rt:309:11
 mul-loop : tie.Need-mul-loop Inv-loop μ-loop
 mul-loop c = search needs
 
--- src/lib.rt:310:28
 mul-cell : tie.Need-mul-cell Inv-loop μ-loop
 mul-cell c = search needs
 
--- src/lib.rt:310:13
 cell-requires : tie.Need-cell-requires Inv-loop μ-loop
 cell-requires c κs = search needs
 
--- src/lib.rt:311:28
 mul-cell-2 : tie.Need-mul-cell-2 Inv-loop μ-loop
 mul-cell-2 c = search needs
 
--- src/lib.rt:311:28
 add-cell : tie.Need-add-cell Inv-loop μ-loop
 add-cell c = search needs
 
--- src/lib.rt:311:13
 cell-requires-2 : tie.Need-cell-requires-2 Inv-loop μ-loop
 cell-requires-2 c κs = search needs
 
--- src/lib.rt:312:28
 mul-cell-3 : tie.Need-mul-cell-3 Inv-loop μ-loop
 mul-cell-3 c = search needs
 
--- src/lib.rt:312:28
 add-cell-2 : tie.Need-add-cell-2 Inv-loop μ-loop
 add-cell-2 c = search needs
 
--- src/lib.rt:312:13
 cell-requires-3 : tie.Need-cell-requires-3 Inv-loop μ-loop
 cell-requires-3 c κs = search needs
 
--- src/lib.rt:313:26
 mul-put-eight : tie.Need-mul-put-eight Inv-loop μ-loop
 mul-put-eight c = search needs
 
--- src/lib.rt:313:9
 put-eight-requires : tie.Need-put-eight-requires Inv-loop μ-loop
 put-eight-requires c κs = search needs
 
--- src/lib.rt:314:9
 add-g : tie.Need-add-g Inv-loop μ-loop
 add-g c = search needs
 
--- src/lib.rt:309:5
 loop-less : tie.Need-loop-less Inv-loop μ-loop
 loop-less c = search needs
 
--- src/lib.rt:309:5
 loop-again : tie.Need-loop-again Inv-loop μ-loop
 loop-again c =
     let a = c .before .before .before .before .before .before .before .before .before .before .before .args in
@@ -94,11 +74,9 @@ loop-again c =
           (x .ensures) (y .ensures) (z .ensures) (omega (arith, k (3 * l .g), x .ensures)) (omega (arith, k (3 * l .g + 1), y .ensures)) (omega (arith, k (3 * l .g + 2), z .ensures)) i h,
     )
 
--- src/lib.rt:304:1
 same-length : tie.Need-same-length Inv-loop μ-loop
 same-length c = c .before .loop .inv .1
 
--- src/lib.rt:304:1
 returns : tie.Need-returns Inv-loop μ-loop
 returns c = record { tile = λ i h. c .before .loop .inv .2 i (omega arith) }
 

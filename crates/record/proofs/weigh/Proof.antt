@@ -4,26 +4,19 @@ use mathlib.Core.Path.{sym, _∙_}
 use borrow.Author.Needs.{needs}
 use Rattle.record.proofs.weigh.Statement.{statement}
 use Rattle.record.proofs.weigh.Tie as tie
-use Rattle.record.proofs.weigh.Reads as reads
-use Rattle.record.proofs.weigh.Lts as lts
 
--- src/lib.rt:94:16
 mul-result : tie.Need-mul-result
 mul-result c = search needs
 
--- src/lib.rt:94:16
 element-copy-out-result : tie.Need-element-copy-out-result
 element-copy-out-result c = search needs
 
--- src/lib.rt:94:9
 returns : tie.Need-returns
 returns c = let a = c .before .before .args in c .before .before .pre .row-at (a .t) (omega arith) ∙ sym (weighed-in (a .t) (omega arith))
 
--- src/lib.rt:96:5
 element-copy-out-result-2 : tie.Need-element-copy-out-result-2
 element-copy-out-result-2 c = search needs
 
--- src/lib.rt:89:1
 returns-2 : tie.Need-returns-2
 returns-2 c = let a = c .before .before .args in c .before .before .pre .other ∙ sym (weighed-out (a .t) (omega arith))
 

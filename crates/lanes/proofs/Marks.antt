@@ -9,13 +9,12 @@ use native.Mathlib.Omega.{arith}
 use native.Mathlib.Decide.{ℕ-discrete}
 use borrow.Author.Tests.{eq-eqb, ne-eqb}
 use lib.Dec.{eqb, T}
-use lib.ListN.{length, getD}
+use lib.ListN.{length}
 use Rattle.account.specs.Lanes.{lane}
 use Rattle.account.specs.Reach.{countTo, isMarked, oneIf}
 use Rattle.account.proofs.Cells.{count-none}
 use Rattle.account.proofs.Lanes.{getD-lane}
 use Rattle.errata.specs.Errata.{Says}
-use Rattle.code.specs.Repair.{repairedNumbers}
 use Rattle.code.specs.declared.repair.Repaired.{Repaired}
 use Rattle.code.specs.declared.repair.Repaired.the-variants as repaired
 use Rattle.level.specs.Strip.{markedIn}

@@ -1,11 +1,11 @@
 -- A lane of a strip mended, from what the lower library promises of its word.
-use mathlib.Core.Path.{_≡_, refl, sym, ap, ap₂, _∙_, subst}
+use mathlib.Core.Path.{_≡_, refl, sym, ap, _∙_, subst}
 use mathlib.Core.Bool.{Bool, true, false}
-use mathlib.Core.Logic.{_⊎_, inl, inr}
+use mathlib.Core.Logic.{inl, inr}
 use mathlib.Core.List.{List}
 use Prim.Native.Nat.{ℕ, _+_, _*_, _/_, _≤_, _<_}
 use native.Mathlib.Omega.{arith}
-use lib.ListN.{length, getD, take}
+use lib.ListN.{length, take}
 use Rattle.account.specs.Lanes.{lane}
 use Rattle.account.specs.Code.{Clean}
 use Rattle.account.specs.Reach.{Reach, countTo, isMarked, differing, differsAt, marked}
@@ -13,9 +13,7 @@ use Rattle.account.proofs.Cells.{count-none, not-differs}
 use Rattle.account.proofs.Lanes.{length-lane, getD-lane}
 use Rattle.gf256.specs.Gf256.{gf256}
 use Rattle.errata.specs.Errata.{Says}
-use Rattle.errata.proofs.Sums.{said, denied}
 use Rattle.code.specs.Refusal.{First}
-use Rattle.code.specs.Word.{Within}
 use Rattle.code.specs.Repair.{GoodMarks, Reachable, repairedNumbers, repairing}
 use Rattle.code.specs.Lane.{wordOf, LaneRepairsAs}
 use Rattle.code.specs.declared.lane.Lane.{Lane}
@@ -23,7 +21,7 @@ use Rattle.code.specs.declared.lane.LaneRepair.{LaneRepair}
 use Rattle.level.specs.Strip.{Legal, wrongIn, markedIn}
 use Rattle.level.specs.Reading.{Mendable}
 use Rattle.lanes.specs.declared.One.{One}
-use Rattle.lanes.specs.Lanes.{Ready, Scattered, ToldAs, LaneMended, OneGood, OneAs}
+use Rattle.lanes.specs.Lanes.{Ready, Scattered, OneGood, OneAs}
 
 pub columns-fit : (s : List ℕ) → Legal 4 (length s) → (6 ≤ length s / 4) × (length s / 4 ≤ 96) × (length s ≡ 4 * (length s / 4))
 columns-fit s l = (omega (arith, l .from, l .cells), omega (arith, l .to, l .cells), omega (arith, l .cells))

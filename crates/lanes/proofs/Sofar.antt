@@ -2,11 +2,11 @@
 use mathlib.Core.Path.{_≡_, refl, sym, ap, ap₂, _∙_, subst}
 use mathlib.Core.Bool.{Bool, true, false}
 use mathlib.Core.List.{List}
-use Prim.Native.Nat.{ℕ, zero, suc, _+_, _*_, _-_, _/_, _≤_, _<_}
+use Prim.Native.Nat.{ℕ, zero, suc, _+_, _*_, _/_, _≤_, _<_}
 use native.Mathlib.Numerals.{add-one}
 use native.Mathlib.Omega.{arith}
 use borrow.Author.Count.{below-more}
-use lib.ListN.{length, getD, take}
+use lib.ListN.{length, take}
 use lib.Seq.{getD-take, length-take-le}
 use Rattle.account.specs.Lists.{sumOf}
 use Rattle.account.specs.Lanes.{lane}
@@ -17,7 +17,6 @@ use Rattle.gf256.specs.Gf256.{gf256}
 use Rattle.level.specs.Strip.{wrongIn, mendedOf}
 use Rattle.level.specs.Reading.{Mendable}
 use Rattle.lanes.specs.declared.One.{One}
-use Rattle.lanes.specs.declared.Mending.{Mending}
 use Rattle.lanes.specs.Lanes.{Ready, LaneMended, OneGood, OneAs, MendedAs}
 
 sum-cong : (n : ℕ) (f g : ℕ → ℕ) → ((i : ℕ) → i < n → f i ≡ g i) → sumOf n f ≡ sumOf n g

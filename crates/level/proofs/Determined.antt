@@ -1,16 +1,16 @@
 -- A level has one record.
-use mathlib.Core.Path.{_≡_, refl, sym, ap, ap₂, _∙_, subst}
+use mathlib.Core.Path.{_≡_, refl, sym, ap, ap₂, _∙_}
 use Prim.Native.Nat.{ℕ, zero, suc, _+_, _*_, _-_, _/_, _%_, _^_, _≤_, _<_}
 use native.Mathlib.Nat.{div-div-eq-div-mul, pow-suc, div-eq-of-lt}
 use native.Mathlib.Omega.{arith}
 use mathlib.Core.List.{List}
-use mathlib.Core.Logic.{_⊎_, inl, inr, ⊎-elim}
+use mathlib.Core.Logic.{⊎-elim}
 use lib.ListN.{length, getD}
 use lib.Seq.{ext-getD}
 use Rattle.account.specs.Code.{Cells}
 use Rattle.gf256.specs.Gf256.{gf256}
 use Rattle.level.specs.Level.{Level, IsLevel}
-use Rattle.level.specs.Record.{bitAt, fieldAt, recordLength, IsRecord}
+use Rattle.level.specs.Record.{bitAt, fieldAt, IsRecord}
 use Rattle.level.proofs.Strips.{lt-or-ge}
 use Rattle.level.proofs.Bits.{bit-of}
 

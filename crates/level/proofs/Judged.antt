@@ -8,7 +8,6 @@ use mathlib.Core.Logic.{_⊎_, inl, inr}
 use lib.ListN.{length, getD, take}
 use lib.Seq.{getD-take, ext-getD, length-take-le}
 use Rattle.account.specs.Code.{Cells}
-use Rattle.account.specs.Lists.{listOf}
 use Rattle.gf256.specs.Gf256.{gf256}
 use Rattle.account.proofs.Lists.{length-listOf, getD-listOf}
 use Rattle.account.proofs.Lanes.{getD-past}

@@ -1,16 +1,16 @@
 -- A mended strip whose record passes is a level's strip; a level's strip within reach is the mended strip, and its record passes.
-use mathlib.Core.Path.{_≡_, refl, sym, ap, ap₂, _∙_, subst}
+use mathlib.Core.Path.{_≡_, sym, ap, _∙_, subst}
 use Prim.Native.Nat.{ℕ, _+_, _*_, _-_, _/_, _%_, _≤_, _<_}
 use native.Mathlib.Nat.{mul-add}
 use native.Mathlib.Omega.{arith}
 use mathlib.Core.List.{List}
-use mathlib.Core.Logic.{_⊎_, inl, inr}
+use mathlib.Core.Logic.{inl, inr}
 use lib.ListN.{length, getD, take}
 use lib.Seq.{getD-take, length-take-le}
 use Rattle.account.specs.Code.{Cells}
 use Rattle.account.specs.Lanes.{lane}
 use Rattle.gf256.specs.Gf256.{gf256}
-use Rattle.account.proofs.Lanes.{cell, bytes-lane, length-lane, columns-of, ext-lanes}
+use Rattle.account.proofs.Lanes.{cell, bytes-lane, length-lane, ext-lanes}
 use Rattle.code.specs.Refusal.{First}
 use Rattle.code.proofs.Theorems.{one-in-reach}
 use Rattle.level.specs.Tile.{totals}

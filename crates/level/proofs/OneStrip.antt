@@ -1,7 +1,7 @@
 -- A level has one strip: its data cells are the record's, and five check cells are determined by them.
-use mathlib.Core.Path.{_≡_, refl, sym, ap, ap₂, _∙_, subst}
-use Prim.Native.Nat.{ℕ, zero, suc, _+_, _*_, _-_, _/_, _%_, _≤_, _<_}
-use native.Mathlib.Nat.{zero-add, suc-add, mul-add-div, mul-add-mod-self-left, mod-eq-of-lt, div-eq-of-lt, mul-le-mul-left, mul-suc}
+use mathlib.Core.Path.{_≡_, sym, ap, ap₂, _∙_}
+use Prim.Native.Nat.{ℕ, _+_, _*_, _/_, _%_, _≤_, _<_}
+use native.Mathlib.Nat.{mul-add-div, mul-add-mod-self-left, mod-eq-of-lt, div-eq-of-lt, mul-le-mul-left, mul-suc}
 use native.Mathlib.Omega.{arith}
 use mathlib.Core.List.{List}
 use lib.ListN.{length, getD, take}
@@ -11,7 +11,7 @@ use Rattle.gf256.specs.Gf256.{gf256}
 use Rattle.account.specs.Lanes.{lane}
 use Rattle.code.proofs.Theorems.{one-word-with-data}
 use Rattle.level.specs.Level.{Level, IsLevel}
-use Rattle.level.specs.Record.{recordLength, IsRecord}
+use Rattle.level.specs.Record.{recordLength}
 use Rattle.level.specs.Strip.{columns, IsStrip}
 use Rattle.account.proofs.Lanes.{length-lane, bytes-lane, columns-of, ext-lanes}
 use Rattle.level.proofs.Determined.{one-record}

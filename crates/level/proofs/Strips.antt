@@ -1,20 +1,18 @@
 -- Demand 3, as far as it speaks of strips and levels alone.
-use mathlib.Core.Path.{_≡_, refl, sym, ap, ap₂, _∙_, subst}
-use Prim.Native.Nat.{ℕ, zero, suc, _+_, _*_, _-_, _/_, _%_, _≤_, _<_}
-use native.Mathlib.Nat.{mul-le-mul-left, mul-div-right, div-add-mod, mod-lt, eq-zero-or-pos}
+use mathlib.Core.Path.{_≡_, sym, ap, _∙_}
+use Prim.Native.Nat.{ℕ, _+_, _*_, _-_, _/_, _≤_, _<_}
+use native.Mathlib.Nat.{mul-le-mul-left, div-add-mod, mod-lt, eq-zero-or-pos}
 use native.Mathlib.Omega.{arith}
 use mathlib.Core.List.{List}
 use mathlib.Core.Logic.{_⊎_, inl, inr, ⊎-elim}
 use lib.ListN.{length, getD}
-use Rattle.account.specs.Code.{Cells, Clean}
-use Rattle.account.specs.Reach.{Reach, countTo, differsAt, isMarked}
 use Rattle.gf256.specs.Gf256.{gf256}
 use Rattle.account.specs.Lanes.{lane}
 use Rattle.code.proofs.Theorems.{one-in-reach, none-at-six}
-use Rattle.level.specs.Level.{Level, IsLevel}
-use Rattle.level.specs.Record.{recordLength, IsRecord}
-use Rattle.level.specs.Strip.{columns, IsStrip, StripReach, Reached, wrongIn, markedIn}
-use Rattle.account.proofs.Lanes.{length-lane, getD-lane, bytes-lane, cell, ext-lanes, getD-past, columns-of}
+use Rattle.level.specs.Level.{Level}
+use Rattle.level.specs.Record.{recordLength}
+use Rattle.level.specs.Strip.{columns, IsStrip, Reached, wrongIn, markedIn}
+use Rattle.account.proofs.Lanes.{length-lane, bytes-lane, cell, ext-lanes, getD-past, columns-of}
 use Rattle.level.proofs.Fields.{same-bytes}
 
 -- below, or not

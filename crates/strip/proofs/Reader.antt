@@ -1,10 +1,10 @@
 -- The strip reader's promise, from those of its parts.
-use mathlib.Core.Path.{_≡_, refl, sym, ap, ap₂, _∙_, subst}
-use mathlib.Core.Logic.{_⊎_, inl, inr}
-use mathlib.Core.List.{List, [], _∷_, _++_}
-use Prim.Native.Nat.{ℕ, zero, suc, _+_, _*_, _-_, _/_, _%_, _≤_, _<_}
+use mathlib.Core.Path.{_≡_, refl, sym, ap, _∙_, subst}
+use mathlib.Core.Logic.{inl, inr}
+use mathlib.Core.List.{List, []}
+use Prim.Native.Nat.{ℕ, _-_, _/_, _≤_}
 use native.Mathlib.Omega.{arith}
-use lib.ListN.{length, getD, take, drop}
+use lib.ListN.{length, take}
 use lib.Seq.{take-take, length-take-le}
 use Rattle.account.proofs.Lanes.{bytes-lane}
 use Rattle.account.specs.Lanes as lanes
@@ -12,8 +12,7 @@ use Rattle.gf256.specs.Gf256.{gf256}
 use Rattle.code.specs.Refusal.{First}
 use Rattle.level.specs.Tile.{totals}
 use Rattle.level.specs.Level.{Level, AllTiles, Playable}
-use Rattle.level.specs.Record.{fieldAt}
-use Rattle.level.specs.Strip.{Legal, Reached, mendedOf, wearOf}
+use Rattle.level.specs.Strip.{Reached, mendedOf, wearOf}
 use Rattle.level.specs.Reading.{ReadNumbers, refusedAt, returned, entering, mending, judging, Mends, Lowest, dataOf, tilesOf, levelOf, Headed, Shaped}
 use Rattle.level.proofs.Mended.{mendable, level-reached, passing, found, none-reached}
 use Rattle.record.specs.declared.Judged.{Judged}

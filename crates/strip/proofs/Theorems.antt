@@ -1,20 +1,19 @@
 -- Demand 3, and what else is promised of strips, each with its sentence.
 use mathlib.Core.Path.{_≡_, refl, sym, ap, ap₂, _∙_, subst}
-use mathlib.Core.Logic.{_≢_, _⊎_, inl, inr, ⊎-elim}
-use mathlib.Core.Bool.{Bool, not}
-use mathlib.Core.List.{List, [], _∷_, _++_}
-use Prim.Native.Nat.{ℕ, zero, suc, _+_, _*_, _-_, _/_, _%_, _≤_, _<_}
+use mathlib.Core.Logic.{_≢_, inl, inr, ⊎-elim}
+use mathlib.Core.Bool.{not}
+use mathlib.Core.List.{List, _++_}
+use Prim.Native.Nat.{ℕ, _+_, _*_, _/_, _≤_, _<_}
 use native.Mathlib.Decide.{ℕ-discrete}
 use native.Mathlib.Omega.{arith}
 use lib.Dec.{T, eqb}
 use lib.ListN.{length, getD, take, drop, take-append-drop}
-use lib.Seq.{length-take-le}
 use Rattle.account.specs.Lists.{sumOf}
 use Rattle.account.specs.Lanes.{lane}
 use Rattle.account.specs.Reach.{countTo, differsAt, isMarked, Reach}
 use Rattle.account.proofs.Cells.{count-none, not-differs}
 use Rattle.account.proofs.Lanes.{length-lane, getD-lane}
-use Rattle.code.specs.Refusal.{Rule, First}
+use Rattle.code.specs.Refusal.{First}
 use Rattle.code.specs.Word.{writtenNumbers}
 use Rattle.code.specs.Repair.{GoodMarks}
 use Rattle.code.specs.declared.word.Written.{Written}
@@ -22,7 +21,7 @@ use Rattle.code.proofs.Theorems.{first-fixes, decided, either, written-zero}
 use Rattle.level.specs.Level.{Level, IsLevel}
 use Rattle.level.specs.Record.{recordLength}
 use Rattle.level.specs.Strip.{columns, Legal, IsStrip, Reached, wrongIn, markedIn, mendedOf, wearOf}
-use Rattle.level.specs.Reading.{ReadNumbers, returned, readingStrip, mending, Lowest}
+use Rattle.level.specs.Reading.{ReadNumbers, returned, readingStrip, Lowest}
 use Rattle.level.proofs.Strips.{lt-or-ge, same-strip}
 use Rattle.level.proofs.Theorems as levels
 use Rattle.record.specs.Writing.{lent, writingLevel}

@@ -1,8 +1,8 @@
 -- Reading a strip: "a level is returned exactly when some level exists whose strip .. comes within reach".
 use mathlib.Core.Path.{_≡_}
 use mathlib.Core.List.{List, [], _++_}
-use Prim.Native.Nat.{ℕ, _+_, _*_, _≤_}
-use lib.ListN.{length, take, drop}
+use Prim.Native.Nat.{ℕ, _*_, _≤_}
+use lib.ListN.{length, drop}
 use Rattle.account.specs.Reach.{countTo, isMarked}
 use Rattle.code.specs.Refusal.{First}
 use Rattle.code.specs.declared.repair.Entered.{Entered}

@@ -1,7 +1,7 @@
 // Reading a strip: refusals 1 to 5, the lanes mended into the scratch, and the record in the mended strip judged and unpacked.
 ghost use mathlib.Core.Path.{_≡_};
-ghost use Prim.Native.Nat.{ℕ, _+_, _*_, _-_, _≤_, _<_};
-ghost use lib.ListN.{length, getD, take};
+ghost use Prim.Native.Nat.{_*_, _-_, _≤_, _<_};
+ghost use lib.ListN.{length};
 ghost use Rattle.account.specs.Reach.{countTo, isMarked};
 ghost use Rattle.errata.specs.Errata.{Says};
 ghost use Rattle.level.specs.Strip.{Legal, wearOf};

@@ -1,8 +1,8 @@
 // Writing a strip: the record, its filling, and the check cells of each lane.
 ghost use mathlib.Core.Path.{_≡_};
-ghost use Prim.Native.Nat.{ℕ, _+_, _*_, _-_, _/_, _%_, _≤_, _<_};
-ghost use lib.ListN.{length, getD, take, drop};
-ghost use Rattle.remainder.specs.Remainder.{unpacked, LanesCheck};
+ghost use Prim.Native.Nat.{_+_, _*_, _-_, _/_, _%_, _≤_, _<_};
+ghost use lib.ListN.{length, getD};
+ghost use Rattle.remainder.specs.Remainder.{unpacked};
 ghost use Rattle.level.specs.Level.{IsLevel};
 ghost use Rattle.record.specs.Writing.{lent};
 ghost use Rattle.strip.specs.Writing.{StripWritesAs, Placed, LaidAs};

@@ -5,31 +5,22 @@ use Rattle.host.specs.Packed.{packedRead}
 use borrow.Author.Needs.{needs}
 use Rattle.host.proofs.pack_reading.Statement.{statement}
 use Rattle.host.proofs.pack_reading.Tie as tie
-use Rattle.host.proofs.pack_reading.Reads as reads
-use Rattle.host.proofs.pack_reading.Lts as lts
-use Rattle.host.proofs.pack_numbers.Reads as pack-numbers-reads
 
--- src/lib.rt:227:13
 enum-known-a : tie.Need-enum-known-a
 enum-known-a c = search needs
 
--- src/lib.rt:232:14
 pack-numbers-requires : tie.Need-pack-numbers-requires
 pack-numbers-requires c κs = search needs
 
--- src/lib.rt:233:28
 enum-known-a-2 : tie.Need-enum-known-a-2
 enum-known-a-2 c = search needs
 
--- src/lib.rt:233:44
 pack-numbers-requires-2 : tie.Need-pack-numbers-requires-2
 pack-numbers-requires-2 c κs = search needs
 
--- src/lib.rt:222:1
 returns : tie.Need-returns
 returns c = c .pack-numbers .ensures ∙ sym (ap (λ (a : Reading). packedRead (readNumbers a)) (c .before .before .a .given .1))
 
--- src/lib.rt:222:1
 returns-2 : tie.Need-returns-2
 returns-2 c = c .pack-numbers2 .ensures ∙ sym (ap (λ (a : Reading). packedRead (readNumbers a)) (c .before .before .a2 .given .1))
 

@@ -1,4 +1,4 @@
-use mathlib.Core.Path.{_≡_, sym, ap, _∙_}
+use mathlib.Core.Path.{sym, ap, _∙_}
 use Rattle.code.specs.Repair.{repairedNumbers}
 use Rattle.code.specs.declared.repair.Repaired.{Repaired}
 use Rattle.host.specs.Packed.{packed}

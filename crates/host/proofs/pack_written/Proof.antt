@@ -1,4 +1,4 @@
-use mathlib.Core.Path.{_≡_, sym, ap, _∙_}
+use mathlib.Core.Path.{sym, ap, _∙_}
 use Rattle.code.specs.Word.{writtenNumbers}
 use Rattle.code.specs.declared.word.Written.{Written}
 use Rattle.host.specs.Packed.{packed}

@@ -1,4 +1,4 @@
-use mathlib.Core.Path.{_≡_, ap, _∙_}
+use mathlib.Core.Path.{ap}
 use Rattle.host.specs.Packed.{packedSums}
 use borrow.Author.Needs.{needs}
 use Rattle.host.proofs.zav_syndrome.Statement.{statement}

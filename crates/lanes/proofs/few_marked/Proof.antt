@@ -3,25 +3,18 @@ use Rattle.lanes.proofs.Marks.{none-marked}
 use borrow.Author.Needs.{needs}
 use Rattle.lanes.proofs.few_marked.Statement.{statement}
 use Rattle.lanes.proofs.few_marked.Tie as tie
-use Rattle.lanes.proofs.few_marked.Reads as reads
-use Rattle.lanes.proofs.few_marked.Lts as lts
-use Rattle.lanes.proofs.marked_in.Reads as marked-in-reads
 
--- src/lib.rt:128:9
 returns : tie.Need-returns
 returns c =
     let a = c .before .before .args in
     omega (arith, none-marked (a .marks .now) (a .l) (omega arith) (omega arith))
 
--- src/lib.rt:130:12
 marked-in-requires : tie.Need-marked-in-requires
 marked-in-requires c κs = search needs
 
--- src/lib.rt:131:9
 returns-2 : tie.Need-returns-2
 returns-2 c = λ h. omega (arith, h, c .before .marked-in .ensures)
 
--- src/lib.rt:123:1
 returns-3 : tie.Need-returns-3
 returns-3 c = omega (arith, c .before .marked-in .ensures)
 

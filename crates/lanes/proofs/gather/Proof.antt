@@ -6,8 +6,6 @@ use Rattle.lanes.proofs.Cells.{more, gathered}
 use borrow.Author.Needs.{needs}
 use Rattle.lanes.proofs.gather.Statement.{statement}
 use Rattle.lanes.proofs.gather.Tie as tie
-use Rattle.lanes.proofs.gather.Reads as reads
-use Rattle.lanes.proofs.gather.Lts as lts
 
 abbrev Inv-loop : tie.InvT-loop
 Inv-loop strip l n t₀ k₀ t k = (k ≤ n) × (t .len ≡ n) × (length (t .bytes) ≡ 96) × ((j : ℕ) → j < k → getD (t .bytes) j 0 ≡ getD strip (4 * j + l) 0)
@@ -15,42 +13,33 @@ Inv-loop strip l n t₀ k₀ t k = (k ≤ n) × (t .len ≡ n) × (length (t .by
 abbrev μ-loop : tie.MeasureT-loop
 μ-loop strip l n t₀ k₀ t k = n - k
 
--- src/lib.rt:40:5
 loop-holds : tie.Need-loop-holds Inv-loop μ-loop
 loop-holds c = (omega arith, refl, refl, λ j h. absurd (omega arith))
 
--- src/lib.rt:41:28
 mul-t : tie.Need-mul-t Inv-loop μ-loop
 mul-t c = search needs
 
--- src/lib.rt:41:28
 add-t : tie.Need-add-t Inv-loop μ-loop
 add-t c = search needs
 
--- src/lib.rt:41:22
 shared-slice-read-t : tie.Need-shared-slice-read-t Inv-loop μ-loop
 shared-slice-read-t c = search needs
 
--- src/lib.rt:41:9
 element-write-t : tie.Need-element-write-t Inv-loop μ-loop
 element-write-t c = search needs
 
--- src/lib.rt:42:9
 add-k : tie.Need-add-k Inv-loop μ-loop
 add-k c = search needs
 
--- src/lib.rt:40:5
 loop-less : tie.Need-loop-less Inv-loop μ-loop
 loop-less c = search needs
 
--- src/lib.rt:40:5
 loop-again : tie.Need-loop-again Inv-loop μ-loop
 loop-again c =
     let l = c .before .before .loop in
     let a = c .before .before .before .args in
     (omega arith, l .inv .1, simp length-set (l .inv .2), more (l .t .bytes) (a .strip .now) (a .l) (l .k) _ (omega arith) refl (l .inv .3))
 
--- src/lib.rt:31:1
 returns : tie.Need-returns Inv-loop μ-loop
 returns c =
     let l = c .before .loop in

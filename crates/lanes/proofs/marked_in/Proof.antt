@@ -1,5 +1,5 @@
 use mathlib.Core.Path.{_≡_, refl, ap, _∙_}
-use Prim.Native.Nat.{ℕ, _+_, _*_, _-_, _/_, _≤_}
+use Prim.Native.Nat.{_+_, _*_, _-_, _/_, _≤_}
 use native.Mathlib.Omega.{arith}
 use lib.ListN.{length}
 use Rattle.account.specs.Reach.{countTo, isMarked}
@@ -8,9 +8,6 @@ use Rattle.lanes.proofs.Marks.{marked-more, one-small}
 use borrow.Author.Needs.{needs}
 use Rattle.lanes.proofs.marked_in.Statement.{statement}
 use Rattle.lanes.proofs.marked_in.Tie as tie
-use Rattle.lanes.proofs.marked_in.Reads as reads
-use Rattle.lanes.proofs.marked_in.Lts as lts
-use Rattle.lanes.proofs.one_if.Reads as one-if-reads
 
 abbrev Inv-loop : tie.InvT-loop
 Inv-loop marks l n f₀ k₀ f k = (k ≤ n) × (f ≤ k) × (f ≡ countTo (isMarked (lane 4 l marks)) k)
@@ -18,42 +15,33 @@ Inv-loop marks l n f₀ k₀ f k = (k ≤ n) × (f ≤ k) × (f ≡ countTo (isM
 abbrev μ-loop : tie.MeasureT-loop
 μ-loop marks l n f₀ k₀ f k = n - k
 
--- src/lib.rt:114:5
 loop-holds : tie.Need-loop-holds Inv-loop μ-loop
 unfolding countTo
 loop-holds c = (omega arith, omega arith, refl)
 
--- src/lib.rt:115:27
 mul-one-if : tie.Need-mul-one-if Inv-loop μ-loop
 mul-one-if c = search needs
 
--- src/lib.rt:115:27
 add-one-if : tie.Need-add-one-if Inv-loop μ-loop
 add-one-if c = search needs
 
--- src/lib.rt:115:21
 shared-slice-read-one-if : tie.Need-shared-slice-read-one-if Inv-loop μ-loop
 shared-slice-read-one-if c = search needs
 
--- src/lib.rt:115:14
 one-if-requires : tie.Need-one-if-requires Inv-loop μ-loop
 one-if-requires c κs = search needs
 
--- src/lib.rt:115:9
 add-f : tie.Need-add-f Inv-loop μ-loop
 add-f c =
     let q = one-small (isMarked (c .before .before .before .before .before .args .marks .now) (4 * c .before .before .before .loop .k + c .before .before .before .before .before .args .l)) in
     omega (arith, c .one-if .ensures)
 
--- src/lib.rt:116:9
 add-k : tie.Need-add-k Inv-loop μ-loop
 add-k c = search needs
 
--- src/lib.rt:114:5
 loop-less : tie.Need-loop-less Inv-loop μ-loop
 loop-less c = search needs
 
--- src/lib.rt:114:5
 loop-again : tie.Need-loop-again Inv-loop μ-loop
 loop-again c =
     let l = c .before .before .before .loop in
@@ -61,7 +49,6 @@ loop-again c =
     let q = one-small (isMarked (a .marks .now) (4 * l .k + a .l)) in
     (omega arith, omega (arith, c .one-if .ensures), marked-more (a .marks .now) (a .l) (l .k) (l .f) (c .one-if .result) (omega arith) (l .inv .2) (c .one-if .ensures))
 
--- src/lib.rt:108:1
 returns : tie.Need-returns Inv-loop μ-loop
 returns c =
     let l = c .before .loop in

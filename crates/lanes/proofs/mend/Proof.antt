@@ -1,14 +1,10 @@
-use mathlib.Core.Path.{_≡_}
-use Prim.Native.Nat.{ℕ, _-_, _≤_, _<_}
+use Prim.Native.Nat.{_-_}
 use native.Mathlib.Omega.{arith}
 use borrow.Author.Tests.{not-true, not-false}
 use borrow.Author.Needs.{needs}
 use Rattle.lanes.proofs.Sofar.{Sofar, sofar-0, sofar-more, told-good, one-few, lost, all-mended}
 use Rattle.lanes.proofs.mend.Statement.{statement}
 use Rattle.lanes.proofs.mend.Tie as tie
-use Rattle.lanes.proofs.mend.Reads as reads
-use Rattle.lanes.proofs.mend.Lts as lts
-use Rattle.lanes.proofs.mend_one.Reads as mend-one-reads
 
 abbrev Inv-loop : tie.InvT-loop
 Inv-loop strip marks f x₀ r mended₀ l₀ x mended l = Sofar strip marks x₀ x mended l
@@ -16,32 +12,26 @@ Inv-loop strip marks f x₀ r mended₀ l₀ x mended l = Sofar strip marks x₀
 abbrev μ-loop : tie.MeasureT-loop
 μ-loop strip marks f x₀ r mended₀ l₀ x mended l = 4 - l
 
--- src/lib.rt:152:5
 loop-holds : tie.Need-loop-holds Inv-loop μ-loop
 loop-holds c =
     let a = c .before .before .before .args in
     sofar-0 (a .strip .now) (a .marks .now) (a .x .now) (record { cell = λ j h. omega (arith, c .slice-known .given j) }) (c .before .before .before .pre .3)
 
--- src/lib.rt:153:43
 mul-mend-one : tie.Need-mul-mend-one Inv-loop μ-loop
 mul-mend-one c = search needs
 
--- src/lib.rt:153:43
 array-read-mend-one : tie.Need-array-read-mend-one Inv-loop μ-loop
 array-read-mend-one c = search needs
 
--- src/lib.rt:153:13
 mend-one-requires : tie.Need-mend-one-requires Inv-loop μ-loop
 mend-one-requires c κs =
     let l = c .before .before .loop in
     let p = c .before .before .before .before .before .before .pre in
     (omega arith, record { legal = p .0 .legal; matched = p .0 .matched; good = p .0 .good; room = omega (arith, p .0 .room, l .inv .long) }, p .1, p .2 (l .l) (omega arith), l .inv .later (l .l) (omega arith) (omega arith))
 
--- src/lib.rt:156:13
 same-length : tie.Need-same-length Inv-loop μ-loop
 same-length c = search needs
 
--- src/lib.rt:156:13
 returns : tie.Need-returns Inv-loop μ-loop
 returns c =
     let a = c .before .before .before .before .before .before .before .before .before .before .args in
@@ -49,7 +39,6 @@ returns c =
     let o = c .before .before .before .mend-one in
     lost (a .strip .now) (a .marks .now) (a .x .now) (l .x) _ (l .mended) (l .l) (o .result) (c .before .before .before .before .before .before .before .before .before .before .pre .0) (omega arith) (l .inv) (not-true (o .result .good) (c .if1 .taken)) (o .ensures)
 
--- src/lib.rt:161:9
 add-mended : tie.Need-add-mended Inv-loop μ-loop
 add-mended c =
     let a = c .before .before .before .before .before .before .before .before .before .before .before .args in
@@ -57,15 +46,12 @@ add-mended c =
     let o = c .before .before .before .before .mend-one in
     omega (arith, l .inv .small, one-few (a .strip .now) (a .marks .now) (l .x) _ (l .l) (o .result) (told-good (a .strip .now) (a .marks .now) (l .x) _ (l .l) (o .result) (not-false (o .result .good) (c .before .if1 .left)) (o .ensures)))
 
--- src/lib.rt:162:9
 add-l : tie.Need-add-l Inv-loop μ-loop
 add-l c = search needs
 
--- src/lib.rt:152:5
 loop-less : tie.Need-loop-less Inv-loop μ-loop
 loop-less c = search needs
 
--- src/lib.rt:152:5
 loop-again : tie.Need-loop-again Inv-loop μ-loop
 loop-again c =
     let a = c .before .before .before .before .before .before .before .before .before .before .before .args in
@@ -74,11 +60,9 @@ loop-again c =
     sofar-more (a .strip .now) (a .marks .now) (a .x .now) (l .x) _ (l .mended) (l .l) (o .result) (omega arith) (search needs) (record { cell = λ j h. omega (arith, c .before .before .slice-known2 .given j) })
     (l .inv) (told-good (a .strip .now) (a .marks .now) (l .x) _ (l .l) (o .result) (not-false (o .result .good) (c .before .if1 .left)) (o .ensures))
 
--- src/lib.rt:146:1
 same-length-2 : tie.Need-same-length-2 Inv-loop μ-loop
 same-length-2 c = c .before .loop .inv .long
 
--- src/lib.rt:146:1
 returns-2 : tie.Need-returns-2 Inv-loop μ-loop
 returns-2 c =
     let a = c .before .before .before .before .before .args in

@@ -1,35 +1,25 @@
-use native.Mathlib.Omega.{arith}
 use Rattle.account.specs.Lanes.{lane}
 use Rattle.remainder.proofs.Whole.{none-is-clean}
 use Rattle.lanes.proofs.Repairs.{clean-lane}
 use borrow.Author.Needs.{needs}
 use Rattle.lanes.proofs.mend_one.Statement.{statement}
 use Rattle.lanes.proofs.mend_one.Tie as tie
-use Rattle.lanes.proofs.mend_one.Reads as reads
-use Rattle.lanes.proofs.mend_one.Lts as lts
-use Rattle.lanes.proofs.few_marked.Reads as few-marked-reads
-use Rattle.lanes.proofs.repair_one.Reads as repair-one-reads
 
--- src/lib.rt:139:13
 few-marked-requires : tie.Need-few-marked-requires
 few-marked-requires c κs = search needs
 
--- src/lib.rt:140:9
 returns : tie.Need-returns
 returns c =
     let a = c .before .before .before .before .before .args in
     let p = c .before .before .before .before .before .pre in
     clean-lane (a .strip .now) (a .marks .now) (a .l) (a .x .now) (p .4) (none-is-clean (lane 4 (a .l) (a .strip .now)) (a .r) (p .3) (c .before .if1 .taken)) (p .1 .matched) (c .few-marked .result) (c .few-marked .ensures)
 
--- src/lib.rt:142:5
 repair-one-requires : tie.Need-repair-one-requires
 repair-one-requires c κs = search needs
 
--- src/lib.rt:134:1
 same-length : tie.Need-same-length
 same-length c = search needs
 
--- src/lib.rt:134:1
 returns-2 : tie.Need-returns-2
 returns-2 c = search needs
 

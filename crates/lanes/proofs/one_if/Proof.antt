@@ -1,14 +1,10 @@
 use borrow.Author.Tests.{eq-eqb, ne-eqb}
 use Rattle.lanes.proofs.one_if.Statement.{statement}
 use Rattle.lanes.proofs.one_if.Tie as tie
-use Rattle.lanes.proofs.one_if.Reads as reads
-use Rattle.lanes.proofs.one_if.Lts as lts
 
--- src/lib.rt:102:9
 returns : tie.Need-returns
 returns c = rw (ne-eqb _ _ (c .if1 .taken))
 
--- src/lib.rt:98:1
 returns-2 : tie.Need-returns-2
 returns-2 c = rw (eq-eqb _ _ (c .if1 .left))
 

@@ -1,7 +1,5 @@
 use lib.ListN.{length}
 use mathlib.Core.Path.{_≡_}
-use Prim.Native.Nat.{_≤_}
-use native.Mathlib.Omega.{arith}
 use borrow.Author.Tests.{not-true, not-false}
 use Rattle.code.specs.Repair.{repairedNumbers}
 use Rattle.errata.proofs.Sums.{said, denied}
@@ -9,30 +7,19 @@ use Rattle.lanes.proofs.Repairs.{no-lane, yes-lane, good-one}
 use borrow.Author.Needs.{needs}
 use Rattle.lanes.proofs.repair_one.Statement.{statement}
 use Rattle.lanes.proofs.repair_one.Tie as tie
-use Rattle.lanes.proofs.repair_one.Reads as reads
-use Rattle.lanes.proofs.repair_one.Lts as lts
-use Rattle.code.proofs.lane.repair_lane.Reads as repair-lane-reads
-use Rattle.lanes.proofs.gather.Reads as gather-reads
-use Rattle.lanes.proofs.scatter.Reads as scatter-reads
-use Rattle.lanes.proofs.told.Reads as told-reads
 
--- src/lib.rt:82:9
 gather-requires : tie.Need-gather-requires
 gather-requires c κs = search needs
 
--- src/lib.rt:83:9
 gather-requires-2 : tie.Need-gather-requires-2
 gather-requires-2 c κs = search needs
 
--- src/lib.rt:84:9
 repair-lane-requires : tie.Need-repair-lane-requires
 repair-lane-requires c κs = search needs
 
--- src/lib.rt:86:9
 told-requires : tie.Need-told-requires
 told-requires c κs = search needs
 
--- src/lib.rt:89:9
 returns : tie.Need-returns
 returns c =
     let a = c .before .before .before .before .before .before .before .before .args in
@@ -43,15 +30,12 @@ returns c =
     let o = c .before .told in
     no-lane (a .strip .now) (a .marks .now) (a .l) (p .0) (g .result) (h .result) (r .result) (length (a .x .now)) (c .before .before .before .before .before .before .before .before .pre .1) (g .ensures .1) (h .ensures .1) (g .ensures .0) (h .ensures .0) (r .ensures) (denied (repairedNumbers (r .result .answer) .code ≡ 0) (o .result .good) (not-true (o .result .good) (c .if1 .taken)) (o .ensures .good-is))
 
--- src/lib.rt:95:5
 scatter-requires : tie.Need-scatter-requires
 scatter-requires c κs = search needs
 
--- src/lib.rt:77:1
 same-length : tie.Need-same-length
 same-length c = search needs
 
--- src/lib.rt:77:1
 returns-2 : tie.Need-returns-2
 returns-2 c =
     let a = c .before .before .before .before .before .before .before .before .before .before .before .before .before .args in

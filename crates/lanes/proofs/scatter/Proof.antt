@@ -6,8 +6,6 @@ use Rattle.lanes.proofs.Cells.{Halfway, halfway-0, halfway-more, scatte
 use borrow.Author.Needs.{needs}
 use Rattle.lanes.proofs.scatter.Statement.{statement}
 use Rattle.lanes.proofs.scatter.Tie as tie
-use Rattle.lanes.proofs.scatter.Reads as reads
-use Rattle.lanes.proofs.scatter.Lts as lts
 
 abbrev Inv-loop : tie.InvT-loop
 Inv-loop l x₀ n b k₀ x k = (k ≤ n) × Halfway l b x₀ x k
@@ -15,43 +13,33 @@ Inv-loop l x₀ n b k₀ x k = (k ≤ n) × Halfway l b x₀ x k
 abbrev μ-loop : tie.MeasureT-loop
 μ-loop l x₀ n b k₀ x k = n - k
 
--- src/lib.rt:55:5
 loop-holds : tie.Need-loop-holds Inv-loop μ-loop
 loop-holds c = (omega arith, halfway-0 _ _ _)
 
--- src/lib.rt:56:24
 array-read-x : tie.Need-array-read-x Inv-loop μ-loop
 array-read-x c = search needs
 
--- src/lib.rt:56:11
 mul-x : tie.Need-mul-x Inv-loop μ-loop
 mul-x c = search needs
 
--- src/lib.rt:56:11
 add-x : tie.Need-add-x Inv-loop μ-loop
 add-x c = search needs
 
--- src/lib.rt:56:9
 slice-write-x : tie.Need-slice-write-x Inv-loop μ-loop
 slice-write-x c = omega (arith, c .before .loop .inv .1 .long)
 
--- src/lib.rt:57:9
 add-k : tie.Need-add-k Inv-loop μ-loop
 add-k c = search needs
 
--- src/lib.rt:55:5
 loop-less : tie.Need-loop-less Inv-loop μ-loop
 loop-less c = search needs
 
--- src/lib.rt:55:5
 loop-again : tie.Need-loop-again Inv-loop μ-loop
 loop-again c = (omega arith, halfway-more _ _ _ _ (c .before .loop .k) (omega arith) (c .before .loop .inv .1))
 
--- src/lib.rt:48:1
 same-length : tie.Need-same-length Inv-loop μ-loop
 same-length c = c .before .loop .inv .1 .long
 
--- src/lib.rt:48:1
 returns : tie.Need-returns Inv-loop μ-loop
 returns c =
     let l = c .before .loop in

@@ -2,22 +2,16 @@ use Rattle.lanes.proofs.Marks.{refused-told}
 use borrow.Author.Needs.{needs}
 use Rattle.lanes.proofs.told.Statement.{statement}
 use Rattle.lanes.proofs.told.Tie as tie
-use Rattle.lanes.proofs.told.Reads as reads
-use Rattle.lanes.proofs.told.Lts as lts
 
--- src/lib.rt:65:26
 enum-known-a : tie.Need-enum-known-a
 enum-known-a c = search needs
 
--- src/lib.rt:69:27
 enum-known-a-2 : tie.Need-enum-known-a-2
 enum-known-a-2 c = search needs
 
--- src/lib.rt:61:1
 returns : tie.Need-returns
 returns c = search needs
 
--- src/lib.rt:61:1
 returns-2 : tie.Need-returns-2
 returns-2 c = refused-told (c .before .before .before .args .a) (c .before .a2 .given .0 .0) (c .before .a2 .given .1)
 

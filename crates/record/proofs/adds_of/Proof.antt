@@ -3,7 +3,7 @@ use Rattle.record.specs.Sum.{Same}
 use Rattle.level.specs.Tile.{adds}
 use lib.ListN.{getD}
 use mathlib.Core.List.{List, [], _∷_}
-use Prim.Native.Nat.{ℕ, zero, suc, _-_}
+use Prim.Native.Nat.{ℕ, zero, suc}
 use mathlib.Core.Path.{refl}
 use borrow.Author.Needs.{needs}
 use Rattle.record.proofs.adds_of.Statement.{statement}

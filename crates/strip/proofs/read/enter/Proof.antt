@@ -7,30 +7,22 @@ use Rattle.strip.proofs.Entering.{enters-1, enters-2, enters-3, enters-
 use borrow.Author.Needs.{needs}
 use Rattle.strip.proofs.read.enter.Statement.{statement}
 use Rattle.strip.proofs.read.enter.Tie as tie
-use Rattle.strip.proofs.read.enter.Reads as reads
-use Rattle.strip.proofs.read.enter.Lts as lts
-use Rattle.code.proofs.repair.tally.Reads as tally-reads
-use Rattle.strip.proofs.read.legal.Reads as legal-reads
 
--- src/read.rt:47:9
 legal-requires : tie.Need-legal-requires
 legal-requires c κs = search needs
 
--- src/read.rt:48:9
 returns : tie.Need-returns
 returns c =
     let a = c .before .before .before .before .args in
     let l = c .before .legal in
     enters-1 (a .strip .now) (a .marks .now) (a .tiles) (a .scratch) (denied (Legal 4 (length (a .strip .now))) (l .result) (not-true (l .result) (c .if1 .taken)) (l .ensures))
 
--- src/read.rt:51:9
 returns-2 : tie.Need-returns-2
 returns-2 c =
     let a = c .before .before .before .before .before .args in
     let l = c .before .before .legal in
     enters-2 (a .strip .now) (a .marks .now) (a .tiles) (a .scratch) (said (Legal 4 (length (a .strip .now))) (l .result) (not-false (l .result) (c .before .if1 .left)) (l .ensures)) (c .if2 .taken)
 
--- src/read.rt:53:9
 tally-requires : tie.Need-tally-requires
 tally-requires c κs =
     let a = c .before .before .before .before .before .args in
@@ -38,28 +30,24 @@ tally-requires c κs =
     let L = said (Legal 4 (length (a .strip .now))) (l .result) (not-false (l .result) (c .before .if1 .left)) (l .ensures) in
     omega (arith, L .to, L .cells, c .if2 .left)
 
--- src/read.rt:56:9
 returns-3 : tie.Need-returns-3
 returns-3 c =
     let a = c .before .before .before .before .before .before .before .args in
     let l = c .before .before .before .before .legal in
     enters-3 (a .strip .now) (a .marks .now) (a .tiles) (a .scratch) (said (Legal 4 (length (a .strip .now))) (l .result) (not-false (l .result) (c .before .before .before .if1 .left)) (l .ensures)) (c .before .before .if2 .left) (c .before .tally .ensures .bad (λ h. omega (arith, h, c .if3 .taken)))
 
--- src/read.rt:59:9
 returns-4 : tie.Need-returns-4
 returns-4 c =
     let a = c .before .before .before .before .before .before .before .before .args in
     let l = c .before .before .before .before .before .legal in
     enters-4 (a .strip .now) (a .marks .now) (a .tiles) (a .scratch) (said (Legal 4 (length (a .strip .now))) (l .result) (not-false (l .result) (c .before .before .before .before .if1 .left)) (l .ensures)) (c .before .before .before .if2 .left) (c .before .before .tally .ensures .good (omega arith)) (λ h. omega (arith, h, c .if4 .taken))
 
--- src/read.rt:62:9
 returns-5 : tie.Need-returns-5
 returns-5 c =
     let a = c .before .before .before .before .before .before .before .before .before .args in
     let l = c .before .before .before .before .before .before .legal in
     enters-5 (a .strip .now) (a .marks .now) (a .tiles) (a .scratch) (said (Legal 4 (length (a .strip .now))) (l .result) (not-false (l .result) (c .before .before .before .before .before .if1 .left)) (l .ensures)) (c .before .before .before .before .if2 .left) (c .before .before .before .tally .ensures .good (omega arith)) (omega arith) (λ h. omega (arith, h, c .if5 .taken))
 
--- src/read.rt:44:1
 returns-6 : tie.Need-returns-6
 returns-6 c =
     let a = c .before .before .before .before .before .before .before .before .before .args in

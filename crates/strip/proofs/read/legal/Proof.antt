@@ -3,22 +3,16 @@ use Rattle.strip.proofs.Entering.{is-legal}
 use borrow.Author.Needs.{needs}
 use Rattle.strip.proofs.read.legal.Statement.{statement}
 use Rattle.strip.proofs.read.legal.Tie as tie
-use Rattle.strip.proofs.read.legal.Reads as reads
-use Rattle.strip.proofs.read.legal.Lts as lts
 
--- src/read.rt:32:9
 returns : tie.Need-returns
 returns c = search needs
 
--- src/read.rt:35:9
 returns-2 : tie.Need-returns-2
 returns-2 c = search needs
 
--- src/read.rt:38:9
 returns-3 : tie.Need-returns-3
 returns-3 c = search needs
 
--- src/read.rt:28:1
 returns-4 : tie.Need-returns-4
 returns-4 c = is-legal (c .before .before .before .args .n) (omega arith) (omega arith) (omega arith)
 

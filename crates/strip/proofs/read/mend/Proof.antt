@@ -1,25 +1,15 @@
-use lib.ListN.{length}
-use mathlib.Core.Path.{_≡_}
 use native.Mathlib.Omega.{arith}
 use Rattle.strip.proofs.Placing.{copied}
 use borrow.Author.Needs.{needs}
 use Rattle.strip.proofs.read.mend.Statement.{statement}
 use Rattle.strip.proofs.read.mend.Tie as tie
-use Rattle.strip.proofs.read.mend.Reads as reads
-use Rattle.strip.proofs.read.mend.Lts as lts
-use Rattle.code.proofs.word.put_data.Reads as put-data-reads
-use Rattle.lanes.proofs.mend.Reads as mend-reads
-use Rattle.remainder.proofs.remainders_of.Reads as remainders-of-reads
 
--- src/read.rt:81:9
 remainders-of-requires : tie.Need-remainders-of-requires
 remainders-of-requires c κs = search needs
 
--- src/read.rt:82:5
 put-data-requires : tie.Need-put-data-requires
 put-data-requires c κs = search needs
 
--- src/read.rt:83:5
 mend-requires : tie.Need-mend-requires
 mend-requires c κs =
     let a = c .before .before .before .before .before .before .before .before .before .args in
@@ -28,11 +18,9 @@ mend-requires c κs =
     let q = copied (a .strip .now) (a .scratch .now) x (omega (arith, p .0 .room, p .0 .legal .to, p .0 .legal .cells)) (c .before .before .before .put-data .ensures) in
     (record { legal = p .0 .legal; matched = p .0 .matched; good = p .0 .good; room = omega (arith, q .0, p .0 .room) }, p .1, c .before .before .before .before .before .remainders-of .ensures, q .1)
 
--- src/read.rt:77:1
 same-length : tie.Need-same-length
 same-length c = search needs
 
--- src/read.rt:77:1
 returns : tie.Need-returns
 returns c = search needs
 

@@ -10,23 +10,15 @@ use Rattle.strip.proofs.Reader.{early-as, lane-as, finished-as, data-le
 use borrow.Author.Needs.{needs}
 use Rattle.strip.proofs.read.read.Statement.{statement}
 use Rattle.strip.proofs.read.read.Tie as tie
-use Rattle.strip.proofs.read.read.Reads as reads
-use Rattle.strip.proofs.read.read.Lts as lts
-use Rattle.strip.proofs.read.enter.Reads as enter-reads
-use Rattle.strip.proofs.read.finish.Reads as finish-reads
-use Rattle.strip.proofs.read.mend.Reads as mend-reads
 
--- src/read.rt:127:9
 enter-requires : tie.Need-enter-requires
 enter-requires c κs = search needs
 
--- src/read.rt:130:9
 returns : tie.Need-returns
 returns c =
     let a = c .before .before .before .before .before .before .args in
     early-as (a .strip .now) (a .marks .now) (a .tiles .now) (a .scratch .now) (c .before .enter .result .code) (c .if1 .taken) (c .before .enter .ensures .first)
 
--- src/read.rt:132:9
 mend-requires : tie.Need-mend-requires
 mend-requires c κs =
     let a = c .before .before .before .before .before .before .before .args in
@@ -34,11 +26,9 @@ mend-requires c κs =
     let z = c .before .if1 .left in
     (ready (a .strip .now) (a .marks .now) (length (a .tiles .now)) (length (a .scratch .now)) (g .result .code) z (g .ensures .first) .0, g .ensures .count z)
 
--- src/read.rt:135:9
 same-length : tie.Need-same-length
 same-length c = search needs
 
--- src/read.rt:135:9
 returns-2 : tie.Need-returns-2
 returns-2 c =
     let a = c .before .before .before .before .before .before .before .before .before .before .before .args in
@@ -47,7 +37,6 @@ returns-2 c =
     let r = ready (a .strip .now) (a .marks .now) (length (a .tiles .now)) (length (a .scratch .now)) (g .result .code) z (g .ensures .first) in
     lane-as (a .strip .now) (a .marks .now) (a .tiles .now) (a .scratch .now) (r .0) (r .1) _ (c .before .before .before .mend .result .beyond) (c .before .before .before .mend .ensures .lost (omega arith))
 
--- src/read.rt:141:24
 sub-finish : tie.Need-sub-finish
 sub-finish c =
     let a = c .before .before .before .before .before .before .before .before .before .before .before .args in
@@ -55,15 +44,12 @@ sub-finish c =
     let r = ready (a .strip .now) (a .marks .now) (length (a .tiles .now)) (length (a .scratch .now)) (g .result .code) (c .before .before .before .before .before .if1 .left) (g .ensures .first) in
     omega (arith, r .0 .legal .from, r .0 .legal .cells)
 
--- src/read.rt:141:12
 sub-finish-2 : tie.Need-sub-finish-2
 sub-finish-2 c = search needs
 
--- src/read.rt:141:12
 part-finish-start : tie.Need-part-finish-start
 part-finish-start c = search needs
 
--- src/read.rt:141:12
 part-finish-end : tie.Need-part-finish-end
 part-finish-end c =
     let a = c .before .before .before .before .before .before .before .before .before .before .before .before .args in
@@ -72,7 +58,6 @@ part-finish-end c =
     let e : length (c .before .before .before .before .mend .last .1 .1 .1 .0) ≡ length (a .scratch .now) = search needs in
     omega (arith, r .0 .legal .to, r .0 .legal .cells, r .0 .room)
 
--- src/read.rt:141:5
 finish-requires : tie.Need-finish-requires
 finish-requires c κs =
     let a = c .before .before .before .before .before .before .before .before .before .before .before .before .before .before .args in
@@ -83,15 +68,12 @@ finish-requires c κs =
     let l : length (take (length (a .strip .now) - 20 - 0) x) ≡ length (a .strip .now) - 20 = length-take-le (length (a .strip .now) - 20 - 0) x (omega (arith, r .0 .legal .to, r .0 .legal .cells, r .0 .room, e)) ∙ omega arith in
     (omega (arith, l, r .0 .legal .from, r .0 .legal .cells), omega (arith, l, r .0 .legal .to, r .0 .legal .cells), r .1, c .before .before .before .before .before .before .mend .ensures .small, omega (arith, r .0 .legal .from, r .0 .legal .cells), omega (arith, r .0 .legal .to, r .0 .legal .cells))
 
--- src/read.rt:124:1
 same-length-2 : tie.Need-same-length-2
 same-length-2 c = search needs
 
--- src/read.rt:124:1
 same-length-3 : tie.Need-same-length-3
 same-length-3 c = search needs
 
--- src/read.rt:124:1
 returns-3 : tie.Need-returns-3
 returns-3 c =
     let a = c .before .before .before .before .before .before .before .before .before .before .before .before .before .before .before .before .before .args in

@@ -6,8 +6,6 @@ use Rattle.strip.specs.Writing.{Placed}
 use Rattle.strip.proofs.Placing.{placed-0, placed-more}
 use Rattle.strip.proofs.write.fill.Statement.{statement}
 use Rattle.strip.proofs.write.fill.Tie as tie
-use Rattle.strip.proofs.write.fill.Reads as reads
-use Rattle.strip.proofs.write.fill.Lts as lts
 
 abbrev Inv-loop : tie.InvT-loop
 Inv-loop x₀ from to p₀ x p = (from ≤ p) × (p ≤ to) × Placed from p (λ q. 0) x₀ x
@@ -15,34 +13,27 @@ Inv-loop x₀ from to p₀ x p = (from ≤ p) × (p ≤ to) × Placed from p (λ
 abbrev μ-loop : tie.MeasureT-loop
 μ-loop x₀ from to p₀ x p = to - p
 
--- src/write.rt:19:5
 loop-holds : tie.Need-loop-holds Inv-loop μ-loop
 loop-holds c = (omega arith, omega arith, placed-0 (c .args .from) (λ q. 0) (c .args .x .now))
 
--- src/write.rt:20:9
 slice-write-x : tie.Need-slice-write-x Inv-loop μ-loop
 slice-write-x c = omega (arith, c .before .loop .inv .2 .long)
 
--- src/write.rt:21:9
 add-p : tie.Need-add-p Inv-loop μ-loop
 add-p c = search needs
 
--- src/write.rt:19:5
 loop-less : tie.Need-loop-less Inv-loop μ-loop
 loop-less c = search needs
 
--- src/write.rt:19:5
 loop-again : tie.Need-loop-again Inv-loop μ-loop
 loop-again c =
     let l = c .before .loop in
     let a = c .before .before .args in
     (omega arith, omega arith, placed-more (a .from) (λ q. 0) (a .x .now) (l .x) (l .p) 0 (omega arith) (omega arith) refl (l .inv .2))
 
--- src/write.rt:14:1
 same-length : tie.Need-same-length Inv-loop μ-loop
 same-length c = c .before .loop .inv .2 .long
 
--- src/write.rt:14:1
 returns : tie.Need-returns Inv-loop μ-loop
 returns c =
     let l = c .before .loop in

@@ -4,69 +4,49 @@ use Rattle.strip.proofs.Laid.{laid-as, strip-fits}
 use borrow.Author.Needs.{needs}
 use Rattle.strip.proofs.write.lay.Statement.{statement}
 use Rattle.strip.proofs.write.lay.Tie as tie
-use Rattle.strip.proofs.write.lay.Reads as reads
-use Rattle.strip.proofs.write.lay.Lts as lts
-use Rattle.record.proofs.put_record.Reads as put-record-reads
-use Rattle.remainder.proofs.lane_checks_of.Reads as lane-checks-of-reads
-use Rattle.strip.proofs.write.fill.Reads as fill-reads
-use Rattle.strip.proofs.write.put_checks.Reads as put-checks-reads
 
--- src/write.rt:50:9
 put-record-requires : tie.Need-put-record-requires
 put-record-requires c κs =
     let a = c .before .before .before .args in
     let p = c .before .before .before .pre in
     (p .0, omega (arith, p .1, strip-fits (lent (a .w) (a .h) (a .par) (a .tiles .now)) (p .0)))
 
--- src/write.rt:51:14
 add-k : tie.Need-add-k
 add-k c = search needs
 
--- src/write.rt:52:18
 mul-fill : tie.Need-mul-fill
 mul-fill c = search needs
 
--- src/write.rt:52:5
 fill-requires : tie.Need-fill-requires
 fill-requires c κs = search needs
 
--- src/write.rt:53:47
 mul-lane-checks-of : tie.Need-mul-lane-checks-of
 mul-lane-checks-of c = search needs
 
--- src/write.rt:53:39
 sub-lane-checks-of : tie.Need-sub-lane-checks-of
 sub-lane-checks-of c = search needs
 
--- src/write.rt:53:39
 part-lane-checks-of-start : tie.Need-part-lane-checks-of-start
 part-lane-checks-of-start c = search needs
 
--- src/write.rt:53:39
 part-lane-checks-of-end : tie.Need-part-lane-checks-of-end
 part-lane-checks-of-end c = search needs
 
--- src/write.rt:53:9
 lane-checks-of-requires : tie.Need-lane-checks-of-requires
 lane-checks-of-requires c κs = search needs
 
--- src/write.rt:54:5
 put-checks-requires : tie.Need-put-checks-requires
 put-checks-requires c κs = search needs
 
--- src/write.rt:55:10
 add-result : tie.Need-add-result
 add-result c = search needs
 
--- src/write.rt:55:5
 mul-result : tie.Need-mul-result
 mul-result c = search needs
 
--- src/write.rt:46:1
 same-length : tie.Need-same-length
 same-length c = search needs
 
--- src/write.rt:46:1
 returns : tie.Need-returns
 returns c =
     let a = c .before .before .before .before .before .before .before .before .before .before .before .before .before .before .before .before .before .args in

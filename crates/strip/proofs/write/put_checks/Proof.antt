@@ -8,9 +8,6 @@ use Rattle.strip.specs.Writing.{Placed}
 use Rattle.strip.proofs.Placing.{placed-0, placed-more}
 use Rattle.strip.proofs.write.put_checks.Statement.{statement}
 use Rattle.strip.proofs.write.put_checks.Tie as tie
-use Rattle.strip.proofs.write.put_checks.Reads as reads
-use Rattle.strip.proofs.write.put_checks.Lts as lts
-use Rattle.strip.proofs.write.check_byte.Reads as check-byte-reads
 
 abbrev Inv-loop : tie.InvT-loop
 Inv-loop x₀ k c from to p₀ x p = (from ≡ 4 * k) × (to ≡ 4 * (k + 5)) × (from ≤ p) × (p ≤ to) × Placed from p (λ q. getD (unpacked (getD c (q % 4) 0)) ((q - from) / 4) 0) x₀ x
@@ -18,60 +15,47 @@ Inv-loop x₀ k c from to p₀ x p = (from ≡ 4 * k) × (to ≡ 4 * (k + 5)) ×
 abbrev μ-loop : tie.MeasureT-loop
 μ-loop x₀ k c from to p₀ x p = to - p
 
--- src/write.rt:38:16
 mul-from : tie.Need-mul-from Inv-loop μ-loop
 mul-from c = search needs
 
--- src/write.rt:39:14
 add-to : tie.Need-add-to Inv-loop μ-loop
 add-to c = search needs
 
--- src/write.rt:41:5
 loop-holds : tie.Need-loop-holds Inv-loop μ-loop
 loop-holds c =
     let a = c .before .args in
     (refl, omega arith, omega arith, omega arith, placed-0 (4 * a .k) (λ q. getD (unpacked (getD (a .t3) (q % 4) 0)) ((q - 4 * a .k) / 4) 0) (a .x .now))
 
--- src/write.rt:42:27
 mul-check-byte : tie.Need-mul-check-byte Inv-loop μ-loop
 mul-check-byte c = search needs
 
--- src/write.rt:42:27
 array-read-check-byte : tie.Need-array-read-check-byte Inv-loop μ-loop
 array-read-check-byte c = search needs
 
--- src/write.rt:42:38
 sub-check-byte : tie.Need-sub-check-byte Inv-loop μ-loop
 sub-check-byte c = search needs
 
--- src/write.rt:42:16
 check-byte-requires : tie.Need-check-byte-requires Inv-loop μ-loop
 check-byte-requires c κs = omega arith
 
--- src/write.rt:42:9
 slice-write-x : tie.Need-slice-write-x Inv-loop μ-loop
 slice-write-x c = omega (arith, c .before .before .loop .inv .4 .long)
 
--- src/write.rt:43:9
 add-p : tie.Need-add-p Inv-loop μ-loop
 add-p c = search needs
 
--- src/write.rt:41:5
 loop-less : tie.Need-loop-less Inv-loop μ-loop
 loop-less c = search needs
 
--- src/write.rt:41:5
 loop-again : tie.Need-loop-again Inv-loop μ-loop
 loop-again c =
     let l = c .before .before .loop in
     let a = c .before .before .before .before .args in
     (omega arith, omega arith, omega arith, omega arith, placed-more (4 * a .k) (λ q. getD (unpacked (getD (a .t3) (q % 4) 0)) ((q - 4 * a .k) / 4) 0) (a .x .now) (l .x) (l .p) (c .check-byte .result) (omega arith) (omega arith) (c .check-byte .ensures) (l .inv .4))
 
--- src/write.rt:34:1
 same-length : tie.Need-same-length Inv-loop μ-loop
 same-length c = c .before .loop .inv .4 .long
 
--- src/write.rt:34:1
 returns : tie.Need-returns Inv-loop μ-loop
 returns c =
     let l = c .before .loop in

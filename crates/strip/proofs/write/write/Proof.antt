@@ -6,38 +6,28 @@ use Rattle.record.proofs.Answers.{lent-level}
 use borrow.Author.Needs.{needs}
 use Rattle.strip.proofs.write.write.Statement.{statement}
 use Rattle.strip.proofs.write.write.Tie as tie
-use Rattle.strip.proofs.write.write.Reads as reads
-use Rattle.strip.proofs.write.write.Lts as lts
-use Rattle.record.proofs.check.Reads as check-reads
-use Rattle.strip.proofs.write.lay.Reads as lay-reads
 
--- src/write.rt:64:9
 returns : tie.Need-returns
 returns c =
     let a = c .before .before .before .args in
     wrote-none (a .w) (a .h) (a .par) (a .tiles .now) (a .out .now) 4 (λ z. omega arith) (inl ((λ k. omega (arith, k, c .if1 .taken)), refl))
 
--- src/write.rt:66:9
 check-requires : tie.Need-check-requires
 check-requires c κs = search needs
 
--- src/write.rt:68:9
 returns-2 : tie.Need-returns-2
 returns-2 c =
     let a = c .before .before .before .before .before .args in
     wrote-none (a .w) (a .h) (a .par) (a .tiles .now) (a .out .now) (c .before .check .result) (c .if2 .taken) (inr (omega (arith, c .before .before .if1 .left), c .before .check .ensures))
 
--- src/write.rt:70:21
 lay-requires : tie.Need-lay-requires
 lay-requires c κs =
     let a = c .before .before .before .before .before .before .args in
     (lent-level (a .w) (a .h) (a .par) (a .tiles .now) (c .before .before .check .result) (c .before .if2 .left) (c .before .before .check .ensures), omega (arith, c .before .before .before .if1 .left))
 
--- src/write.rt:60:1
 same-length : tie.Need-same-length
 same-length c = search needs
 
--- src/write.rt:60:1
 returns-3 : tie.Need-returns-3
 returns-3 c =
     let a = c .before .before .before .before .before .before .before .before .before .args in

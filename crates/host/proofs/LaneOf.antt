@@ -1,12 +1,11 @@
 -- A slice copied to a lane and back, and the answers of a lane's repair.
 use mathlib.Core.Path.{_≡_, refl, sym, ap, _∙_}
 use mathlib.Core.Logic.{inl, inr}
-use mathlib.Core.List.{List, [], _∷_, _++_}
-use Prim.Native.Nat.{ℕ, _+_, _*_, _%_, _≤_, _<_}
-use native.Mathlib.Numerals.{add-one}
+use mathlib.Core.List.{List, _++_, append-nil}
+use Prim.Native.Nat.{ℕ, _+_, _*_, _-_, _%_, _≤_}
 use native.Mathlib.Omega.{arith}
-use lib.ListN.{length, getD, take, set}
-use lib.Seq.{take-suc, take-suc-set, take-length}
+use lib.ListN.{length, take, drop}
+use lib.Seq.{take-at, drop-length, length-take-le}
 use Rattle.code.specs.Refusal.{First, refused}
 use Rattle.code.specs.Word.{Within}
 use Rattle.code.specs.Repair.{repairedNumbers, repairing}
@@ -18,22 +17,18 @@ use Rattle.host.specs.Packed.{packed, LaneExport}
 
 -- ---- copies
 
--- one more element copied
-pub front-more : (t d : List ℕ) (i : ℕ) → i < length t → i < length d → take i t ≡ take i d → take (i + 1) (set t i (getD d i 0)) ≡ take (i + 1) d
-front-more t d i ht hd e =
-    ap (λ (k : ℕ). take k (set t i (getD d i 0))) (add-one i)
-    ∙ take-suc-set t i (getD d i 0) ht
-    ∙ ap (λ (x : List ℕ). x ++ getD d i 0 ∷ []) e
-    ∙ sym (take-suc d i 0 hd)
-    ∙ ap (λ (k : ℕ). take k d) (sym (add-one i))
+-- a slice in front of a lane's bytes
+pub lane-holds : (s o x : List ℕ) → x ≡ s ++ drop (length s) o → take (length s) x ≡ s
+lane-holds s o x e = ap (take (length s)) e ∙ take-at s (drop (length s) o) (length s) refl
 
--- all of d is copied
-pub front-whole : (t d : List ℕ) (i : ℕ) → i ≡ length d → take i t ≡ take i d → take (length d) t ≡ d
-front-whole t d i h e = ap (λ (k : ℕ). take k t) (sym h) ∙ e ∙ ap (λ (k : ℕ). take k d) h ∙ take-length d
-
--- all of t is written
-pub whole-front : (t d : List ℕ) (i n : ℕ) → i ≡ n → i ≡ length t → take i t ≡ take i d → t ≡ take n d
-whole-front t d i n h ht e = sym (take-length t) ∙ ap (λ (k : ℕ). take k t) (sym ht) ∙ e ∙ ap (λ (k : ℕ). take k d) h
+-- a lane's word over a slice of its length
+pub slice-holds : (b o x : List ℕ) (n : ℕ) → n ≡ length o → n ≤ length b → x ≡ take (n - 0) b ++ drop (length (take (n - 0) b)) o → x ≡ take n b
+slice-holds b o x n e h p =
+    p ∙ ap (λ (k : ℕ). take k b ++ drop (length (take k b)) o) z ∙ ap (λ (k : ℕ). take n b ++ drop k o) (length-take-le n b h ∙ e) ∙ ap (λ (l : List ℕ). take n b ++ l) (drop-length o)
+    ∙ append-nil (take n b)
+  where
+    z : n - 0 ≡ n
+    z = omega arith
 
 -- ---- answers
 

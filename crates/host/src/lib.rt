@@ -89,11 +89,7 @@ fn lane_of(s: &[u8]) -> Lane
     ensures { λ r. ⌜ (r .len ≡ length (now (s .entry))) × (wordOf r ≡ now (s .entry)) ⌝ }
 {
     let mut bytes = [0u8; 96];
-    let mut i = 0;
-    while i < s.len() {
-        bytes[i] = s[i];
-        i += 1;
-    }
+    code::word::put_data(s, &mut bytes);
     Lane {
         bytes,
         len: s.len(),
@@ -107,11 +103,7 @@ fn put_back(lane: Lane, s: &mut [u8])
 {
     let n = lane.len;
     let bytes = lane.bytes;
-    let mut i = 0;
-    while i < n {
-        s[i] = bytes[i];
-        i += 1;
-    }
+    code::word::put_data(&bytes[0..n], s);
 }
 
 // Repairs a lane of at most 96 bytes in place.

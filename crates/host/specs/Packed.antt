@@ -12,7 +12,7 @@ use Rattle.code.specs.Repair.{repairedNumbers, repairing, RepairsAs}
 use Rattle.level.specs.Reading.{ReadNumbers}
 use Rattle.record.specs.Writing.{RecordWritesAs}
 use Rattle.record.specs.Reading.{readNumbers, RecordReadsAs}
-use Rattle.record.specs.declared.RecordRead.{RecordRead}
+use Rattle.record.specs.declared.read.RecordRead.{RecordRead}
 use Rattle.strip.specs.Writing.{StripWritesAs}
 use Rattle.strip.specs.Reading as strips
 use Rattle.strip.specs.declared.read.Reading.{Reading}

@@ -14,7 +14,7 @@ use code::lane::Lane;
 use code::repair::Repaired;
 use code::word::Tested;
 use code::word::Written;
-use record::RecordRead;
+use record::read::RecordRead;
 use strip::read::Reading;
 
 // A code in the lowest five bits, and a value from bit 55 on.
@@ -178,7 +178,7 @@ pub extern "C" fn zav_record_write(
 ) -> u64
     ensures { λ r. ⌜ RecordExport width height par (now (tiles .entry)) (now («record» .entry)) (now («record» .exit)) r ⌝ }
 {
-    pack_written(record::write(width, height, par, tiles, record))
+    pack_written(record::write::write(width, height, par, tiles, record))
 }
 
 // The numbers of a reader, each at its place.
@@ -231,7 +231,7 @@ fn pack_reading(a: Reading) -> u64
 pub extern "C" fn zav_record_read(record: &[u8], tiles: &mut [u8]) -> u64
     ensures { λ r. ⌜ RecordReadExport (now («record» .entry)) (now (tiles .entry)) (now (tiles .exit)) r ⌝ }
 {
-    pack_level(record::read(record, tiles))
+    pack_level(record::read::read(record, tiles))
 }
 
 // Writes the strip of a level.

@@ -9,8 +9,8 @@ use Rattle.level.specs.Record.{fieldAt}
 use Rattle.level.specs.Reading.{tilesIn, tilesOf, Headed, Shaped, judging}
 use Rattle.level.proofs.Windows.{field-below}
 use Rattle.code.specs.Refusal.{First}
-use Rattle.record.specs.declared.Head.{Head}
-use Rattle.record.specs.declared.Judged.{Judged}
+use Rattle.record.specs.declared.read.Head.{Head}
+use Rattle.record.specs.declared.read.Judged.{Judged}
 use Rattle.record.specs.Writing.{boarding}
 use Rattle.record.specs.Reading.{Heads, Unpacks, without, JudgedAs}
 use Rattle.record.proofs.Tiles.{area-small}

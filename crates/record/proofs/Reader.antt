@@ -17,8 +17,8 @@ use Rattle.level.specs.Strip.{columns}
 use Rattle.level.specs.Reading.{tilesOf, levelOf, Headed, Shaped, judging, readingRecord}
 use Rattle.level.proofs.Fields.{same-level}
 use Rattle.level.proofs.Judged.{length-tiles, spelled-record, spelled-level}
-use Rattle.record.specs.declared.Judged.{Judged}
-use Rattle.record.specs.declared.RecordRead.the-variants as read
+use Rattle.record.specs.declared.read.Judged.{Judged}
+use Rattle.record.specs.declared.read.RecordRead.the-variants as read
 use Rattle.record.specs.Reading.{RecordReadsAs, JudgedAs, AcceptedAs}
 
 -- what is not refused has passed every rule

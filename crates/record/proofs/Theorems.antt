@@ -18,8 +18,8 @@ use Rattle.code.specs.Refusal.{First}
 use Rattle.code.specs.Word.{Within, writtenNumbers}
 use Rattle.code.specs.declared.word.Written.{Written}
 use Rattle.code.proofs.Theorems.{first-fixes, decided, either, written-zero}
-use Rattle.record.specs.declared.RecordRead.{RecordRead}
-use Rattle.record.specs.declared.RecordRead.the-variants as read
+use Rattle.record.specs.declared.read.RecordRead.{RecordRead}
+use Rattle.record.specs.declared.read.RecordRead.the-variants as read
 use Rattle.record.specs.Writing.{lent, writingLevel, RecordWritesAs}
 use Rattle.record.specs.Reading.{readNumbers, RecordReadsAs}
 use Rattle.record.proofs.Tiles.{area-small}

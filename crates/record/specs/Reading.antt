@@ -7,10 +7,10 @@ use Rattle.level.specs.Level.{IsLevel}
 use Rattle.level.specs.Record.{fieldAt, IsRecord}
 use Rattle.level.specs.Reading.{tilesOf, judging, readingRecord, ReadNumbers, refusedAt, returned}
 use Rattle.code.specs.Refusal.{First}
-use Rattle.record.specs.declared.RecordRead.{RecordRead}
-use Rattle.record.specs.declared.RecordRead.the-variants as read
-use Rattle.record.specs.declared.Head.{Head}
-use Rattle.record.specs.declared.Judged.{Judged}
+use Rattle.record.specs.declared.read.RecordRead.{RecordRead}
+use Rattle.record.specs.declared.read.RecordRead.the-variants as read
+use Rattle.record.specs.declared.read.Head.{Head}
+use Rattle.record.specs.declared.read.Judged.{Judged}
 
 -- "The record reader returns the first three": a record has no lanes, and nothing in it is mended
 abbrev pub readNumbers : RecordRead → ReadNumbers

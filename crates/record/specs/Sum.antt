@@ -6,7 +6,7 @@ use Prim.Native.Nat.{ℕ, _+_, _*_, _<_}
 use lib.Dec.{ltb}
 use lib.ListN.{getD}
 use Rattle.level.specs.Tile.{Row, adds}
-use Rattle.record.specs.declared.Adds.{Adds}
+use Rattle.record.specs.declared.tile.Adds.{Adds}
 
 pub record Same (r : Adds) (row : Row) : Type 0 where
   pub player-is : r .player ≡ row .player

@@ -15,7 +15,7 @@ use Rattle.level.specs.Level.{Level, AllTiles, Playable}
 use Rattle.level.specs.Strip.{Reached, mendedOf, wearOf}
 use Rattle.level.specs.Reading.{ReadNumbers, refusedAt, returned, entering, mending, judging, Mends, Lowest, dataOf, tilesOf, levelOf, Headed, Shaped}
 use Rattle.level.proofs.Mended.{mendable, level-reached, passing, found, none-reached}
-use Rattle.record.specs.declared.Judged.{Judged}
+use Rattle.record.specs.declared.read.Judged.{Judged}
 use Rattle.record.specs.Reading.{AcceptedAs}
 use Rattle.record.proofs.Reader.{passed, level-is, tiles-past}
 use Rattle.lanes.specs.Lanes.{Ready}

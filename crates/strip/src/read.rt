@@ -88,7 +88,7 @@ fn finish(bs: &[u8], n: usize, mended: usize, tiles: &mut [u8]) -> Reading
     requires { ⌜ (4 ≤ length (now bs)) × (length (now bs) ≤ 364) × (961 ≤ length (now tiles)) × (mended ≤ 8) × (24 ≤ n) × (n ≤ 384) ⌝ }
     ensures { λ r. ⌜ FinishedAs (now (bs .entry)) n mended (now (tiles .entry)) (now (tiles .exit)) (readNumbers r) ⌝ }
 {
-    let j = record::accept(bs, 4, tiles);
+    let j = record::read::accept(bs, 4, tiles);
     let code = j.code;
     if code != 0 {
         return Reading::Refused { code, lane: 0 };

@@ -47,7 +47,7 @@ fn lay(w: usize, h: usize, par: usize, tiles: &[u8], out: &mut [u8]) -> usize
     requires { ⌜ IsLevel (lent w h par (now tiles)) × (384 ≤ length (now out)) ⌝ }
     ensures { λ r. ⌜ LaidAs w h par (now (tiles .entry)) (now (out .entry)) (now (out .exit)) r ⌝ }
 {
-    let b = record::put_record(w, h, par, tiles, out);
+    let b = record::write::put_record(w, h, par, tiles, out);
     let k = (b + 3) / 4;
     fill(out, b, 4 * k);
     let c = remainder::lane_checks_of(&out[0..4 * k]);
@@ -62,7 +62,7 @@ pub fn write(w: usize, h: usize, par: usize, tiles: &[u8], out: &mut [u8]) -> Wr
     if out.len() < 384 {
         return Written::Refused(4);
     }
-    let code = record::check(w, h, par, tiles);
+    let code = record::write::check(w, h, par, tiles);
     if code != 0 {
         return Written::Refused(code);
     }

@@ -1,5 +1,5 @@
 use mathlib.Core.Path.{sym, ap, _∙_}
-use Rattle.record.specs.declared.RecordRead.{RecordRead}
+use Rattle.record.specs.declared.read.RecordRead.{RecordRead}
 use Rattle.record.specs.Reading.{readNumbers}
 use Rattle.host.specs.Packed.{packedRead}
 use borrow.Author.Needs.{needs}

@@ -1,0 +1,202 @@
+// Reading a record: judged first, and its tiles written only where nothing is refused.
+ghost use mathlib.Core.Path.{_≡_};
+ghost use Prim.Native.Nat.{ℕ, _+_, _*_, _≤_, _<_};
+ghost use lib.ListN.{length};
+ghost use lib.Seq.{sets};
+ghost use Rattle.errata.specs.Errata.{Says};
+ghost use Rattle.level.specs.Record.{bitAt, fieldAt};
+ghost use Rattle.level.specs.Reading.{Shaped};
+ghost use Rattle.record.specs.Reading.{Heads, eight, Unpacks, without, JudgedAs, AcceptedAs, RecordReadsAs};
+
+// The fields in front of the tiles.
+pub struct Head {
+    pub version: usize,
+    pub width: usize,
+    pub height: usize,
+    pub par: usize,
+}
+
+fn head_of(bs: &[u8]) -> Head
+    requires { ⌜ 3 ≤ length (now bs) ⌝ }
+    ensures { λ r. ⌜ Heads (now (bs .entry)) r ⌝ }
+{
+    let a = bs[0] as usize;
+    let b = bs[1] as usize;
+    let c = bs[2] as usize;
+    Head {
+        version: a / 16,
+        width: a % 16 * 2 + b / 128,
+        height: b / 4 % 32,
+        par: b % 4 * 256 + c,
+    }
+}
+
+// The eight tiles that three bytes spell, from tile k on.
+fn put_eight(board: &mut [u8], k: usize, x: u8, y: u8, z: u8)
+    requires { ⌜ k + 8 ≤ length (now board) ⌝ }
+    ensures { λ _. ⌜ now (board .exit) ≡ sets (now (board .entry)) k (eight x y z) ⌝ }
+{
+    board[k] = x / 32;
+    board[k + 1] = x / 4 % 8;
+    board[k + 2] = x % 4 * 2 + y / 128;
+    board[k + 3] = y / 16 % 8;
+    board[k + 4] = y / 2 % 8;
+    board[k + 5] = y % 2 * 4 + z / 64;
+    board[k + 6] = z / 8 % 8;
+    board[k + 7] = z % 8;
+}
+
+// The first m tiles, one byte each, of a record's part from byte 3; what is left of the last eight may be written too.
+fn unpack(part: &[u8], m: usize, board: &mut [u8])
+    requires { ⌜ (m ≤ 961) × (968 ≤ length (now board)) ⌝ }
+    ensures { λ _. ⌜ Unpacks (now (part .entry)) m (now (board .exit)) ⌝ }
+{
+    let mut g: usize = 0;
+    while 8 * g < m {
+        let x = super::tile::cell(part, 3 * g);
+        let y = super::tile::cell(part, 3 * g + 1);
+        let z = super::tile::cell(part, 3 * g + 2);
+        put_eight(board, 8 * g, x, y, z);
+        g += 1;
+    }
+}
+
+// Bit p, the most significant of each byte first.
+fn bit(bs: &[u8], p: usize) -> u8
+    requires { ⌜ p < 8 * length (now bs) ⌝ }
+    ensures { λ r. ⌜ r ≡ bitAt (now (bs .entry)) p ⌝ }
+{
+    let at = p / 8;
+    let b = bs[at];
+    (b >> (7 - p % 8)) % 2
+}
+
+// No bit is set from a place on.
+fn blank(bs: &[u8], from: usize) -> bool
+    requires { ⌜ length (now bs) ≤ 364 ⌝ }
+    ensures { λ r. ⌜ Says r ((p : ℕ) → from ≤ p → p < 8 * length (now (bs .entry)) → bitAt (now (bs .entry)) p ≡ 0) ⌝ }
+{
+    let end = 8 * bs.len();
+    let mut p = from;
+    while p < end {
+        if bit(bs, p) != 0 {
+            return false;
+        }
+        p += 1;
+    }
+    true
+}
+
+// The length is that of the size, and what is left over is blank.
+fn shaped(bs: &[u8], lanes: usize, m: usize) -> bool
+    requires { ⌜ (length (now bs) ≤ 364) × (1 ≤ lanes) × (lanes ≤ 16) × (m ≡ fieldAt (now bs) 4 5 * fieldAt (now bs) 9 5) × (m ≤ 961) ⌝ }
+    ensures { λ r. ⌜ Says r (Shaped lanes (now (bs .entry))) ⌝ }
+{
+    let n = 3 + (3 * m + 7) / 8;
+    if bs.len() != lanes * ((n + (lanes - 1)) / lanes) {
+        return false;
+    }
+    blank(bs, 24 + 3 * m)
+}
+
+// What judging a record brings: a refusal's number, and what it spells where that is 0.
+pub struct Judged {
+    pub code: u8,
+    pub width: usize,
+    pub height: usize,
+    pub par: usize,
+}
+
+fn refused(code: u8) -> Judged
+    ensures { λ r. ⌜ r ≡ without code ⌝ }
+{
+    Judged {
+        code: code,
+        width: 0,
+        height: 0,
+        par: 0,
+    }
+}
+
+// Refusals 7 to 10 of a record, or of the data cells of a strip of that many lanes. Its tiles are put on the board.
+fn judge(bs: &[u8], lanes: usize, board: &mut [u8]) -> Judged
+    requires { ⌜ (4 ≤ length (now bs)) × (length (now bs) ≤ 364) × (1 ≤ lanes) × (lanes ≤ 16) × (968 ≤ length (now board)) ⌝ }
+    ensures { λ r. ⌜ JudgedAs lanes (now (bs .entry)) (now (board .exit)) r ⌝ }
+{
+    let f = head_of(bs);
+    if f.version != 1 {
+        return refused(7);
+    }
+    if f.width < 1 {
+        return refused(7);
+    }
+    if f.height < 1 {
+        return refused(7);
+    }
+    let m = f.width * f.height;
+    if !shaped(bs, lanes, m) {
+        return refused(8);
+    }
+    unpack(&bs[3..], m, board);
+    let code = super::tile::board_code(&board[0..m]);
+    if code != 0 {
+        return refused(code);
+    }
+    Judged {
+        code: 0,
+        width: f.width,
+        height: f.height,
+        par: f.par,
+    }
+}
+
+// What reading a record answers: a level, its tiles in the buffer, or a refusal's number.
+pub enum RecordRead {
+    Level {
+        width: usize,
+        height: usize,
+        par: usize,
+    },
+    Refused(u8),
+}
+
+// The record judged, or the data cells of a strip of that many lanes; its tiles are written only where nothing is refused.
+pub fn accept(bs: &[u8], lanes: usize, tiles: &mut [u8]) -> Judged
+    requires { ⌜ (4 ≤ length (now bs)) × (length (now bs) ≤ 364) × (1 ≤ lanes) × (lanes ≤ 16) × (961 ≤ length (now tiles)) ⌝ }
+    ensures { λ r. ⌜ AcceptedAs lanes (now (bs .entry)) (now (tiles .entry)) (now (tiles .exit)) r ⌝ }
+{
+    let mut board = [0u8; 968];
+    let j = judge(bs, lanes, &mut board);
+    let refusal = j.code;
+    if refusal != 0 {
+        return j;
+    }
+    let m = j.width * j.height;
+    code::word::put_data(&board[0..m], tiles);
+    j
+}
+
+// Reads a record.
+pub fn read(bytes: &[u8], tiles: &mut [u8]) -> RecordRead
+    ensures { λ r. ⌜ RecordReadsAs (now (bytes .entry)) (now (tiles .entry)) (now (tiles .exit)) r ⌝ }
+{
+    if bytes.len() < 4 {
+        return RecordRead::Refused(1);
+    }
+    if 364 < bytes.len() {
+        return RecordRead::Refused(1);
+    }
+    if tiles.len() < 961 {
+        return RecordRead::Refused(4);
+    }
+    let j = accept(bytes, 1, tiles);
+    let code = j.code;
+    if code != 0 {
+        return RecordRead::Refused(code);
+    }
+    RecordRead::Level {
+        width: j.width,
+        height: j.height,
+        par: j.par,
+    }
+}

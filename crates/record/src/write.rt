@@ -1,0 +1,121 @@
+// Writing a record: a level, bit-packed.
+ghost use mathlib.Core.Path.{_≡_};
+ghost use mathlib.Core.List.{_++_};
+ghost use Prim.Native.Nat.{_+_, _*_, _≤_, _<_};
+ghost use lib.ListN.{length, getD, drop};
+ghost use lib.Seq.{sets};
+ghost use Rattle.errata.specs.Errata.{Says};
+ghost use Rattle.code.specs.Refusal.{First};
+ghost use Rattle.level.specs.Level.{Sized, AllTiles, IsLevel};
+ghost use Rattle.level.specs.Record.{recordLength};
+ghost use Rattle.level.specs.Written.{recordOf};
+ghost use Rattle.record.specs.Writing.{lent, Ranged, lending, RecordWritesAs, headBytes, TileByte};
+use code::word::Written;
+
+fn ranged(w: usize, h: usize, par: usize) -> bool
+    ensures { λ r. ⌜ Says r (Ranged w h par) ⌝ }
+{
+    if w < 1 {
+        return false;
+    }
+    if 31 < w {
+        return false;
+    }
+    if h < 1 {
+        return false;
+    }
+    if 31 < h {
+        return false;
+    }
+    if 1023 < par {
+        return false;
+    }
+    true
+}
+
+// The bytes of a record.
+fn record_length(w: usize, h: usize) -> usize
+    requires { ⌜ Sized w h ⌝ }
+    ensures { λ r. ⌜ (r ≡ recordLength w h) × (r ≤ 364) ⌝ }
+{
+    3 + (3 * (w * h) + 7) / 8
+}
+
+// Version, width, height and par.
+fn put_head(w: usize, h: usize, par: usize, out: &mut [u8])
+    requires { ⌜ (w ≤ 31) × (h ≤ 31) × (par ≤ 1023) × (3 ≤ length (now out)) ⌝ }
+    ensures { λ _. ⌜ now (out .exit) ≡ sets (now (out .entry)) 0 (headBytes w h par) ⌝ }
+{
+    out[0] = (16 + w / 2) as u8;
+    out[1] = (w % 2 * 128 + h * 4 + par / 256) as u8;
+    out[2] = (par % 256) as u8;
+}
+
+// Tile i, and floor past the end.
+fn tile_at(tiles: &[u8], i: usize) -> u8
+    requires { ⌜ AllTiles (now tiles) ⌝ }
+    ensures { λ r. ⌜ (r ≡ getD (now (tiles .entry)) i 0) × (r ≤ 6) ⌝ }
+{
+    super::tile::cell(tiles, i)
+}
+
+// Byte b of the tiles. Eight tiles make three bytes.
+fn tile_byte(tiles: &[u8], b: usize) -> u8
+    requires { ⌜ AllTiles (now tiles) × (b ≤ 364) ⌝ }
+    ensures { λ r. ⌜ TileByte (now (tiles .entry)) b r ⌝ }
+{
+    let k = b / 3 * 8;
+    if b % 3 == 0 {
+        return tile_at(tiles, k) * 32 + tile_at(tiles, k + 1) * 4 + tile_at(tiles, k + 2) / 2;
+    }
+    if b % 3 == 1 {
+        return tile_at(tiles, k + 2) % 2 * 128
+            + tile_at(tiles, k + 3) * 16
+            + tile_at(tiles, k + 4) * 2
+            + tile_at(tiles, k + 5) / 4;
+    }
+    tile_at(tiles, k + 5) % 4 * 64 + tile_at(tiles, k + 6) * 8 + tile_at(tiles, k + 7)
+}
+
+// The record of a level, in the first bytes of a buffer; its length is returned.
+pub fn put_record(w: usize, h: usize, par: usize, tiles: &[u8], out: &mut [u8]) -> usize
+    requires { ⌜ IsLevel (lent w h par (now tiles)) × (recordLength w h ≤ length (now out)) ⌝ }
+    ensures { λ r. ⌜ (r ≡ recordLength w h) × (r ≤ 364) × (now (out .exit) ≡ recordOf (lent w h par (now (tiles .entry))) ++ drop r (now (out .entry))) ⌝ }
+{
+    let n = record_length(w, h);
+    put_head(w, h, par, out);
+    let mut q: usize = 3;
+    while q < n {
+        out[q] = tile_byte(tiles, q - 3);
+        q += 1;
+    }
+    n
+}
+
+// Refusals 7 to 10 of a writer.
+pub fn check(w: usize, h: usize, par: usize, tiles: &[u8]) -> u8
+    ensures { λ r. ⌜ First (lending w h par (now (tiles .entry))) r ⌝ }
+{
+    if !ranged(w, h, par) {
+        return 7;
+    }
+    if tiles.len() != w * h {
+        return 8;
+    }
+    super::tile::board_code(tiles)
+}
+
+// Writes the record of a level.
+pub fn write(w: usize, h: usize, par: usize, tiles: &[u8], out: &mut [u8]) -> Written
+    ensures { λ r. ⌜ RecordWritesAs w h par (now (tiles .entry)) (now (out .entry)) (now (out .exit)) r ⌝ }
+{
+    if out.len() < 364 {
+        return Written::Refused(4);
+    }
+    let code = check(w, h, par, tiles);
+    if code != 0 {
+        return Written::Refused(code);
+    }
+    let n = put_record(w, h, par, tiles, out);
+    Written::Length(n)
+}

@@ -1,7 +1,7 @@
 -- The numbers of an answer, packed in one.
 use mathlib.Core.Path.{_≡_}
 use mathlib.Core.List.{List}
-use Prim.Native.Nat.{ℕ, _+_, _*_, _%_, _^_}
+use Prim.Native.Nat.{ℕ, _+_, _*_, _/_, _%_, _^_}
 use lib.ListN.{length, getD}
 use Rattle.account.specs.Code.{Clean}
 use Rattle.account.specs.Reach.{differing, Reach}
@@ -31,6 +31,21 @@ packed k a = packedAt k (a .code) (a .value)
 abbrev pub packedRead : ReadNumbers → ℕ
 packedRead n =
     n .code % 32 + n .lane % 16 * 2 ^ 5 + n .width % 32 * 2 ^ 11 + n .height % 32 * 2 ^ 16 + n .par % 1024 * 2 ^ 21 + n .mended % 64 * 2 ^ 31 + n .wear % 64 * 2 ^ 44
+
+-- the numbers taken out again, as the header does
+abbrev pub unpacked : ℕ → ℕ → Numbers
+unpacked k r = record { code = r % 32; value = r / 2 ^ k % 512 }
+
+abbrev pub unpackedRead : ℕ → ReadNumbers
+unpackedRead r = record {
+  code = r % 32;
+  lane = r / 2 ^ 5 % 16;
+  width = r / 2 ^ 11 % 32;
+  height = r / 2 ^ 16 % 32;
+  par = r / 2 ^ 21 % 1024;
+  mended = r / 2 ^ 31 % 64;
+  wear = r / 2 ^ 44 % 64;
+}
 
 -- five bytes, the first in the lowest place
 abbrev pub packedSums : List ℕ → ℕ

@@ -69,6 +69,12 @@ module _ (s marks tiles tiles' scratch scratch' : List ℕ) (legal : Legal 4 (le
         levels.six-refused 4 (omega arith) marks s (omega (arith, legal .to, legal .cells)) (lent w h par lent-tiles) (returned (readNumbers a) tiles') (take (stripLength w h) new)
         (A .level z .strip) j matched (W .strip zb) (W .strip zb .size ∙ e) hj six (A .level z .reached)
 
+-- with a refusal all but the code and the lane is zero
+pub zeros : (x : Reading) → readNumbers x .code ≢ 0
+    → (readNumbers x .width ≡ 0) × (readNumbers x .height ≡ 0) × (readNumbers x .par ≡ 0) × (readNumbers x .mended ≡ 0) × (readNumbers x .wear ≡ 0)
+zeros (reading.Read w h p e v) n = absurd (n refl)
+zeros (reading.Refused c j) n = (refl, refl, refl, refl, refl)
+
 -- The promise of the reader fixes every number, and every byte but those of the scratch.
 module _ (s marks tiles t1 t2 scratch s1 s2 : List ℕ) (a b : Reading) (A : StripReadsAs s marks tiles t1 scratch s1 a) (B : StripReadsAs s marks tiles t2 scratch s2 b) where
   codes : readNumbers a .code ≡ readNumbers b .code
@@ -84,12 +90,6 @@ module _ (s marks tiles t1 t2 scratch s1 s2 : List ℕ) (a b : Reading) (A : Str
       ∙ ap₂ (λ (i j : ℕ). numbers (y .code) (y .lane) i j (x .par) (x .mended) (x .wear)) w h
       ∙ ap₂ (λ (i j : ℕ). numbers (y .code) (y .lane) (y .width) (y .height) i j (x .wear)) p m
       ∙ ap (λ (i : ℕ). numbers (y .code) (y .lane) (y .width) (y .height) (y .par) (y .mended) i) v
-
-  -- with a refusal all but the code and the lane is zero
-  zeros : (x : Reading) → readNumbers x .code ≢ 0
-      → (readNumbers x .width ≡ 0) × (readNumbers x .height ≡ 0) × (readNumbers x .par ≡ 0) × (readNumbers x .mended ≡ 0) × (readNumbers x .wear ≡ 0)
-  zeros (reading.Read w h p e v) n = absurd (n refl)
-  zeros (reading.Refused c j) n = (refl, refl, refl, refl, refl)
 
   -- the lowest lane is one
   lowest : (i j : ℕ) → Lowest 4 marks s i → Lowest 4 marks s j → i ≡ j

@@ -13,13 +13,13 @@ use Rattle.account.proofs.Lanes.{length-lane}
 use Rattle.code.specs.Refusal.{Rule, First, Numbers}
 use Rattle.level.specs.Strip.{StripReach, wrongIn, mendedOf}
 use Rattle.level.specs.Reading.{ReadNumbers}
-use Rattle.host.specs.Packed.{packed, packedRead, unpacked, unpackedRead}
+use Rattle.host.specs.Packed.{packedLength, packedMended, packedRead, unpackedLength, unpackedMended, unpackedRead}
 
 -- ---- packing and unpacking lose nothing
 
-pub record Room (n : Numbers) : Type 0 where
+pub record Room (m : ℕ) (n : Numbers) : Type 0 where
   pub code : n .code < 32
-  pub value : n .value < 512
+  pub value : n .value < m
 
 pub record ReadRoom (n : ReadNumbers) : Type 0 where
   pub code : n .code < 32
@@ -33,8 +33,8 @@ pub record ReadRoom (n : ReadNumbers) : Type 0 where
 abbrev numbers : ℕ → ℕ → Numbers
 numbers c v = record { code = c; value = v }
 
-pub back-55 : (n : Numbers) → Room n → unpacked 55 (packed 55 n) ≡ n
-back-55 n h = ap₂ (λ (c v : ℕ). numbers c v) low high
+pub back-length : (n : Numbers) → Room 512 n → unpackedLength (packedLength n) ≡ n
+back-length n h = ap₂ (λ (c v : ℕ). numbers c v) low high
   where
     low : (n .code % 32 + n .value % 512 * 2 ^ 55) % 32 ≡ n .code
     low = omega (arith, h .code)
@@ -42,13 +42,13 @@ back-55 n h = ap₂ (λ (c v : ℕ). numbers c v) low high
     high : (n .code % 32 + n .value % 512 * 2 ^ 55) / 2 ^ 55 % 512 ≡ n .value
     high = omega (arith, h .code, h .value)
 
-pub back-31 : (n : Numbers) → Room n → unpacked 31 (packed 31 n) ≡ n
-back-31 n h = ap₂ (λ (c v : ℕ). numbers c v) low high
+pub back-mended : (n : Numbers) → Room 64 n → unpackedMended (packedMended n) ≡ n
+back-mended n h = ap₂ (λ (c v : ℕ). numbers c v) low high
   where
-    low : (n .code % 32 + n .value % 512 * 2 ^ 31) % 32 ≡ n .code
+    low : (n .code % 32 + n .value % 64 * 2 ^ 31) % 32 ≡ n .code
     low = omega (arith, h .code)
 
-    high : (n .code % 32 + n .value % 512 * 2 ^ 31) / 2 ^ 31 % 512 ≡ n .value
+    high : (n .code % 32 + n .value % 64 * 2 ^ 31) / 2 ^ 31 % 64 ≡ n .value
     high = omega (arith, h .code, h .value)
 
 abbrev reads : ℕ → ℕ → ℕ → ℕ → ℕ → ℕ → ℕ → ReadNumbers

@@ -21,14 +21,15 @@ use Rattle.record.proofs.Theorems.{written-is-level}
 use Rattle.strip.specs.Reading as strips
 use Rattle.strip.specs.declared.read.Reading.{Reading}
 use Rattle.strip.proofs.Laid.{strip-fits}
-use Rattle.strip.proofs.Theorems.{written-strip-level, zeros}
-use Rattle.host.specs.Packed.{unpacked, unpackedRead, WriteExport, TestExport, RepairExport, LaneExport, RecordExport, RecordReadExport, StripExport, StripReadExport}
-use Rattle.host.proofs.Rooms.{ReadRoom, back-55, back-31, back-read, first-small, mended-few, wear-small}
+use Rattle.strip.proofs.Reader.{zeros}
+use Rattle.strip.proofs.Theorems.{written-strip-level}
+use Rattle.host.specs.Packed.{unpackedLength, unpackedMended, unpackedRead, WriteExport, TestExport, RepairExport, LaneExport, RecordExport, RecordReadExport, StripExport, StripReadExport}
+use Rattle.host.proofs.Rooms.{ReadRoom, back-length, back-mended, back-read, first-small, mended-few, wear-small}
 
 -- ---- words
 
-pub word-write-told : (d old new : List ℕ) (r : ℕ) (E : WriteExport d old new r) → unpacked 55 r ≡ writtenNumbers (E .answer)
-word-write-told d old new r E = ap (unpacked 55) (E .is) ∙ back-55 (writtenNumbers (E .answer)) (record { code = first-small (writing d old) (writtenNumbers (E .answer) .code) (omega arith, (omega arith, tt)) (E .writes .code); value = small })
+pub word-write-told : (d old new : List ℕ) (r : ℕ) (E : WriteExport d old new r) → unpackedLength r ≡ writtenNumbers (E .answer)
+word-write-told d old new r E = ap unpackedLength (E .is) ∙ back-length (writtenNumbers (E .answer)) (record { code = first-small (writing d old) (writtenNumbers (E .answer) .code) (omega arith, (omega arith, tt)) (E .writes .code); value = small })
   where
     long : writtenNumbers (E .answer) .code ≡ 0 → length d ≤ 250
     long z = go (E .writes .code)
@@ -42,31 +43,31 @@ word-write-told d old new r E = ap (unpacked 55) (E .is) ∙ back-55 (writtenNum
         either (writtenNumbers (E .answer) .value < 512) (writtenNumbers (E .answer) .code) (λ z. omega (arith, E .writes .value z, E .writes .word z .size, long z))
         (λ n. omega (arith, written-zero (E .answer) n))
 
-pub word-test-told : (w : List ℕ) (r : ℕ) (E : TestExport w r) → unpacked 55 r ≡ testedNumbers (E .answer)
-word-test-told w r E = ap (unpacked 55) (E .is) ∙ back-55 (testedNumbers (E .answer)) (record { code = first-small (testing w) (testedNumbers (E .answer) .code) (omega arith, tt) (E .tests .code); value = small (E .answer) })
+pub word-test-told : (w : List ℕ) (r : ℕ) (E : TestExport w r) → unpackedLength r ≡ testedNumbers (E .answer)
+word-test-told w r E = ap unpackedLength (E .is) ∙ back-length (testedNumbers (E .answer)) (record { code = first-small (testing w) (testedNumbers (E .answer) .code) (omega arith, tt) (E .tests .code); value = small (E .answer) })
   where
     small : (a : Tested) → testedNumbers a .value < 512
     small tested.Clean = omega arith
     small tested.Damaged = omega arith
     small (tested.Refused c) = omega arith
 
-pub word-repair-told : (marks old new : List ℕ) (r : ℕ) (E : RepairExport marks old new r) → unpacked 31 r ≡ repairedNumbers (E .answer)
+pub word-repair-told : (marks old new : List ℕ) (r : ℕ) (E : RepairExport marks old new r) → unpackedMended r ≡ repairedNumbers (E .answer)
 word-repair-told marks old new r E =
-    ap (unpacked 31) (E .is)
-    ∙ back-31 (repairedNumbers (E .answer)) (record {
+    ap unpackedMended (E .is)
+    ∙ back-mended (repairedNumbers (E .answer)) (record {
       code = first-small (repairing 255 (length old) (length marks) marks old) (repairedNumbers (E .answer) .code) (omega arith, (omega arith, (omega arith, (omega arith, tt)))) (E .repairs .code);
       value =
-          either (repairedNumbers (E .answer) .value < 512) (repairedNumbers (E .answer) .code) (λ z. omega (arith, E .repairs .value z, E .repairs .reach z .few))
+          either (repairedNumbers (E .answer) .value < 64) (repairedNumbers (E .answer) .code) (λ z. omega (arith, E .repairs .value z, E .repairs .reach z .few))
           (λ n. omega (arith, repaired-zero (E .answer) n));
     })
 
-pub lane-repair-told : (marks old new : List ℕ) (r : ℕ) (E : LaneExport marks old new r) → unpacked 31 r ≡ repairedNumbers (E .answer)
+pub lane-repair-told : (marks old new : List ℕ) (r : ℕ) (E : LaneExport marks old new r) → unpackedMended r ≡ repairedNumbers (E .answer)
 lane-repair-told marks old new r E =
-    ap (unpacked 31) (E .is)
-    ∙ back-31 (repairedNumbers (E .answer)) (record {
+    ap unpackedMended (E .is)
+    ∙ back-mended (repairedNumbers (E .answer)) (record {
       code = first-small (repairing 96 (length old) (length marks) marks old) (repairedNumbers (E .answer) .code) (omega arith, (omega arith, (omega arith, (omega arith, tt)))) (E .code);
       value =
-          either (repairedNumbers (E .answer) .value < 512) (repairedNumbers (E .answer) .code) (λ z. omega (arith, E .value z, E .reach z .few))
+          either (repairedNumbers (E .answer) .value < 64) (repairedNumbers (E .answer) .code) (λ z. omega (arith, E .value z, E .reach z .few))
           (λ n. omega (arith, repaired-zero (E .answer) n));
     })
 
@@ -76,10 +77,10 @@ lane-repair-told marks old new r E =
 lent-small : (least w h par : ℕ) (tiles : List ℕ) (room c : ℕ) → First (writingLevel least w h par tiles room) c → c < 32
 lent-small least w h par tiles room c f = first-small (writingLevel least w h par tiles room) c (omega arith, (omega arith, (omega arith, (omega arith, (omega arith, tt))))) f
 
-pub record-write-told : (w h par : ℕ) (tiles old new : List ℕ) (r : ℕ) (E : RecordExport w h par tiles old new r) → unpacked 55 r ≡ writtenNumbers (E .answer)
+pub record-write-told : (w h par : ℕ) (tiles old new : List ℕ) (r : ℕ) (E : RecordExport w h par tiles old new r) → unpackedLength r ≡ writtenNumbers (E .answer)
 record-write-told w h par tiles old new r E =
-    ap (unpacked 55) (E .is)
-    ∙ back-55 (writtenNumbers (E .answer)) (record {
+    ap unpackedLength (E .is)
+    ∙ back-length (writtenNumbers (E .answer)) (record {
       code = lent-small 364 w h par tiles (length old) (writtenNumbers (E .answer) .code) (E .writes .code);
       value =
           either (writtenNumbers (E .answer) .value < 512) (writtenNumbers (E .answer) .code)
@@ -87,10 +88,10 @@ record-write-told w h par tiles old new r E =
           (λ n. omega (arith, written-zero (E .answer) n));
     })
 
-pub strip-write-told : (w h par : ℕ) (tiles old new : List ℕ) (r : ℕ) (E : StripExport w h par tiles old new r) → unpacked 55 r ≡ writtenNumbers (E .answer)
+pub strip-write-told : (w h par : ℕ) (tiles old new : List ℕ) (r : ℕ) (E : StripExport w h par tiles old new r) → unpackedLength r ≡ writtenNumbers (E .answer)
 strip-write-told w h par tiles old new r E =
-    ap (unpacked 55) (E .is)
-    ∙ back-55 (writtenNumbers (E .answer)) (record {
+    ap unpackedLength (E .is)
+    ∙ back-length (writtenNumbers (E .answer)) (record {
       code = lent-small 384 w h par tiles (length old) (writtenNumbers (E .answer) .code) (E .writes .code);
       value =
           either (writtenNumbers (E .answer) .value < 512) (writtenNumbers (E .answer) .code)

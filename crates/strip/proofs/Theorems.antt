@@ -27,10 +27,10 @@ use Rattle.level.proofs.Theorems as levels
 use Rattle.record.specs.Writing.{lent, writingLevel}
 use Rattle.record.proofs.Answers.{lent-level}
 use Rattle.strip.specs.declared.read.Reading.{Reading}
-use Rattle.strip.specs.declared.read.Reading.the-variants as reading
 use Rattle.strip.specs.Writing.{stripLength, StripWritesAs}
 use Rattle.strip.specs.Reading.{readNumbers, LevelRead, StripReadsAs}
 use Rattle.strip.proofs.Laid.{strip-fits}
+use Rattle.strip.proofs.Reader.{zeros}
 
 -- ---- reading
 
@@ -68,12 +68,6 @@ module _ (s marks tiles tiles' scratch scratch' : List ℕ) (legal : Legal 4 (le
     refused-at-six w h par lent-tiles old new b W zb e j hj six z =
         levels.six-refused 4 (omega arith) marks s (omega (arith, legal .to, legal .cells)) (lent w h par lent-tiles) (returned (readNumbers a) tiles') (take (stripLength w h) new)
         (A .level z .strip) j matched (W .strip zb) (W .strip zb .size ∙ e) hj six (A .level z .reached)
-
--- with a refusal all but the code and the lane is zero
-pub zeros : (x : Reading) → readNumbers x .code ≢ 0
-    → (readNumbers x .width ≡ 0) × (readNumbers x .height ≡ 0) × (readNumbers x .par ≡ 0) × (readNumbers x .mended ≡ 0) × (readNumbers x .wear ≡ 0)
-zeros (reading.Read w h p e v) n = absurd (n refl)
-zeros (reading.Refused c j) n = (refl, refl, refl, refl, refl)
 
 -- The promise of the reader fixes every number, and every byte but those of the scratch.
 module _ (s marks tiles t1 t2 scratch s1 s2 : List ℕ) (a b : Reading) (A : StripReadsAs s marks tiles t1 scratch s1 a) (B : StripReadsAs s marks tiles t2 scratch s2 b) where

@@ -78,7 +78,7 @@ struct counts {
     size_t refused, refused_by[CODES];
 };
 
-/* False if the folder cannot be listed; errno says why. */
+/* False if the folder cannot be listed. */
 static bool add_folder(struct names *n, const char *folder, struct counts *to)
 {
     DIR *dir = opendir(folder);
@@ -136,18 +136,19 @@ static void hide_progress(void)
 
 /* ---- files ---- */
 
-/* A pipe or a device in a folder could keep us waiting for ever. */
-static bool take_file(struct cells *c, const char *path)
+/* NULL, or why it cannot be read. A pipe or a device in a folder could keep us
+ * waiting for ever. */
+static const char *take_file(struct cells *c, const char *path)
 {
     struct stat about;
 
     if (stat(path, &about) != 0)
-        return false;
-    if (!S_ISREG(about.st_mode)) {
-        errno = S_ISDIR(about.st_mode) ? EACCES : EINVAL;
-        return false;
-    }
-    return take_cells_of(c, path);
+        return strerror(errno);
+    if (S_ISDIR(about.st_mode))
+        return "the folder cannot be listed";
+    if (!S_ISREG(about.st_mode))
+        return "not a plain file";
+    return take_cells_of(c, path) ? NULL : strerror(errno);
 }
 
 static void begin_line(const char *path)
@@ -179,16 +180,15 @@ static void judge(const char *path, const struct cells *c, bool quiet,
 static void scan_file(const char *path, bool quiet, struct counts *to)
 {
     struct cells c;
+    const char *why = take_file(&c, path);
 
     to->files++;
-    if (take_file(&c, path)) {
+    if (why == NULL) {
         judge(path, &c, quiet, to);
         return;
     }
     to->unreadable++;
     if (!quiet) {
-        const char *why = strerror(errno);
-
         begin_line(path);
         printf("unreadable: %s\n", why);
     }

@@ -46,7 +46,8 @@ static inline unsigned zav_par(uint64_t result)
  * written; what is past it keeps its value. Nothing is written when refused
  * (4: record_len under 364, 7: width, height or par out of range,
  * 8: tiles_len not width times height, 9: a tile code above 6, 10: not one
- * player, no crate, or crates and goals unequal).
+ * player, no crate, or crates and goals unequal), and the tiles never are.
+ * Tiles and record must not overlap.
  */
 uint64_t zav_record_write(size_t width, size_t height, size_t par,
                           const uint8_t *tiles, size_t tiles_len,
@@ -59,7 +60,7 @@ uint64_t zav_record_write(size_t width, size_t height, size_t par,
  * 4 to 364 bytes, 4: tiles_len under 961, 7: version not 1, or width or
  * height 0, 8: record_len not that of the size, or a filling bit set, 9: a
  * tile code 7, 10: not one player, no crate, or crates and goals unequal),
- * and the record never is.
+ * and the record never is. Record and tiles must not overlap.
  */
 uint64_t zav_record_read(const uint8_t *record, size_t record_len,
                          uint8_t *tiles, size_t tiles_len);

@@ -42,7 +42,8 @@ static inline unsigned zav_wear(uint64_t result)
  * written; what is past it keeps its value. Nothing is written when refused
  * (4: strip_len under 384, 7: width, height or par out of range,
  * 8: tiles_len not width times height, 9: a tile code above 6, 10: not one
- * player, no crate, or crates and goals unequal).
+ * player, no crate, or crates and goals unequal), and the tiles never are.
+ * Tiles and strip must not overlap.
  */
 uint64_t zav_strip_write(size_t width, size_t height, size_t par,
                          const uint8_t *tiles, size_t tiles_len,
@@ -64,7 +65,8 @@ uint64_t zav_strip_write(size_t width, size_t height, size_t par,
  *
  * The strip and the marks are never written, nor are the tiles when refused.
  * After 1 to 5 the scratch keeps its bytes; from 6 on, and when a level is
- * returned, its first strip_len bytes may hold anything.
+ * returned, its first strip_len bytes may hold anything and the others keep
+ * theirs. None of the four buffers may overlap another.
  */
 uint64_t zav_strip_read(const uint8_t *strip, size_t strip_len,
                         const uint8_t *marks, size_t marks_len,

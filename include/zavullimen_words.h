@@ -96,14 +96,16 @@ static inline unsigned zav_length(uint64_t result)
 /*
  * Write the data and its five check bytes to the word, and return the length
  * written; nothing is written when refused (1: data not 1 to 250 bytes,
- * 4: word_len not data_len + 5).
+ * 4: word_len not data_len + 5), and the data never is. Data and word must
+ * not overlap.
  */
 uint64_t zav_word_write(const uint8_t *data, size_t data_len,
                         uint8_t *word, size_t word_len);
 
 /*
- * Return length 1 if the word is clean and 0 if it is not; nothing is ever
- * written (1: word not 6 to 255 bytes).
+ * Return length 1 if the word is clean and 0 if it is not; refused is
+ * 1: word not 6 to 255 bytes. Nothing is ever written, and there is no second
+ * buffer to overlap.
  */
 uint64_t zav_word_test(const uint8_t *word, size_t len);
 
@@ -113,26 +115,31 @@ uint64_t zav_word_test(const uint8_t *word, size_t len);
  * not 6 to 255 bytes, 2: marks_len not len, 3: a mark above 1, 6: no clean
  * word within reach), and the marks never are. A mark is 0 for a cell that
  * was read and 1 for one that was not; the byte under a mark has no influence.
+ * Word and marks must not overlap.
  */
 uint64_t zav_word_repair(uint8_t *word, size_t len,
                          const uint8_t *marks, size_t marks_len);
 
 /*
- * The same repair for a lane of 6 to 96 cells; nothing is written when
- * refused (1: lane not 6 to 96 cells; 2, 3 and 6 as above).
+ * The same repair for a lane of 6 to 96 cells: the lane is replaced, and
+ * mended returned; nothing is written when refused (1: lane not 6 to 96
+ * cells; 2, 3 and 6 as above), and the marks never are. Lane and marks must
+ * not overlap.
  */
 uint64_t zav_lane_repair(uint8_t *lane, size_t len,
                          const uint8_t *marks, size_t marks_len);
 
-/* The product of two field elements; nothing is written. */
+/* The product of two field elements. It has no buffers and writes nothing. */
 uint8_t zav_product(uint8_t a, uint8_t b);
 
-/* Alpha (02) to the exponent, which may be negative; nothing is written. */
+/* Alpha (02) to the exponent, which may be negative. It has no buffers and
+ * writes nothing. */
 uint8_t zav_power(int32_t exponent);
 
 /*
  * The five sums of a list of bytes of any length, S_-2 in bits 0 to 7 up to
- * S_2 in bits 32 to 39; nothing is written.
+ * S_2 in bits 32 to 39. Nothing is ever written, and there is no second
+ * buffer to overlap.
  */
 uint64_t zav_syndrome(const uint8_t *word, size_t len);
 

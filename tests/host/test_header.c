@@ -1,11 +1,12 @@
 /* test_header.c - what the headers themselves do: fields and texts. */
 #include "test_header.h"
 
+#include <stdio.h>
 #include <string.h>
 
 #include "draw.h"
 #include "harness.h"
-#include "zavullimen_strips.h"
+#include "zavullimen.h"
 
 static const struct ref_result all_set = {
     .code = 31, .mended = 63, .length = 511, .lane = 15,
@@ -73,8 +74,23 @@ static void test_texts(void)
     group_end();
 }
 
+/* The string is written out beside the numbers it is made of. */
+static void test_version(void)
+{
+    char text[64];
+
+    group_begin("header", "version");
+    group_case();
+    sprintf(text, "%d.%d.%d", ZAV_VERSION_MAJOR, ZAV_VERSION_MINOR,
+            ZAV_VERSION_PATCH);
+    if (strcmp(text, ZAV_VERSION_STRING) != 0)
+        group_fail("%s, and the numbers say %s", ZAV_VERSION_STRING, text);
+    group_end();
+}
+
 void test_header(void)
 {
+    test_version();
     test_unpackers();
     test_texts();
 }

@@ -10,11 +10,8 @@
 #include "test_reader.h"
 #include "zavullimen_records.h"
 
-/* Room for a record that is too long. */
-enum { RECORD_ROOM = REF_RECORD_MAX + 64 };
-
-static struct ref_result check_record(const uint8_t *record, size_t len,
-                                      size_t tiles_len)
+struct ref_result check_record(const uint8_t *record, size_t len,
+                               size_t tiles_len)
 {
     static struct lent lent_record, lent_tiles;
     uint8_t before[TILES_ROOM], expected[TILES_ROOM];

@@ -25,11 +25,8 @@ const struct writer writers[WRITERS] = {
      worked_strip, sizeof worked_strip},
 };
 
-/* Room for what is written and for bytes past it. */
-enum { BUFFER_ROOM = REF_STRIP_MAX + 64 };
-
-static void check_board(const struct writer *entry, const struct board *b,
-                        size_t room)
+void check_writing(const struct writer *entry, const struct board *b,
+                   size_t room)
 {
     static struct lent tiles, buffer;
     uint8_t before[BUFFER_ROOM], expected[BUFFER_ROOM];
@@ -60,7 +57,7 @@ static void check_board(const struct writer *entry, const struct board *b,
 /* With a buffer that is long enough. */
 static void check_written(const struct writer *entry, const struct board *b)
 {
-    check_board(entry, b, draw_between(entry->room, BUFFER_ROOM));
+    check_writing(entry, b, draw_between(entry->room, BUFFER_ROOM));
 }
 
 static void test_every_size(const struct writer *entry)
@@ -100,7 +97,7 @@ static void test_small_boards(const struct writer *entry)
         for (size_t k = 0; k < boards; k++) {
             for (size_t i = 0; i < n; i++)
                 b.tiles[i] = (uint8_t)(k >> 3 * i & 7);
-            check_board(entry, &b, entry->room);
+            check_writing(entry, &b, entry->room);
         }
     }
     group_end();
@@ -149,8 +146,8 @@ static void test_refusals(const struct writer *entry)
         b.tiles[b.tiles_len] = (uint8_t)draw_below(8); /* one too many */
         spoil_numbers(&b);
         spoil_tiles(&b);
-        check_board(entry, &b,
-                    spoil() ? rooms[draw_below(COUNT(rooms))] : entry->room);
+        check_writing(entry, &b,
+                      spoil() ? rooms[draw_below(COUNT(rooms))] : entry->room);
     }
     group_end();
 }
@@ -223,7 +220,7 @@ static void test_rooms(const struct writer *entry)
     group_begin(entry->name, "buffers of every length");
     for (size_t room = 0; room <= BUFFER_ROOM; room++) {
         draw_any_level(&b);
-        check_board(entry, &b, room);
+        check_writing(entry, &b, room);
     }
     group_end();
 }

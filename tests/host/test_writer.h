@@ -5,7 +5,7 @@
 #ifndef TEST_WRITER_H
 #define TEST_WRITER_H
 
-#include "reference.h"
+#include "boards.h"
 
 /* The two writers differ in what they write, and in the room for it. */
 struct writer {
@@ -21,6 +21,14 @@ struct writer {
 
 enum { WRITERS = 2 };
 extern const struct writer writers[WRITERS];
+
+/* Room for what is written and for bytes past it. */
+enum { BUFFER_ROOM = REF_STRIP_MAX + 64 };
+
+/* Write a board to a buffer of this length and compare with the second
+   implementation, buffers included. */
+void check_writing(const struct writer *entry, const struct board *b,
+                   size_t room);
 
 /* All groups of one writer. */
 void test_writer(const struct writer *entry);

@@ -1,0 +1,29 @@
+/*
+ * zavullimen.h - the whole library: strips, records, words and lanes.
+ *
+ * Games need zav_strip_write and zav_strip_read; docs/C-INTERFACE.md has all
+ * functions, the packed results and the refusals.
+ */
+#ifndef ZAVULLIMEN_H
+#define ZAVULLIMEN_H
+
+#include "zavullimen_words.h"
+#include "zavullimen_records.h"
+#include "zavullimen_strips.h"
+
+/*
+ * The version of this header and of the library that was installed with it.
+ *
+ * MAJOR is raised when a caller has to change: a function, a field's place or
+ * a refusal's number is no longer what it was. It is the number in the name of
+ * the shared library. MINOR is raised when something is added (a function, a
+ * field in bits that were zero, a refusal) and callers can stay as they are.
+ * PATCH is raised when neither is: words, speed, the build. Before 1.0.0
+ * nothing of this is promised yet, and MINOR is raised for either.
+ */
+#define ZAV_VERSION_MAJOR 0
+#define ZAV_VERSION_MINOR 1
+#define ZAV_VERSION_PATCH 0
+#define ZAV_VERSION_STRING "0.1.0"
+
+#endif

@@ -1,0 +1,54 @@
+/*
+ * common.h - what the tools share: input, pictures of text, refusals.
+ */
+#ifndef COMMON_H
+#define COMMON_H
+
+#include <stdbool.h>
+#include <stdio.h>
+
+#include "zavullimen.h"
+
+/* How a tool ends. */
+enum { FINE = 0, REFUSED = 1, NOT_RUN = 2 };
+
+/* By tile code: floor, wall, crate, goal, crate on goal, player, and player
+ * on goal. */
+extern const char letters[];
+enum { TILE_CODES = 7 };
+
+/* A strip followed by as many marks. One byte more than the longest is kept,
+ * to see that there was more. */
+enum { CELLS_MAX = 2 * ZAV_STRIP_MAX };
+
+struct cells {
+    uint8_t bytes[CELLS_MAX + 1];
+    size_t len;
+};
+
+/* False if it cannot be read; errno says why. */
+bool take_cells(struct cells *c, FILE *file);
+
+/* The same from the file of this name. */
+bool take_cells_of(struct cells *c, const char *path);
+
+/* The strip reader's packed answer; an odd count, or more than two strips'
+ * worth, is refusal 1. */
+uint64_t read_cells(const struct cells *c, uint8_t tiles[ZAV_TILES_MAX]);
+
+/* A refusal in words that fit cells and marks in a file. */
+const char *refusal_words(unsigned code);
+
+/* "refused 6 lane 2: words", and the end of the line. */
+void print_refusal(FILE *out, uint64_t result);
+
+/* A name from outside, with what could move the cursor turned into '?'. */
+void print_name(FILE *out, const char *name);
+
+/* "tool: name: why" on standard error; returns NOT_RUN. */
+int complain(const char *tool, const char *name, const char *why);
+
+/* Nothing is fine if standard output did not take it. */
+int finish(const char *tool, int status);
+
+#endif

@@ -32,7 +32,8 @@ static void check_huge_repair(const struct repair *entry, uint8_t *zeros,
                  entry->name);
 }
 
-/* The zeros in front of a long buffer are no record: 7 if it is not cut. */
+/* Four zeros are no record (7). A length that is cut would make a long record
+   one of four bytes (1 is right), or a long tile buffer too short (7 is). */
 static void check_huge_record(uint8_t *zeros, uint8_t *more, size_t past)
 {
     group_case();

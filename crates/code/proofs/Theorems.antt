@@ -139,7 +139,7 @@ tests-fixed w a b A B = same-numbers (testedNumbers a) (testedNumbers b) codes (
     go (inr p) (inl q) = p .0 ∙ sym (B .always (sym codes ∙ p .1) (A .only (p .0)))
     go (inr p) (inr q) = p .0 ∙ sym (q .0)
 
-repaired-zero : (a : Repaired) → repairedNumbers a .code ≢ 0 → repairedNumbers a .value ≡ 0
+pub repaired-zero : (a : Repaired) → repairedNumbers a .code ≢ 0 → repairedNumbers a .value ≡ 0
 repaired-zero (repaired.Mended e) h = absurd (h refl)
 repaired-zero (repaired.Refused c) h = refl
 

@@ -13,7 +13,7 @@ use Rattle.code.specs.Lane.{wordOf, LaneRepairsAs}
 use Rattle.code.specs.declared.repair.Repaired.the-variants as repaired
 use Rattle.code.specs.declared.lane.Lane.{Lane}
 use Rattle.code.specs.declared.lane.LaneRepair.{LaneRepair}
-use Rattle.host.specs.Packed.{packed, LaneExport}
+use Rattle.host.specs.Packed.{packedMended, LaneExport}
 
 -- ---- copies
 
@@ -32,7 +32,7 @@ slice-holds b o x n e h p =
 
 -- ---- answers
 
-none : (marks old : List ℕ) (c r : ℕ) → (c ≡ 0 → ⊥) → First (repairing 96 (length old) (length marks) marks old) c → r ≡ packed 31 (refused c)
+none : (marks old : List ℕ) (c r : ℕ) → (c ≡ 0 → ⊥) → First (repairing 96 (length old) (length marks) marks old) c → r ≡ packedMended (refused c)
     → LaneExport marks old old r
 none marks old c r n f e = record {
   answer = repaired.Refused c;
@@ -44,10 +44,10 @@ none marks old c r n f e = record {
   is = e;
 }
 
-pub export-1 : (marks old : List ℕ) (r : ℕ) → (Within 6 96 (length old) → ⊥) → r ≡ packed 31 (refused 1) → LaneExport marks old old r
+pub export-1 : (marks old : List ℕ) (r : ℕ) → (Within 6 96 (length old) → ⊥) → r ≡ packedMended (refused 1) → LaneExport marks old old r
 export-1 marks old r n e = none marks old 1 r (λ z. omega arith) (inl (n, refl)) e
 
-pub export-2 : (marks old : List ℕ) (r : ℕ) → 6 ≤ length old → length old ≤ 96 → (length marks ≡ length old → ⊥) → r ≡ packed 31 (refused 2)
+pub export-2 : (marks old : List ℕ) (r : ℕ) → 6 ≤ length old → length old ≤ 96 → (length marks ≡ length old → ⊥) → r ≡ packedMended (refused 2)
     → LaneExport marks old old r
 export-2 marks old r a b n e = none marks old 2 r (λ z. omega arith) (inr (record { from = a; to = b }, inl (n, refl))) e
 
@@ -57,7 +57,7 @@ code-as c en em ek eo f = rw (← en, ← em, ← ek, ← eo) f
 
 -- what the lane's repair says of the lane, said of the slice
 pub export-lane : (marks old new : List ℕ) (l m : Lane) (x : LaneRepair) (r : ℕ) → l .len ≡ length old → wordOf l ≡ old → m .len ≡ length marks → wordOf m ≡ marks
-    → LaneRepairsAs l m x → new ≡ wordOf (x .lane) → r ≡ packed 31 (repairedNumbers (x .answer)) → LaneExport marks old new r
+    → LaneRepairsAs l m x → new ≡ wordOf (x .lane) → r ≡ packedMended (repairedNumbers (x .answer)) → LaneExport marks old new r
 export-lane marks old new l m x r nl wl nm wm R en e = record {
   answer = x .answer;
   code = code-as (repairedNumbers (x .answer) .code) nl nm wm wl (R .code);
@@ -69,14 +69,14 @@ export-lane marks old new l m x r nl wl nm wm R en e = record {
 }
 
 -- a refusal is told in the lowest bits
-told : (v r : ℕ) → r ≡ 0 % 32 + v % 512 * 2147483648 → r % 32 ≡ 0
+told : (v r : ℕ) → r ≡ 0 % 32 + v % 64 * 2147483648 → r % 32 ≡ 0
 told v r e = omega (arith, e)
 
 -- where one is told, the lane is as it was
 pub export-kept : (marks old : List ℕ) (l m : Lane) (x : LaneRepair) (r : ℕ) → l .len ≡ length old → wordOf l ≡ old → m .len ≡ length marks → wordOf m ≡ marks
-    → LaneRepairsAs l m x → r ≡ packed 31 (repairedNumbers (x .answer)) → (r % 32 ≡ 0 → ⊥) → LaneExport marks old old r
+    → LaneRepairsAs l m x → r ≡ packedMended (repairedNumbers (x .answer)) → (r % 32 ≡ 0 → ⊥) → LaneExport marks old old r
 export-kept marks old l m x r nl wl nm wm R e n =
     export-lane marks old old l m x r nl wl nm wm R (sym (ap wordOf (R .kept refusal) ∙ wl)) e
   where
     refusal : repairedNumbers (x .answer) .code ≡ 0 → ⊥
-    refusal z = n (told (repairedNumbers (x .answer) .value) r (e ∙ ap (λ (k : ℕ). k % 32 + repairedNumbers (x .answer) .value % 512 * 2147483648) z))
+    refusal z = n (told (repairedNumbers (x .answer) .value) r (e ∙ ap (λ (k : ℕ). k % 32 + repairedNumbers (x .answer) .value % 64 * 2147483648) z))

@@ -1,1 +1,3 @@
 pub mod LaneOf
+pub mod Rooms
+pub mod Theorems

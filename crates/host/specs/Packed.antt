@@ -1,7 +1,7 @@
 -- The numbers of an answer, packed in one.
 use mathlib.Core.Path.{_≡_}
 use mathlib.Core.List.{List}
-use Prim.Native.Nat.{ℕ, _+_, _*_, _%_, _^_}
+use Prim.Native.Nat.{ℕ, _+_, _*_, _/_, _%_, _^_}
 use lib.ListN.{length, getD}
 use Rattle.account.specs.Code.{Clean}
 use Rattle.account.specs.Reach.{differing, Reach}
@@ -20,17 +20,43 @@ use Rattle.code.specs.declared.word.Written.{Written}
 use Rattle.code.specs.declared.word.Tested.{Tested}
 use Rattle.code.specs.declared.repair.Repaired.{Repaired}
 
--- the code in bits 0 to 4, and a value below 512 from bit k on
-abbrev pub packedAt : ℕ → ℕ → ℕ → ℕ
-packedAt k code value = code % 32 + value % 512 * 2 ^ k
+-- the code in bits 0 to 4, and a value below m from bit k on
+abbrev pub packedAt : ℕ → ℕ → ℕ → ℕ → ℕ
+packedAt k m code value = code % 32 + value % m * 2 ^ k
 
-abbrev pub packed : ℕ → Numbers → ℕ
-packed k a = packedAt k (a .code) (a .value)
+-- a length, or whether a word is clean: bits 55 to 63
+abbrev pub packedLength : Numbers → ℕ
+packedLength a = packedAt 55 512 (a .code) (a .value)
+
+-- mended: bits 31 to 36
+abbrev pub packedMended : Numbers → ℕ
+packedMended a = packedAt 31 64 (a .code) (a .value)
 
 -- a reader's numbers: code in bits 0 to 4, lane from 5, width from 11, height from 16, par from 21, mended from 31, wear from 44
 abbrev pub packedRead : ReadNumbers → ℕ
 packedRead n =
     n .code % 32 + n .lane % 16 * 2 ^ 5 + n .width % 32 * 2 ^ 11 + n .height % 32 * 2 ^ 16 + n .par % 1024 * 2 ^ 21 + n .mended % 64 * 2 ^ 31 + n .wear % 64 * 2 ^ 44
+
+-- the numbers taken out again, as the header does
+abbrev pub unpackedAt : ℕ → ℕ → ℕ → Numbers
+unpackedAt k m r = record { code = r % 32; value = r / 2 ^ k % m }
+
+abbrev pub unpackedLength : ℕ → Numbers
+unpackedLength = unpackedAt 55 512
+
+abbrev pub unpackedMended : ℕ → Numbers
+unpackedMended = unpackedAt 31 64
+
+abbrev pub unpackedRead : ℕ → ReadNumbers
+unpackedRead r = record {
+  code = r % 32;
+  lane = r / 2 ^ 5 % 16;
+  width = r / 2 ^ 11 % 32;
+  height = r / 2 ^ 16 % 32;
+  par = r / 2 ^ 21 % 1024;
+  mended = r / 2 ^ 31 % 64;
+  wear = r / 2 ^ 44 % 64;
+}
 
 -- five bytes, the first in the lowest place
 abbrev pub packedSums : List ℕ → ℕ
@@ -40,17 +66,17 @@ packedSums s = getD s 0 0 + getD s 1 0 * 256 + getD s 2 0 * 65536 + getD s 3 0 *
 pub record WriteExport (d old new : List ℕ) (r : ℕ) : Type 0 where
   pub answer : Written
   pub writes : WritesAs d old new answer
-  pub is : r ≡ packed 55 (writtenNumbers answer)
+  pub is : r ≡ packedLength (writtenNumbers answer)
 
 pub record TestExport (w : List ℕ) (r : ℕ) : Type 0 where
   pub answer : Tested
   pub tests : TestsAs w answer
-  pub is : r ≡ packed 55 (testedNumbers answer)
+  pub is : r ≡ packedLength (testedNumbers answer)
 
 pub record RepairExport (marks old new : List ℕ) (r : ℕ) : Type 0 where
   pub answer : Repaired
   pub repairs : RepairsAs marks old new answer
-  pub is : r ≡ packed 31 (repairedNumbers answer)
+  pub is : r ≡ packedMended (repairedNumbers answer)
 
 -- the repair of a word, of at most 96 bytes
 pub record LaneExport (marks old new : List ℕ) (r : ℕ) : Type 0 where
@@ -60,12 +86,12 @@ pub record LaneExport (marks old new : List ℕ) (r : ℕ) : Type 0 where
   pub reach : repairedNumbers answer .code ≡ 0 → Reach marks old new
   pub value : repairedNumbers answer .code ≡ 0 → repairedNumbers answer .value ≡ differing marks old new
   pub kept : (repairedNumbers answer .code ≡ 0 → ⊥) → new ≡ old
-  pub is : r ≡ packed 31 (repairedNumbers answer)
+  pub is : r ≡ packedMended (repairedNumbers answer)
 
 pub record RecordExport (w h par : ℕ) (tiles old new : List ℕ) (r : ℕ) : Type 0 where
   pub answer : Written
   pub writes : RecordWritesAs w h par tiles old new answer
-  pub is : r ≡ packed 55 (writtenNumbers answer)
+  pub is : r ≡ packedLength (writtenNumbers answer)
 
 pub record RecordReadExport (bs old new : List ℕ) (r : ℕ) : Type 0 where
   pub answer : RecordRead
@@ -75,7 +101,7 @@ pub record RecordReadExport (bs old new : List ℕ) (r : ℕ) : Type 0 where
 pub record StripExport (w h par : ℕ) (tiles old new : List ℕ) (r : ℕ) : Type 0 where
   pub answer : Written
   pub writes : StripWritesAs w h par tiles old new answer
-  pub is : r ≡ packed 55 (writtenNumbers answer)
+  pub is : r ≡ packedLength (writtenNumbers answer)
 
 pub record StripReadExport (s marks tiles tiles' scratch scratch' : List ℕ) (r : ℕ) : Type 0 where
   pub answer : Reading

@@ -9,7 +9,7 @@ ghost use Rattle.code.specs.Repair.{repairedNumbers};
 ghost use Rattle.code.specs.Lane.{wordOf};
 ghost use Rattle.record.specs.Reading.{readNumbers};
 ghost use Rattle.strip.specs.Reading as strips;
-ghost use Rattle.host.specs.Packed.{packedAt, packed, packedRead, packedSums, WriteExport, TestExport, RepairExport, LaneExport, RecordExport, RecordReadExport, StripExport, StripReadExport};
+ghost use Rattle.host.specs.Packed.{packedAt, packedLength, packedMended, packedRead, packedSums, WriteExport, TestExport, RepairExport, LaneExport, RecordExport, RecordReadExport, StripExport, StripReadExport};
 use code::lane::Lane;
 use code::repair::Repaired;
 use code::word::Tested;
@@ -19,20 +19,20 @@ use strip::read::Reading;
 
 // A code in the lowest five bits, and a value from bit 55 on.
 fn pack_length(code: u8, value: usize) -> u64
-    ensures { λ r. ⌜ r ≡ packedAt 55 code value ⌝ }
+    ensures { λ r. ⌜ r ≡ packedAt 55 512 code value ⌝ }
 {
     (code % 32) as u64 + ((value % 512) as u64) * 36028797018963968
 }
 
 // A code in the lowest five bits, and the mended count from bit 31 on.
 fn pack_mended(code: u8, value: usize) -> u64
-    ensures { λ r. ⌜ r ≡ packedAt 31 code value ⌝ }
+    ensures { λ r. ⌜ r ≡ packedAt 31 64 code value ⌝ }
 {
-    (code % 32) as u64 + ((value % 512) as u64) * 2147483648
+    (code % 32) as u64 + ((value % 64) as u64) * 2147483648
 }
 
 fn pack_written(a: Written) -> u64
-    ensures { λ r. ⌜ r ≡ packed 55 (writtenNumbers a) ⌝ }
+    ensures { λ r. ⌜ r ≡ packedLength (writtenNumbers a) ⌝ }
 {
     match a {
         Written::Length(n) => pack_length(0, n),
@@ -41,7 +41,7 @@ fn pack_written(a: Written) -> u64
 }
 
 fn pack_tested(a: Tested) -> u64
-    ensures { λ r. ⌜ r ≡ packed 55 (testedNumbers a) ⌝ }
+    ensures { λ r. ⌜ r ≡ packedLength (testedNumbers a) ⌝ }
 {
     match a {
         Tested::Clean => pack_length(0, 1),
@@ -51,7 +51,7 @@ fn pack_tested(a: Tested) -> u64
 }
 
 fn pack_repaired(a: Repaired) -> u64
-    ensures { λ r. ⌜ r ≡ packed 31 (repairedNumbers a) ⌝ }
+    ensures { λ r. ⌜ r ≡ packedMended (repairedNumbers a) ⌝ }
 {
     match a {
         Repaired::Mended(e) => pack_mended(0, e),

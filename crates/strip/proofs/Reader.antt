@@ -1,6 +1,6 @@
 -- The strip reader's promise, from those of its parts.
 use mathlib.Core.Path.{_≡_, refl, sym, ap, _∙_, subst}
-use mathlib.Core.Logic.{inl, inr}
+use mathlib.Core.Logic.{_≢_, inl, inr}
 use mathlib.Core.List.{List, []}
 use Prim.Native.Nat.{ℕ, _-_, _/_, _≤_}
 use native.Mathlib.Omega.{arith}
@@ -143,3 +143,11 @@ data-lent n x h =
   where
     whole : n - 20 ≡ n - 20 - 0
     whole = omega arith
+
+-- ---- the numbers of an answer
+
+-- with a refusal all but the code and the lane is zero
+pub zeros : (x : Reading) → readNumbers x .code ≢ 0
+    → (readNumbers x .width ≡ 0) × (readNumbers x .height ≡ 0) × (readNumbers x .par ≡ 0) × (readNumbers x .mended ≡ 0) × (readNumbers x .wear ≡ 0)
+zeros (reading.Read w h p e v) n = absurd (n refl)
+zeros (reading.Refused c j) n = (refl, refl, refl, refl, refl)

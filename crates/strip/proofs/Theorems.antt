@@ -27,10 +27,10 @@ use Rattle.level.proofs.Theorems as levels
 use Rattle.record.specs.Writing.{lent, writingLevel}
 use Rattle.record.proofs.Answers.{lent-level}
 use Rattle.strip.specs.declared.read.Reading.{Reading}
-use Rattle.strip.specs.declared.read.Reading.the-variants as reading
 use Rattle.strip.specs.Writing.{stripLength, StripWritesAs}
 use Rattle.strip.specs.Reading.{readNumbers, LevelRead, StripReadsAs}
 use Rattle.strip.proofs.Laid.{strip-fits}
+use Rattle.strip.proofs.Reader.{zeros}
 
 -- ---- reading
 
@@ -84,12 +84,6 @@ module _ (s marks tiles t1 t2 scratch s1 s2 : List ℕ) (a b : Reading) (A : Str
       ∙ ap₂ (λ (i j : ℕ). numbers (y .code) (y .lane) i j (x .par) (x .mended) (x .wear)) w h
       ∙ ap₂ (λ (i j : ℕ). numbers (y .code) (y .lane) (y .width) (y .height) i j (x .wear)) p m
       ∙ ap (λ (i : ℕ). numbers (y .code) (y .lane) (y .width) (y .height) (y .par) (y .mended) i) v
-
-  -- with a refusal all but the code and the lane is zero
-  zeros : (x : Reading) → readNumbers x .code ≢ 0
-      → (readNumbers x .width ≡ 0) × (readNumbers x .height ≡ 0) × (readNumbers x .par ≡ 0) × (readNumbers x .mended ≡ 0) × (readNumbers x .wear ≡ 0)
-  zeros (reading.Read w h p e v) n = absurd (n refl)
-  zeros (reading.Refused c j) n = (refl, refl, refl, refl, refl)
 
   -- the lowest lane is one
   lowest : (i j : ℕ) → Lowest 4 marks s i → Lowest 4 marks s j → i ≡ j

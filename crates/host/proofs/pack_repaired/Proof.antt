@@ -1,7 +1,7 @@
 use mathlib.Core.Path.{sym, ap, _∙_}
 use Rattle.code.specs.Repair.{repairedNumbers}
 use Rattle.code.specs.declared.repair.Repaired.{Repaired}
-use Rattle.host.specs.Packed.{packed}
+use Rattle.host.specs.Packed.{packedMended}
 use borrow.Author.Needs.{needs}
 use Rattle.host.proofs.pack_repaired.Statement.{statement}
 use Rattle.host.proofs.pack_repaired.Tie as tie
@@ -19,10 +19,10 @@ pack-mended-requires-2 : tie.Need-pack-mended-requires-2
 pack-mended-requires-2 c κs = search needs
 
 returns : tie.Need-returns
-returns c = c .pack-mended .ensures ∙ sym (ap (λ (a : Repaired). packed 31 (repairedNumbers a)) (c .before .before .a .given .1))
+returns c = c .pack-mended .ensures ∙ sym (ap (λ (a : Repaired). packedMended (repairedNumbers a)) (c .before .before .a .given .1))
 
 returns-2 : tie.Need-returns-2
-returns-2 c = c .pack-mended2 .ensures ∙ sym (ap (λ (a : Repaired). packed 31 (repairedNumbers a)) (c .before .before .a2 .given .1))
+returns-2 c = c .pack-mended2 .ensures ∙ sym (ap (λ (a : Repaired). packedMended (repairedNumbers a)) (c .before .before .a2 .given .1))
 
 pub pack-repaired-spec : {M : Type 1} → statement M
 pack-repaired-spec =

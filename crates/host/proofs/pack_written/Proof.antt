@@ -1,7 +1,7 @@
 use mathlib.Core.Path.{sym, ap, _∙_}
 use Rattle.code.specs.Word.{writtenNumbers}
 use Rattle.code.specs.declared.word.Written.{Written}
-use Rattle.host.specs.Packed.{packed}
+use Rattle.host.specs.Packed.{packedLength}
 use borrow.Author.Needs.{needs}
 use Rattle.host.proofs.pack_written.Statement.{statement}
 use Rattle.host.proofs.pack_written.Tie as tie
@@ -19,10 +19,10 @@ pack-length-requires-2 : tie.Need-pack-length-requires-2
 pack-length-requires-2 c κs = search needs
 
 returns : tie.Need-returns
-returns c = c .pack-length .ensures ∙ sym (ap (λ (a : Written). packed 55 (writtenNumbers a)) (c .before .before .a .given .1))
+returns c = c .pack-length .ensures ∙ sym (ap (λ (a : Written). packedLength (writtenNumbers a)) (c .before .before .a .given .1))
 
 returns-2 : tie.Need-returns-2
-returns-2 c = c .pack-length2 .ensures ∙ sym (ap (λ (a : Written). packed 55 (writtenNumbers a)) (c .before .before .a2 .given .1))
+returns-2 c = c .pack-length2 .ensures ∙ sym (ap (λ (a : Written). packedLength (writtenNumbers a)) (c .before .before .a2 .given .1))
 
 pub pack-written-spec : {M : Type 1} → statement M
 pack-written-spec =

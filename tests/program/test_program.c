@@ -1,0 +1,194 @@
+/*
+ * test_program.c - runs the program that reads a strip, and compares its line
+ * with what the second implementation says.
+ *
+ * Usage: test_program PROGRAM
+ */
+#define _POSIX_C_SOURCE 200809L
+
+#include <stdio.h>
+#include <stdlib.h>
+#include <string.h>
+#include <sys/wait.h>
+#include <unistd.h>
+
+#include "harness.h"
+#include "pictures.h"
+
+enum { INPUT_MOST = 2 * REF_STRIP_MAX, LINE_ROOM = 200 };
+
+static const char *program;
+
+static void must(bool good, const char *what)
+{
+    if (!good) {
+        perror(what);
+        exit(1);
+    }
+}
+
+/* A file without a name that holds these bytes, to be read from its start. */
+static FILE *file_of(const uint8_t *bytes, size_t len)
+{
+    FILE *file = tmpfile();
+
+    must(file != NULL, "tmpfile");
+    must(fwrite(bytes, 1, len, file) == len, "fwrite");
+    must(fflush(file) == 0, "fflush");
+    rewind(file);
+    return file;
+}
+
+/* Run the program with the file as its standard input; what it prints. */
+static void run(int input, char printed[LINE_ROOM])
+{
+    int ends[2];
+    size_t len = 0;
+    ssize_t got;
+
+    must(pipe(ends) == 0, "pipe");
+    pid_t child = fork();
+    must(child >= 0, "fork");
+    if (child == 0) {
+        dup2(input, 0);
+        dup2(ends[1], 1);
+        close(ends[0]);
+        close(ends[1]);
+        execl(program, program, (char *)NULL);
+        _exit(127);
+    }
+    close(ends[1]);
+    while (len < LINE_ROOM - 1 &&
+           (got = read(ends[0], printed + len, LINE_ROOM - 1 - len)) > 0)
+        len += (size_t)got;
+    printed[len] = '\0';
+    close(ends[0]);
+    must(waitpid(child, NULL, 0) == child, "waitpid");
+}
+
+/* The line that the paper gives for this result. */
+static void line_of(struct ref_result r, char line[LINE_ROOM])
+{
+    if (r.code != 0)
+        snprintf(line, LINE_ROOM, "refused %u lane %u\n", r.code, r.lane);
+    else
+        snprintf(line, LINE_ROOM, "level %u %u par %u mended %u wear %u\n",
+                 r.width, r.height, r.par, r.mended, r.wear);
+}
+
+/* "an odd count, or over 768 bytes, is refusal 1" */
+static struct ref_result expected(const uint8_t *bytes, size_t len)
+{
+    uint8_t tiles[REF_TILES_MAX];
+    size_t half = len / 2;
+    struct ref_result refused;
+
+    memset(&refused, 0, sizeof refused);
+    refused.code = 1;
+    if (len > INPUT_MOST || len % 2 == 1)
+        return refused;
+    return ref_strip_read(bytes, half, bytes + half, half, tiles,
+                          sizeof tiles, REF_SCRATCH_MIN);
+}
+
+static void check_input(const uint8_t *bytes, size_t len)
+{
+    char line[LINE_ROOM], printed[LINE_ROOM];
+    FILE *input = file_of(bytes, len);
+
+    run(fileno(input), printed);
+    fclose(input);
+    line_of(expected(bytes, len), line);
+    if (strcmp(line, printed) != 0)
+        group_fail("%zu bytes: printed '%s', expected '%s'", len, printed,
+                   line);
+    group_case();
+}
+
+static void check_strip(const struct picture *p)
+{
+    uint8_t bytes[2 * STRIP_ROOM];
+
+    memcpy(bytes, p->strip, p->strip_len);
+    memcpy(bytes + p->strip_len, p->marks, p->marks_len);
+    check_input(bytes, p->strip_len + p->marks_len);
+}
+
+static void test_damage(void)
+{
+    struct picture p;
+    struct board b;
+
+    group_begin("program", "levels, with damage within reach and beyond");
+    for (size_t i = 0; i < scaled(400); i++) {
+        picture_any_level(&p, &b);
+        for (size_t lane = 0; lane < REF_LANES; lane++) {
+            size_t marked = draw_below(6);
+            damage_lane(&p, lane, draw_below((5 - marked) / 2 + 2),
+                        marked, draw_under_mark());
+        }
+        check_strip(&p);
+    }
+    group_end();
+}
+
+static void test_lengths(void)
+{
+    uint8_t bytes[1024];
+
+    group_begin("program", "inputs of every length to 1024, of random bytes");
+    for (size_t len = 0; len <= sizeof bytes; len++) {
+        draw_bytes(bytes, sizeof bytes);
+        memset(bytes + len / 2, 0, sizeof bytes - len / 2);
+        check_input(bytes, len);
+    }
+    group_end();
+}
+
+static void test_records(void)
+{
+    struct picture p;
+    struct board b;
+    uint8_t data[REF_LANES * REF_K_MAX];
+
+    group_begin("program", "clean lanes that are no level's");
+    for (size_t i = 0; i < scaled(200); i++) {
+        size_t k = draw_between(1, REF_K_MAX);
+        draw_any_level(&b);
+        memset(data, 0, sizeof data);
+        record_of(&b, data);
+        data[draw_below(REF_LANES * k)] ^= (uint8_t)(1u << draw_below(8));
+        picture_data(&p, data, k);
+        check_strip(&p);
+    }
+    group_end();
+}
+
+static void test_marks(void)
+{
+    struct picture p;
+    struct board b;
+
+    group_begin("program", "marks that are neither 0 nor 1");
+    for (size_t i = 0; i < scaled(100); i++) {
+        picture_any_level(&p, &b);
+        p.marks[draw_below(p.marks_len)] = (uint8_t)draw_between(2, 255);
+        check_strip(&p);
+    }
+    group_end();
+}
+
+int main(int argc, char **argv)
+{
+    if (argc != 2) {
+        fprintf(stderr, "usage: %s PROGRAM\n", argv[0]);
+        return 2;
+    }
+    program = argv[1];
+    groups_start(100);
+    test_damage();
+    test_lengths();
+    test_records();
+    test_marks();
+    return groups_finish();
+}

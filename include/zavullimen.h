@@ -18,8 +18,7 @@
  * a refusal's number is no longer what it was. It is the number in the name of
  * the shared library. MINOR is raised when something is added (a function, a
  * field in bits that were zero, a refusal) and callers can stay as they are.
- * PATCH is raised when neither is: words, speed, the build. Before 1.0.0
- * nothing of this is promised yet, and MINOR is raised for either.
+ * PATCH is raised when neither is: words, speed, the build.
  */
 #define ZAV_VERSION_MAJOR 0
 #define ZAV_VERSION_MINOR 1

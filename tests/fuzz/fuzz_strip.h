@@ -1,0 +1,26 @@
+/*
+ * fuzz_strip.h - one input for the fuzz entry: a head of nine bytes, a body.
+ *
+ * The body's first half are cells, its second half marks: nine zero bytes and
+ * a .cells file make an input. README.md has the whole layout.
+ */
+#ifndef FUZZ_STRIP_H
+#define FUZZ_STRIP_H
+
+#include <stddef.h>
+#include <stdint.h>
+
+/* Where the bytes of the head stand. */
+enum { FLAGS_AT, MARKS_AT, TILES_AT, SCRATCH_AT, BUFFER_AT, WIDTH_AT,
+       HEIGHT_AT, PAR_AT, HEAD = PAR_AT + 2 };
+
+enum {
+    RAW_MARKS = 1, /* marks are whole bytes, not their lowest bits */
+    LAID = 2,      /* the first half is data for clean lanes, the second says
+                      what to damage */
+    RAW_TILES = 4  /* the writers are lent the whole body, whatever the size */
+};
+
+int LLVMFuzzerTestOneInput(const uint8_t *data, size_t size);
+
+#endif

@@ -15,10 +15,14 @@ use Rattle.level.specs.Tile.{totals}
 use Rattle.level.specs.Level.{Level, IsLevel, Playable, AllTiles, Sized}
 use Rattle.level.specs.Record.{bitAt, fieldAt, recordLength, IsRecord}
 use Rattle.level.specs.Strip.{columns}
-use Rattle.level.specs.Reading.{tilesIn, tilesOf, levelOf, Headed, Shaped}
+use Rattle.level.specs.Reading.{tilesIn, tilesOf, Headed, Shaped}
 use Rattle.level.proofs.Bits.{bit-of}
 use Rattle.level.proofs.Strips.{lt-or-ge, within}
 use Rattle.level.proofs.Fields.{same-level}
+
+-- the level that a run of bytes spells
+abbrev pub levelOf : List ℕ → Level
+levelOf bs = record { width = fieldAt bs 4 5; height = fieldAt bs 9 5; par = fieldAt bs 14 10; tiles = tilesOf bs }
 
 pub length-tiles : (bs : List ℕ) (n : ℕ) → length (tilesIn bs n) ≡ n
 unfolding tilesIn

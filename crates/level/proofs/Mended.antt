@@ -17,9 +17,9 @@ use Rattle.level.specs.Tile.{totals}
 use Rattle.level.specs.Level.{Level, IsLevel, Playable, AllTiles}
 use Rattle.level.specs.Record.{fieldAt, recordLength}
 use Rattle.level.specs.Strip.{columns, Legal, IsStrip, Reached}
-use Rattle.level.specs.Reading.{tilesOf, levelOf, Headed, Shaped, judging, Mends, Mendable, dataOf, OfMended}
+use Rattle.level.specs.Reading.{tilesOf, Headed, Shaped, judging, Mends, Mendable, dataOf, OfMended}
 use Rattle.level.proofs.Strips.{laid-out}
-use Rattle.level.proofs.Judged.{spelled-record, spelled-level, front, filled, Passes, record-passes}
+use Rattle.level.proofs.Judged.{levelOf, spelled-record, spelled-level, front, filled, Passes, record-passes}
 
 module _ (R : ℕ) (some : 0 < R) where
   -- a mended strip mends each lane

@@ -15,7 +15,7 @@ use Rattle.level.specs.Level.{Level, Sized, AllTiles, Playable}
 use Rattle.level.specs.Record.{bitAt, fieldAt, recordLength}
 use Rattle.level.specs.Strip.{columns, Legal, StripReach}
 
--- ---- the level that a run of bytes spells
+-- ---- the tiles that a run of bytes spells
 
 -- "Tiles start at byte 3, row by row, 3 bits each": the first n
 unfoldable pub tilesIn : List ℕ → ℕ → List ℕ
@@ -24,9 +24,6 @@ tilesIn bs n = listOf n (λ i. fieldAt bs (24 + 3 * i) 3)
 
 abbrev pub tilesOf : List ℕ → List ℕ
 tilesOf bs = tilesIn bs (fieldAt bs 4 5 * fieldAt bs 9 5)
-
-abbrev pub levelOf : List ℕ → Level
-levelOf bs = record { width = fieldAt bs 4 5; height = fieldAt bs 9 5; par = fieldAt bs 14 10; tiles = tilesOf bs }
 
 -- ---- refusals 7 to 10
 

@@ -14,9 +14,9 @@ use Rattle.level.specs.Tile.{totals}
 use Rattle.level.specs.Level.{Level, IsLevel, AllTiles, Playable}
 use Rattle.level.specs.Record.{fieldAt, recordLength, IsRecord}
 use Rattle.level.specs.Strip.{columns}
-use Rattle.level.specs.Reading.{tilesOf, levelOf, Headed, Shaped, judging, readingRecord}
+use Rattle.level.specs.Reading.{tilesOf, Headed, Shaped, judging, readingRecord}
 use Rattle.level.proofs.Fields.{same-level}
-use Rattle.level.proofs.Judged.{length-tiles, spelled-record, spelled-level}
+use Rattle.level.proofs.Judged.{levelOf, length-tiles, spelled-record, spelled-level}
 use Rattle.record.specs.declared.read.Judged.{Judged}
 use Rattle.record.specs.declared.read.RecordRead.the-variants as read
 use Rattle.record.specs.Reading.{RecordReadsAs, JudgedAs, AcceptedAs}

@@ -13,7 +13,8 @@ use Rattle.code.specs.Refusal.{First}
 use Rattle.level.specs.Tile.{totals}
 use Rattle.level.specs.Level.{Level, AllTiles, Playable}
 use Rattle.level.specs.Strip.{Reached, mendedOf, wearOf}
-use Rattle.level.specs.Reading.{ReadNumbers, refusedAt, returned, entering, mending, judging, Mends, Lowest, dataOf, tilesOf, levelOf, Headed, Shaped}
+use Rattle.level.specs.Reading.{ReadNumbers, refusedAt, returned, entering, mending, judging, Mends, Lowest, dataOf, tilesOf, Headed, Shaped}
+use Rattle.level.proofs.Judged.{levelOf}
 use Rattle.level.proofs.Mended.{mendable, level-reached, passing, found, none-reached}
 use Rattle.record.specs.declared.read.Judged.{Judged}
 use Rattle.record.specs.Reading.{AcceptedAs}

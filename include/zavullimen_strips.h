@@ -65,8 +65,8 @@ uint64_t zav_strip_write(size_t width, size_t height, size_t par,
  *
  * The strip and the marks are never written, nor are the tiles when refused.
  * After 1 to 5 the scratch keeps its bytes; from 6 on, and when a level is
- * returned, its first strip_len bytes may hold anything and the others keep
- * theirs. None of the four buffers may overlap another.
+ * returned, it may hold anything. None of the four buffers may overlap
+ * another.
  */
 uint64_t zav_strip_read(const uint8_t *strip, size_t strip_len,
                         const uint8_t *marks, size_t marks_len,

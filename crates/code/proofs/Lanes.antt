@@ -13,8 +13,7 @@ use Rattle.gf256.specs.Gf256.{gf256}
 use Rattle.code.specs.declared.repair.Repaired.{Repaired}
 use Rattle.code.specs.declared.repair.Repaired.the-variants as repaired
 use Rattle.code.specs.declared.lane.Lane.{Lane}
-use Rattle.code.specs.Refusal.{First}
-use Rattle.code.specs.Word.{Within}
+use Rattle.rules.specs.Refusal.{First, Within}
 use Rattle.code.specs.Repair.{repairedNumbers, repairing, RepairsAs}
 use Rattle.code.specs.Lane.{wordOf, LaneRepairsAs}
 

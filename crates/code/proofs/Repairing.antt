@@ -19,8 +19,7 @@ use Rattle.errata.specs.declared.Errata.{Errata}
 use Rattle.errata.specs.Errata.{at, Bytes5, cellsOf, valuesOf, Mends, Beyond, SearchedAs}
 use Rattle.code.specs.declared.repair.Repaired.the-variants as repaired
 use Rattle.code.specs.declared.repair.Entered.{Entered}
-use Rattle.code.specs.Refusal.{First}
-use Rattle.code.specs.Word.{Within}
+use Rattle.rules.specs.Refusal.{First, Within}
 use Rattle.code.specs.Repair.{GoodMarks, Reachable, entering, repairing, RepairsAs, EntersAs, countedOf}
 use Rattle.code.proofs.Applying.{count-is}
 

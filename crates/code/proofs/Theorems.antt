@@ -25,7 +25,8 @@ use Rattle.code.specs.declared.repair.Repaired.{Repaired}
 use Rattle.code.specs.declared.repair.Repaired.the-variants as repaired
 use Rattle.code.specs.declared.lane.Lane.{Lane}
 use Rattle.code.specs.declared.lane.LaneRepair.{LaneRepair}
-use Rattle.code.specs.Refusal.{Rule, First, Numbers}
+use Rattle.rules.specs.Refusal.{First}
+use Rattle.rules.proofs.Laws.{first-fixes, same-numbers, decided, either}
 use Rattle.code.specs.Word.{writing, testing, WritesAs, TestsAs, writtenNumbers, testedNumbers}
 use Rattle.code.specs.Repair.{Reachable, repairing, RepairsAs, repairedNumbers}
 use Rattle.code.specs.Lane.{wordOf, LaneRepairsAs}
@@ -70,36 +71,6 @@ pub multiple-is-clean : (w : List ℕ) → Multiple gf256 w → Clean gf256 w
 multiple-is-clean = generators.multiple-is-clean gf256 field256
 
 -- ---- the promises fix every result and every byte
-
--- the ordered list of refusals fixes one number
-pub first-fixes : (rs : List Rule) (c d : ℕ) → First rs c → First rs d → c ≡ d
-first-fixes [] c d p q = p ∙ sym q
-first-fixes (r ∷ rs) c d (inl p) (inl q) = p .1 ∙ sym (q .1)
-first-fixes (r ∷ rs) c d (inl p) (inr q) = absurd (p .0 (q .0))
-first-fixes (r ∷ rs) c d (inr p) (inl q) = absurd (q .0 (p .0))
-first-fixes (r ∷ rs) c d (inr p) (inr q) = first-fixes rs c d (p .1) (q .1)
-
-same-numbers : (a b : Numbers) → a .code ≡ b .code → a .value ≡ b .value → a ≡ b
-same-numbers a b e f = ap₂ (λ (c v : ℕ). made c v) e f
-  where
-    made : ℕ → ℕ → Numbers
-    made c v = record { code = c; value = v }
-
--- numbers of which both are done or refused agree where the values of the done ones do
-pub decided : (a b : Numbers) → (a .code ≢ 0 → a .value ≡ 0) → (b .code ≢ 0 → b .value ≡ 0) → a .code ≡ b .code → (a .code ≡ 0 → a .value ≡ b .value) → a ≡ b
-decided a b za zb e v = go (ℕ-discrete (a .code) 0)
-  where
-    go : Dec (a .code ≡ 0) → a ≡ b
-    go (yes z) = same-numbers a b e (v z)
-    go (no n) = same-numbers a b e (za n ∙ sym (zb (λ z. n (e ∙ z))))
-
--- one of two holds: a word is written or kept
-pub either : (P : Type 0) (c : ℕ) → (c ≡ 0 → P) → (c ≢ 0 → P) → P
-either P c f g = go (ℕ-discrete c 0)
-  where
-    go : Dec (c ≡ 0) → P
-    go (yes z) = f z
-    go (no n) = g n
 
 pub written-zero : (a : Written) → writtenNumbers a .code ≢ 0 → writtenNumbers a .value ≡ 0
 written-zero (written.Length n) h = absurd (h refl)

@@ -6,7 +6,7 @@ use lib.ListN.{take, drop}
 use Rattle.account.specs.Code.{Clean}
 use Rattle.account.specs.Reach.{differing, Reach}
 use Rattle.gf256.specs.Gf256.{gf256}
-use Rattle.code.specs.Refusal.{First}
+use Rattle.rules.specs.Refusal.{First}
 use Rattle.code.specs.Repair.{repairedNumbers, repairing}
 use Rattle.code.specs.declared.lane.Lane.{Lane}
 use Rattle.code.specs.declared.lane.LaneRepair.{LaneRepair}

@@ -1,4 +1,3 @@
-pub mod Refusal
 pub mod Word
 pub mod Repair
 pub mod Lane

@@ -8,8 +8,7 @@ use lib.ListN.{length, getD}
 use Rattle.account.specs.Code.{Cells, Clean}
 use Rattle.account.specs.Reach.{countTo, isMarked, oneIf, and, differing, Reach}
 use Rattle.gf256.specs.Gf256.{gf256}
-use Rattle.code.specs.Refusal.{Rule, unless, First, Numbers, done, refused}
-use Rattle.code.specs.Word.{Within}
+use Rattle.rules.specs.Refusal.{Rule, unless, First, Numbers, done, refused, Within}
 use Rattle.code.specs.declared.repair.Repaired.{Repaired}
 use Rattle.code.specs.declared.repair.Repaired.the-variants as repaired
 use Rattle.code.specs.declared.repair.Marked.{Marked}

@@ -5,16 +5,11 @@ use Prim.Native.Nat.{ℕ, _+_, _≤_}
 use lib.ListN.{length}
 use Rattle.account.specs.Code.{Clean, WordOf}
 use Rattle.gf256.specs.Gf256.{gf256}
-use Rattle.code.specs.Refusal.{Rule, unless, First, Numbers, done, refused}
+use Rattle.rules.specs.Refusal.{Rule, unless, First, Within, Numbers, done, refused}
 use Rattle.code.specs.declared.word.Written.{Written}
 use Rattle.code.specs.declared.word.Written.the-variants as written
 use Rattle.code.specs.declared.word.Tested.{Tested}
 use Rattle.code.specs.declared.word.Tested.the-variants as tested
-
--- a length from a to b
-pub record Within (a b n : ℕ) : Type 0 where
-  pub from : a ≤ n
-  pub to : n ≤ b
 
 -- ---- writing: n is returned
 

@@ -22,18 +22,6 @@ pub enum Tested {
     Refused(u8),
 }
 
-// The data, in front of a longer word.
-pub fn put_data(data: &[u8], word: &mut [u8])
-    requires { ⌜ length (now «data») ≤ length (now word) ⌝ }
-    ensures { λ _. ⌜ now (word .exit) ≡ now («data» .entry) ++ drop (length (now («data» .entry))) (now (word .entry)) ⌝ }
-{
-    let mut i = 0;
-    while i < data.len() {
-        word[i] = data[i];
-        i += 1;
-    }
-}
-
 // Five packed bytes, from cell k on.
 fn put_checks(word: &mut [u8], k: usize, x: u64)
     requires { ⌜ k + 5 ≤ length (now word) ⌝ }
@@ -61,7 +49,7 @@ pub fn write(data: &[u8], word: &mut [u8]) -> Written
         return Written::Refused(4);
     }
     let x = remainder::checks_of(data);
-    put_data(data, word);
+    rules::copy(data, word);
     put_checks(word, m, x);
     Written::Length(m + 5)
 }

@@ -15,13 +15,8 @@ use Rattle.account.proofs.Filter.{filt}
 use Rattle.account.proofs.Search.{Zeros}
 use Rattle.gf256.specs.Gf256.{gf256, times}
 use Rattle.gf256.specs.Tables.{placeOf}
-use Rattle.errata.specs.Errata.{Says, at, Filtered, Listed, Drained}
-
-pub said : (P : Type 0) (b : Bool) → b ≡ true → Says b P → P
-said P b e s = subst (λ (x : Bool). Says x P) e s
-
-pub denied : (P : Type 0) (b : Bool) → b ≡ false → Says b P → P → ⊥
-denied P b e s = subst (λ (x : Bool). Says x P) e s
+use Rattle.rules.specs.Says.{Says}
+use Rattle.errata.specs.Errata.{at, Filtered, Listed, Drained}
 
 pub filtered : (x a b c d : ℕ) (s : List ℕ) → a ≡ bitXor (at s 1) (times x (at s 0)) → b ≡ bitXor (at s 2) (times x (at s 1))
     → c ≡ bitXor (at s 3) (times x (at s 2)) → d ≡ bitXor (at s 4) (times x (at s 3)) → Filtered x s (a ∷ b ∷ c ∷ d ∷ 0 ∷ [])

@@ -21,11 +21,6 @@ use Rattle.gf256.proofs.Field256.{field256}
 use Rattle.errata.specs.declared.Errata.{Errata}
 use Rattle.errata.specs.declared.Pair.{Pair}
 
--- what a test's answer says
-abbrev pub Says : Bool → Type 0 → Type 0
-Says true P = P
-Says false P = P → ⊥
-
 -- the sums that a syndrome holds, counted from 0
 abbrev pub at : List ℕ → ℕ → ℕ
 at s m = getD s m 0

@@ -11,7 +11,8 @@ ghost use Rattle.account.specs.Reach.{isMarked};
 ghost use Rattle.account.proofs.Search.{Zeros, erasures};
 ghost use Rattle.gf256.specs.Gf256.{gf256, times};
 ghost use Rattle.gf256.specs.Tables.{Tables};
-ghost use Rattle.errata.specs.Errata.{Says, at, Filtered, Pushed, Gathered, Listed, Drained, CellAt, One, Two, Both, Halving, Split, FitsAlone, Divided, Solved, Unweighed, GuessedAs, Bytes5, Valued, FoundFor};
+ghost use Rattle.rules.specs.Says.{Says};
+ghost use Rattle.errata.specs.Errata.{at, Filtered, Pushed, Gathered, Listed, Drained, CellAt, One, Two, Both, Halving, Split, FitsAlone, Divided, Solved, Unweighed, GuessedAs, Bytes5, Valued, FoundFor};
 
 // At most five cells, each with what to add there.
 pub struct Errata {

@@ -6,8 +6,7 @@ use Prim.Native.Nat.{ℕ, _+_, _*_, _-_, _%_, _≤_}
 use native.Mathlib.Omega.{arith}
 use lib.ListN.{length, take, drop}
 use lib.Seq.{take-at, drop-length, length-take-le}
-use Rattle.code.specs.Refusal.{First, refused}
-use Rattle.code.specs.Word.{Within}
+use Rattle.rules.specs.Refusal.{First, refused, Within}
 use Rattle.code.specs.Repair.{repairedNumbers, repairing}
 use Rattle.code.specs.Lane.{wordOf, LaneRepairsAs}
 use Rattle.code.specs.declared.repair.Repaired.the-variants as repaired

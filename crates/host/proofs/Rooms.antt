@@ -10,7 +10,7 @@ use Rattle.account.specs.Lists.{sumOf}
 use Rattle.account.specs.Lanes.{lane}
 use Rattle.account.specs.Reach.{countTo, differsAt, isMarked}
 use Rattle.account.proofs.Lanes.{length-lane}
-use Rattle.code.specs.Refusal.{Rule, First, Numbers}
+use Rattle.rules.specs.Refusal.{Rule, First, Numbers}
 use Rattle.level.specs.Strip.{StripReach, wrongIn, mendedOf}
 use Rattle.level.specs.Reading.{ReadNumbers}
 use Rattle.host.specs.Packed.{packedLength, packedMended, packedRead, unpackedLength, unpackedMended, unpackedRead}

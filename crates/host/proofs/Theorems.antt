@@ -6,12 +6,13 @@ use Prim.Native.Nat.{ℕ, _≤_, _<_}
 use native.Mathlib.Decide.{ℕ-discrete}
 use native.Mathlib.Omega.{arith}
 use lib.ListN.{length}
-use Rattle.code.specs.Refusal.{First}
+use Rattle.rules.specs.Refusal.{First}
 use Rattle.code.specs.Word.{writtenNumbers, testedNumbers, writing, testing}
 use Rattle.code.specs.Repair.{repairedNumbers, repairing}
 use Rattle.code.specs.declared.word.Tested.{Tested}
 use Rattle.code.specs.declared.word.Tested.the-variants as tested
-use Rattle.code.proofs.Theorems.{either, written-zero, repaired-zero}
+use Rattle.rules.proofs.Laws.{either}
+use Rattle.code.proofs.Theorems.{written-zero, repaired-zero}
 use Rattle.level.specs.Reading.{ReadNumbers, readingRecord, readingStrip}
 use Rattle.record.specs.Writing.{writingLevel, lent}
 use Rattle.record.specs.Reading as records

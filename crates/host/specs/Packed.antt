@@ -6,7 +6,7 @@ use lib.ListN.{length, getD}
 use Rattle.account.specs.Code.{Clean}
 use Rattle.account.specs.Reach.{differing, Reach}
 use Rattle.gf256.specs.Gf256.{gf256}
-use Rattle.code.specs.Refusal.{First, Numbers}
+use Rattle.rules.specs.Refusal.{First, Numbers}
 use Rattle.code.specs.Word.{writtenNumbers, testedNumbers, WritesAs, TestsAs}
 use Rattle.code.specs.Repair.{repairedNumbers, repairing, RepairsAs}
 use Rattle.level.specs.Reading.{ReadNumbers}

@@ -89,7 +89,7 @@ fn lane_of(s: &[u8]) -> Lane
     ensures { λ r. ⌜ (r .len ≡ length (now (s .entry))) × (wordOf r ≡ now (s .entry)) ⌝ }
 {
     let mut bytes = [0u8; 96];
-    code::word::put_data(s, &mut bytes);
+    rules::copy(s, &mut bytes);
     Lane {
         bytes,
         len: s.len(),
@@ -103,7 +103,7 @@ fn put_back(lane: Lane, s: &mut [u8])
 {
     let n = lane.len;
     let bytes = lane.bytes;
-    code::word::put_data(&bytes[0..n], s);
+    rules::copy(&bytes[0..n], s);
 }
 
 // Repairs a lane of at most 96 bytes in place.

@@ -14,7 +14,7 @@ use Rattle.account.specs.Lanes.{lane}
 use Rattle.account.specs.Reach.{countTo, isMarked, oneIf}
 use Rattle.account.proofs.Cells.{count-none}
 use Rattle.account.proofs.Lanes.{getD-lane}
-use Rattle.errata.specs.Errata.{Says}
+use Rattle.rules.specs.Says.{Says}
 use Rattle.code.specs.declared.repair.Repaired.{Repaired}
 use Rattle.code.specs.declared.repair.Repaired.the-variants as repaired
 use Rattle.level.specs.Strip.{markedIn}

@@ -12,8 +12,8 @@ use Rattle.account.specs.Reach.{Reach, countTo, isMarked, differing, differsAt,
 use Rattle.account.proofs.Cells.{count-none, not-differs}
 use Rattle.account.proofs.Lanes.{length-lane, getD-lane}
 use Rattle.gf256.specs.Gf256.{gf256}
-use Rattle.errata.specs.Errata.{Says}
-use Rattle.code.specs.Refusal.{First}
+use Rattle.rules.specs.Says.{Says}
+use Rattle.rules.specs.Refusal.{First}
 use Rattle.code.specs.Repair.{GoodMarks, Reachable, repairedNumbers, repairing}
 use Rattle.code.specs.Lane.{wordOf, LaneRepairsAs}
 use Rattle.code.specs.declared.lane.Lane.{Lane}

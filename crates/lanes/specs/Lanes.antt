@@ -8,7 +8,7 @@ use Rattle.account.specs.Lanes.{lane}
 use Rattle.account.specs.Code.{Clean}
 use Rattle.account.specs.Reach.{Reach}
 use Rattle.gf256.specs.Gf256.{gf256}
-use Rattle.errata.specs.Errata.{Says}
+use Rattle.rules.specs.Says.{Says}
 use Rattle.code.specs.Repair.{GoodMarks, repairedNumbers}
 use Rattle.code.specs.declared.repair.Repaired.{Repaired}
 use Rattle.level.specs.Strip.{Legal, wrongIn, mendedOf}

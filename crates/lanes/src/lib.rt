@@ -7,7 +7,7 @@ ghost use lib.ListN.{length, getD, take};
 ghost use Rattle.account.specs.Lanes.{lane};
 ghost use Rattle.account.specs.Reach.{oneIf, countTo, isMarked};
 ghost use Rattle.remainder.specs.Remainder.{Remains};
-ghost use Rattle.errata.specs.Errata.{Says};
+ghost use Rattle.rules.specs.Says.{Says};
 ghost use Rattle.code.specs.Lane.{wordOf};
 ghost use Rattle.level.specs.Strip.{markedIn};
 ghost use Rattle.lanes.specs.Lanes.{Ready, Scattered, ToldAs, OneAs, MendedAs};

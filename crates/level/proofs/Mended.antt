@@ -11,7 +11,7 @@ use Rattle.account.specs.Code.{Cells}
 use Rattle.account.specs.Lanes.{lane}
 use Rattle.gf256.specs.Gf256.{gf256}
 use Rattle.account.proofs.Lanes.{cell, bytes-lane, length-lane, ext-lanes}
-use Rattle.code.specs.Refusal.{First}
+use Rattle.rules.specs.Refusal.{First}
 use Rattle.code.proofs.Theorems.{one-in-reach}
 use Rattle.level.specs.Tile.{totals}
 use Rattle.level.specs.Level.{Level, IsLevel, Playable, AllTiles}

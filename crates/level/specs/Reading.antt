@@ -7,8 +7,7 @@ use Rattle.account.specs.Lists.{listOf}
 use Rattle.account.specs.Lanes.{lane}
 use Rattle.account.specs.Code.{Cells, Clean}
 use Rattle.gf256.specs.Gf256.{gf256}
-use Rattle.code.specs.Refusal.{Rule, unless}
-use Rattle.code.specs.Word.{Within}
+use Rattle.rules.specs.Refusal.{Rule, unless, Within}
 use Rattle.code.specs.Repair.{GoodMarks, Reachable}
 use Rattle.level.specs.Tile.{totals}
 use Rattle.level.specs.Level.{Level, Sized, AllTiles, Playable}

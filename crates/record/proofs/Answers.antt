@@ -8,7 +8,7 @@ use lib.ListN.{length, drop}
 use Rattle.level.specs.Level.{IsLevel}
 use Rattle.level.specs.Record.{recordLength}
 use Rattle.level.specs.Written.{recordOf}
-use Rattle.code.specs.Refusal.{First}
+use Rattle.rules.specs.Refusal.{First}
 use Rattle.code.specs.declared.word.Written.the-variants as written
 use Rattle.record.specs.Writing.{lent, lending, writingLevel, RecordWritesAs}
 

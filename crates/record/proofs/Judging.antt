@@ -8,7 +8,7 @@ use lib.ListN.{length, take, drop}
 use Rattle.level.specs.Record.{fieldAt}
 use Rattle.level.specs.Reading.{tilesIn, tilesOf, Headed, Shaped, judging}
 use Rattle.level.proofs.Windows.{field-below}
-use Rattle.code.specs.Refusal.{First}
+use Rattle.rules.specs.Refusal.{First}
 use Rattle.record.specs.declared.read.Head.{Head}
 use Rattle.record.specs.declared.read.Judged.{Judged}
 use Rattle.record.specs.Writing.{boarding}

@@ -8,8 +8,7 @@ use lib.ListN.{length, take, drop}
 use lib.Seq.{take-at, drop-at, take-all, length-take-le}
 use Rattle.account.specs.Code.{Cells}
 use Rattle.gf256.specs.Gf256.{gf256}
-use Rattle.code.specs.Refusal.{First}
-use Rattle.code.specs.Word.{Within}
+use Rattle.rules.specs.Refusal.{First, Within}
 use Rattle.level.specs.Tile.{totals}
 use Rattle.level.specs.Level.{Level, IsLevel, AllTiles, Playable}
 use Rattle.level.specs.Record.{fieldAt, recordLength, IsRecord}

@@ -9,7 +9,7 @@ use native.Mathlib.Numerals.{unary-clauses}
 use native.Mathlib.Omega.{arith}
 use lib.ListN.{length, getD, take, drop, set, length-append, length-drop, List·getD-append}
 use lib.Seq.{sets, sets-eq, getD-take, getD-drop, getD-append-add, length-take-le, take-all, ext-getD}
-use Rattle.errata.specs.Errata.{Says}
+use Rattle.rules.specs.Says.{Says}
 use Rattle.level.specs.Record.{bitAt, fieldAt}
 use Rattle.level.specs.Strip.{columns}
 use Rattle.level.specs.Reading.{tilesIn, Shaped}

@@ -14,10 +14,11 @@ use Rattle.level.specs.Reading.{readingRecord, ReadNumbers, refusedAt, returned
 use Rattle.level.proofs.RecordOf.{length-record, record-of}
 use Rattle.level.proofs.Fields.{record-injective}
 use Rattle.level.proofs.Judged.{Passes, record-passes}
-use Rattle.code.specs.Refusal.{First}
-use Rattle.code.specs.Word.{Within, writtenNumbers}
+use Rattle.rules.specs.Refusal.{First, Within}
+use Rattle.code.specs.Word.{writtenNumbers}
 use Rattle.code.specs.declared.word.Written.{Written}
-use Rattle.code.proofs.Theorems.{first-fixes, decided, either, written-zero}
+use Rattle.rules.proofs.Laws.{first-fixes, decided, either}
+use Rattle.code.proofs.Theorems.{written-zero}
 use Rattle.record.specs.declared.read.RecordRead.{RecordRead}
 use Rattle.record.specs.declared.read.RecordRead.the-variants as read
 use Rattle.record.specs.Writing.{lent, writingLevel, RecordWritesAs}

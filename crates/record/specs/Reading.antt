@@ -6,7 +6,7 @@ use lib.ListN.{length, getD, take, drop}
 use Rattle.level.specs.Level.{IsLevel}
 use Rattle.level.specs.Record.{fieldAt, IsRecord}
 use Rattle.level.specs.Reading.{tilesOf, judging, readingRecord, ReadNumbers, refusedAt, returned}
-use Rattle.code.specs.Refusal.{First}
+use Rattle.rules.specs.Refusal.{First}
 use Rattle.record.specs.declared.read.RecordRead.{RecordRead}
 use Rattle.record.specs.declared.read.RecordRead.the-variants as read
 use Rattle.record.specs.declared.read.Head.{Head}

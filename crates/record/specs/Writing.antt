@@ -7,7 +7,7 @@ use Rattle.level.specs.Tile.{totals}
 use Rattle.level.specs.Level.{Level, Sized, AllTiles, Playable}
 use Rattle.level.specs.Record.{recordLength}
 use Rattle.level.specs.Written.{recordByte, recordOf}
-use Rattle.code.specs.Refusal.{Rule, unless, First}
+use Rattle.rules.specs.Refusal.{Rule, unless, First}
 use Rattle.code.specs.Word.{writtenNumbers}
 use Rattle.code.specs.declared.word.Written.{Written}
 

@@ -3,7 +3,7 @@ ghost use mathlib.Core.Path.{_≡_};
 ghost use Prim.Native.Nat.{ℕ, _+_, _*_, _≤_, _<_};
 ghost use lib.ListN.{length};
 ghost use lib.Seq.{sets};
-ghost use Rattle.errata.specs.Errata.{Says};
+ghost use Rattle.rules.specs.Says.{Says};
 ghost use Rattle.level.specs.Record.{bitAt, fieldAt};
 ghost use Rattle.level.specs.Reading.{Shaped};
 ghost use Rattle.record.specs.Reading.{Heads, eight, Unpacks, without, JudgedAs, AcceptedAs, RecordReadsAs};
@@ -172,7 +172,7 @@ pub fn accept(bs: &[u8], lanes: usize, tiles: &mut [u8]) -> Judged
         return j;
     }
     let m = j.width * j.height;
-    code::word::put_data(&board[0..m], tiles);
+    rules::copy(&board[0..m], tiles);
     j
 }
 

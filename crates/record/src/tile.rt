@@ -2,7 +2,7 @@
 ghost use mathlib.Core.Path.{_≡_};
 ghost use Prim.Native.Nat.{_+_, _*_, _≤_, _<_};
 ghost use lib.ListN.{length, getD};
-ghost use Rattle.code.specs.Refusal.{First};
+ghost use Rattle.rules.specs.Refusal.{First};
 ghost use Rattle.level.specs.Tile.{adds};
 ghost use Rattle.record.specs.Sum.{Same, packed, weighed, weight, Packs};
 ghost use Rattle.record.specs.Writing.{boarding};

@@ -6,7 +6,7 @@ use Prim.Native.Nat.{ℕ, _-_, _/_, _%_, _≤_}
 use native.Mathlib.Omega.{arith}
 use lib.ListN.{length}
 use Rattle.account.specs.Reach.{countTo, isMarked}
-use Rattle.code.specs.Refusal.{Rule, First}
+use Rattle.rules.specs.Refusal.{Rule, First}
 use Rattle.code.specs.Repair.{GoodMarks}
 use Rattle.level.specs.Strip.{Legal}
 use Rattle.level.specs.Reading.{entering}

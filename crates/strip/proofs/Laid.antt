@@ -18,7 +18,7 @@ use Rattle.level.specs.Strip.{columns, IsStrip}
 use Rattle.level.proofs.Strips.{lt-or-ge}
 use Rattle.level.proofs.RecordOf.{record-of, length-record}
 use Rattle.record.proofs.Tiles.{area-small}
-use Rattle.code.specs.Refusal.{First}
+use Rattle.rules.specs.Refusal.{First}
 use Rattle.code.specs.declared.word.Written.the-variants as written
 use Rattle.record.specs.Writing.{lent, lending, writingLevel}
 use Rattle.strip.specs.Writing.{Placed, LaidAs, StripWritesAs}

@@ -9,7 +9,7 @@ use lib.Seq.{take-take, length-take-le}
 use Rattle.account.proofs.Lanes.{bytes-lane}
 use Rattle.account.specs.Lanes as lanes
 use Rattle.gf256.specs.Gf256.{gf256}
-use Rattle.code.specs.Refusal.{First}
+use Rattle.rules.specs.Refusal.{First}
 use Rattle.level.specs.Tile.{totals}
 use Rattle.level.specs.Level.{Level, AllTiles, Playable}
 use Rattle.level.specs.Strip.{Reached, mendedOf, wearOf}

@@ -13,11 +13,12 @@ use Rattle.account.specs.Lanes.{lane}
 use Rattle.account.specs.Reach.{countTo, differsAt, isMarked, Reach}
 use Rattle.account.proofs.Cells.{count-none, not-differs}
 use Rattle.account.proofs.Lanes.{length-lane, getD-lane}
-use Rattle.code.specs.Refusal.{First}
+use Rattle.rules.specs.Refusal.{First}
 use Rattle.code.specs.Word.{writtenNumbers}
 use Rattle.code.specs.Repair.{GoodMarks}
 use Rattle.code.specs.declared.word.Written.{Written}
-use Rattle.code.proofs.Theorems.{first-fixes, decided, either, written-zero}
+use Rattle.rules.proofs.Laws.{first-fixes, decided, either}
+use Rattle.code.proofs.Theorems.{written-zero}
 use Rattle.level.specs.Level.{Level, IsLevel}
 use Rattle.level.specs.Record.{recordLength}
 use Rattle.level.specs.Strip.{columns, Legal, IsStrip, Reached, wrongIn, markedIn, mendedOf, wearOf}

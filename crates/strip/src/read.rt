@@ -3,7 +3,7 @@ ghost use mathlib.Core.Path.{_≡_};
 ghost use Prim.Native.Nat.{_*_, _-_, _≤_, _<_};
 ghost use lib.ListN.{length};
 ghost use Rattle.account.specs.Reach.{countTo, isMarked};
-ghost use Rattle.errata.specs.Errata.{Says};
+ghost use Rattle.rules.specs.Says.{Says};
 ghost use Rattle.level.specs.Strip.{Legal, wearOf};
 ghost use Rattle.lanes.specs.Lanes.{Ready, MendedAs};
 ghost use Rattle.strip.specs.Reading.{readNumbers, EntersAs, FinishedAs, StripReadsAs};
@@ -79,7 +79,7 @@ fn mend(strip: &[u8], marks: &[u8], f: usize, scratch: &mut [u8]) -> lanes::Mend
     ensures { λ r. ⌜ MendedAs (now (strip .entry)) (now (marks .entry)) (now (scratch .exit)) r ⌝ }
 {
     let r = remainder::remainders_of(strip);
-    code::word::put_data(strip, scratch);
+    rules::copy(strip, scratch);
     lanes::mend(strip, marks, f, r, scratch)
 }
 

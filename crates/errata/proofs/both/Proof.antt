@@ -7,7 +7,8 @@ use Rattle.account.proofs.Locate.{not-first, not-second, do-fit, do-not-fit}
 use Rattle.gf256.specs.Gf256.{gf256}
 use Rattle.gf256.proofs.Field256.{field256}
 use Rattle.errata.specs.Errata.{at}
-use Rattle.errata.proofs.Sums.{said, denied, filter-two, zeros-to, zeros-from}
+use Rattle.rules.proofs.Tests.{said, denied}
+use Rattle.errata.proofs.Sums.{filter-two, zeros-to, zeros-from}
 use borrow.Author.Needs.{needs}
 use Rattle.errata.proofs.both.Statement.{statement}
 use Rattle.errata.proofs.both.Tie as tie

@@ -6,7 +6,7 @@ use Rattle.account.proofs.Search.{Zeros, Fits}
 use Rattle.gf256.specs.Gf256.{gf256}
 use Rattle.gf256.proofs.Field256.{field256}
 use Rattle.errata.specs.Errata.{at}
-use Rattle.errata.proofs.Sums.{said, denied}
+use Rattle.rules.proofs.Tests.{said, denied}
 use Rattle.errata.proofs.Guesses.{guess0, guess1, guess2}
 use borrow.Author.Needs.{needs}
 use Rattle.errata.proofs.guess.Statement.{statement}

@@ -4,14 +4,14 @@ use borrow.Author.Needs.{needs}
 use Rattle.host.proofs.lane_of.Statement.{statement}
 use Rattle.host.proofs.lane_of.Tie as tie
 
-slice-aggregate-put-data : tie.Need-slice-aggregate-put-data
-slice-aggregate-put-data c = search needs
+slice-aggregate-copy : tie.Need-slice-aggregate-copy
+slice-aggregate-copy c = search needs
 
-put-data-requires : tie.Need-put-data-requires
-put-data-requires c κs = search needs
+copy-requires : tie.Need-copy-requires
+copy-requires c κs = search needs
 
 returns : tie.Need-returns
-returns c = (refl, lane-holds (c .before .before .before .before .args .s .now) _ (c .before .put-data .last .1 .0) (c .before .put-data .ensures))
+returns c = (refl, lane-holds (c .before .before .before .before .args .s .now) _ (c .before .copy .last .1 .0) (c .before .copy .ensures))
 
 pub lane-of-spec : {M : Type 1} → statement M
-lane-of-spec = tie.close (tie.spec slice-aggregate-put-data put-data-requires returns)
+lane-of-spec = tie.close (tie.spec slice-aggregate-copy copy-requires returns)

@@ -2,7 +2,7 @@ use lib.ListN.{length}
 use mathlib.Core.Path.{_≡_}
 use borrow.Author.Tests.{not-true, not-false}
 use Rattle.code.specs.Repair.{repairedNumbers}
-use Rattle.errata.proofs.Sums.{said, denied}
+use Rattle.rules.proofs.Tests.{said, denied}
 use Rattle.lanes.proofs.Repairs.{no-lane, yes-lane, good-one}
 use borrow.Author.Needs.{needs}
 use Rattle.lanes.proofs.repair_one.Statement.{statement}

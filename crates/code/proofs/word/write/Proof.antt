@@ -19,8 +19,8 @@ returns-3 c = refused-4 (c .before .before .before .before .before .args .«data
 checks-of-requires : tie.Need-checks-of-requires
 checks-of-requires c κs = search needs
 
-put-data-requires : tie.Need-put-data-requires
-put-data-requires c κs = search needs
+copy-requires : tie.Need-copy-requires
+copy-requires c κs = search needs
 
 put-checks-requires : tie.Need-put-checks-requires
 put-checks-requires c κs = search needs
@@ -34,8 +34,8 @@ same-length c = search needs
 returns-4 : tie.Need-returns-4
 returns-4 c =
     let s = c .before .before .before .before .before .before .before .before .before .before .before .before .before .before in
-    wrote (s .args .«data» .now) (s .args .word .now) (c .before .before .before .before .before .before .put-data .last .1 .0) (c .before .before .put-checks .last .0) (c .before .before .before .before .before .before .before .before .checks-of .result) (search needs) (search needs) (c .before .before .before .before .before .before .before .before .before .if3 .left) (c .before .before .before .before .before .before .before .before .checks-of .ensures)
-    (c .before .before .before .before .before .before .put-data .ensures) (c .before .before .put-checks .ensures)
+    wrote (s .args .«data» .now) (s .args .word .now) (c .before .before .before .before .before .before .copy .last .1 .0) (c .before .before .put-checks .last .0) (c .before .before .before .before .before .before .before .before .checks-of .result) (search needs) (search needs) (c .before .before .before .before .before .before .before .before .before .if3 .left) (c .before .before .before .before .before .before .before .before .checks-of .ensures)
+    (c .before .before .before .before .before .before .copy .ensures) (c .before .before .put-checks .ensures)
 
 pub write-spec : {M : Type 1} → statement M
 write-spec =
@@ -46,7 +46,7 @@ write-spec =
     add-if3
     returns-3
     checks-of-requires
-    put-data-requires
+    copy-requires
     put-checks-requires
     add-t6
     same-length

@@ -21,20 +21,20 @@ returns c =
 mul-m : tie.Need-mul-m
 mul-m c = omega (arith, c .before .before .before .judge .ensures .spells (c .before .if1 .left) .few)
 
-sub-put-data : tie.Need-sub-put-data
-sub-put-data c = search needs
+sub-copy : tie.Need-sub-copy
+sub-copy c = search needs
 
-part-put-data-start : tie.Need-part-put-data-start
-part-put-data-start c = search needs
+part-copy-start : tie.Need-part-copy-start
+part-copy-start c = search needs
 
-part-put-data-end : tie.Need-part-put-data-end
-part-put-data-end c =
+part-copy-end : tie.Need-part-copy-end
+part-copy-end c =
     let j = c .before .before .before .before .judge in
     let n : length (j .last .1 .1 .0) ≡ 968 = search needs in
     omega (arith, j .ensures .spells (c .before .before .if1 .left) .few)
 
-put-data-requires : tie.Need-put-data-requires
-put-data-requires c κs =
+copy-requires : tie.Need-copy-requires
+copy-requires c κs =
     let a = c .before .before .before .before .before .before .before .before .before .before .args in
     let j = c .before .before .before .before .before .before .judge in
     let n : length (j .last .1 .1 .0) ≡ 968 = search needs in
@@ -49,7 +49,7 @@ returns-2 c =
     let a = c .before .before .before .before .before .before .before .before .before .before .before .before .before .args in
     let j = c .before .before .before .before .before .before .before .before .before .judge in
     let n : length (j .last .1 .1 .0) ≡ 968 = search needs in
-    accepted (a .lanes) (a .bs .now) (j .last .1 .1 .0) (j .result) (j .ensures) (a .tiles .now) (c .before .before .before .before .before .before .before .if1 .left) (omega (arith, n)) _ (c .before .before .put-data .ensures)
+    accepted (a .lanes) (a .bs .now) (j .last .1 .1 .0) (j .result) (j .ensures) (a .tiles .now) (c .before .before .before .before .before .before .before .if1 .left) (omega (arith, n)) _ (c .before .before .copy .ensures)
 
 pub accept-spec : {M : Type 1} → statement M
 accept-spec =
@@ -59,9 +59,9 @@ accept-spec =
     judge-requires
     returns
     mul-m
-    sub-put-data
-    part-put-data-start
-    part-put-data-end
-    put-data-requires
+    sub-copy
+    part-copy-start
+    part-copy-end
+    copy-requires
     same-length
     returns-2)

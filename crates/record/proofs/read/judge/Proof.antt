@@ -2,7 +2,7 @@ use Prim.Native.Nat.{_*_, _-_, _≤_}
 use lib.ListN.{length, length-take}
 use Rattle.record.proofs.Judging.{judged-7, judged-8, judged-later, judged-0, area-is, area-few, headed, boarded}
 use Rattle.level.specs.Reading.{Shaped}
-use Rattle.errata.proofs.Sums.{said, denied}
+use Rattle.rules.proofs.Tests.{said, denied}
 use borrow.Author.Tests.{not-true, not-false}
 use native.Mathlib.Omega.{arith}
 use borrow.Author.Needs.{needs}

@@ -1,6 +1,6 @@
 use Rattle.record.proofs.Tiles.{area-small}
 use Rattle.record.specs.Writing.{Ranged}
-use Rattle.errata.proofs.Sums.{said, denied}
+use Rattle.rules.proofs.Tests.{said, denied}
 use borrow.Author.Tests.{not-true, not-false}
 use native.Mathlib.Omega.{arith}
 use mathlib.Core.Logic.{inl, inr}

@@ -2,7 +2,7 @@ use lib.ListN.{length}
 use native.Mathlib.Omega.{arith}
 use borrow.Author.Tests.{not-true, not-false}
 use Rattle.level.specs.Strip.{Legal}
-use Rattle.errata.proofs.Sums.{said, denied}
+use Rattle.rules.proofs.Tests.{said, denied}
 use Rattle.strip.proofs.Entering.{enters-1, enters-2, enters-3, enters-4, enters-5, enters}
 use borrow.Author.Needs.{needs}
 use Rattle.strip.proofs.read.enter.Statement.{statement}

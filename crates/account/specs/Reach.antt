@@ -2,9 +2,11 @@
 use mathlib.Core.Bool.{Bool, true, false, not}
 use mathlib.Core.Path.{_≡_}
 use mathlib.Core.List.{List}
-use Prim.Native.Nat.{ℕ, zero, suc, _+_, _*_, _≤_}
+use Prim.Native.Nat.{ℕ, zero, suc, _+_, _*_, _≤_, _<_}
 use lib.Dec.{eqb}
 use lib.ListN.{length, getD}
+use Rattle.account.specs.Field.{Ops}
+use Rattle.account.specs.Code.{Cells, Clean}
 
 abbrev pub oneIf : Bool → ℕ
 oneIf true = 1
@@ -19,7 +21,11 @@ unfoldable pub countTo : (ℕ → Bool) → ℕ → ℕ
 countTo f zero = 0
 countTo f (suc n) = countTo f n + oneIf (f n)
 
--- cell p is marked: "0 read, 1 unreadable"
+-- each mark is 0 or 1
+abbrev pub GoodMarks : List ℕ → Type 0
+GoodMarks marks = (p : ℕ) → p < length marks → getD marks p 0 ≤ 1
+
+-- cell p is marked: 0 is read, 1 unreadable
 abbrev pub isMarked : List ℕ → ℕ → Bool
 isMarked marks p = not (eqb (getD marks p 0) 0)
 
@@ -43,3 +49,10 @@ pub record Reach (marks r w : List ℕ) : Type 0 where
 pub record SameRead (marks r s : List ℕ) : Type 0 where
   pub same-length : length r ≡ length s
   pub read : (p : ℕ) → isMarked marks p ≡ false → getD r p 0 ≡ getD s p 0
+
+-- a clean word of the field within reach of r
+pub record Reachable (O : Ops) (marks r : List ℕ) : Type 0 where
+  pub word : List ℕ
+  pub cells : Cells O word
+  pub clean : Clean O word
+  pub reach : Reach marks r word

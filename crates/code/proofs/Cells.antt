@@ -9,7 +9,7 @@ use lib.ListN.{length, getD}
 use Rattle.account.specs.Field.{power, sumTo}
 use Rattle.account.specs.Product.{product}
 use Rattle.account.specs.Code.{alphaTo, S, Cells, Clean, WordOf}
-use Rattle.account.specs.Reach.{oneIf, countTo, isMarked, differsAt, marked, differing, Reach}
+use Rattle.account.specs.Reach.{oneIf, countTo, isMarked, differsAt, marked, differing, Reach, Reachable}
 use Rattle.account.proofs.Cells.{count-cong}
 use Rattle.account.proofs.Test.{both, both-left, both-right}
 use Rattle.account.proofs.Laws as laws
@@ -18,7 +18,6 @@ use Rattle.account.proofs.Words.{five}
 use Rattle.account.proofs.Generator as generators
 use Rattle.gf256.specs.Gf256.{gf256, times}
 use Rattle.gf256.proofs.Field256.{field256}
-use Rattle.code.specs.Repair.{Reachable}
 use Rattle.code.specs.Cells.{All, table}
 use Rattle.code.proofs.Theorems.{one-in-reach, none-at-six}
 
@@ -80,14 +79,14 @@ reach-cons marks r w h = record {
 }
 
 -- without its first cell the wrong place would be outside the word
-outside : Reachable (0 ∷ 0 ∷ 0 ∷ 0 ∷ 0 ∷ 0 ∷ []) (0x00 ∷ 0x6C ∷ 0xAA ∷ 0x82 ∷ 0x8B ∷ 0xCE ∷ []) → ⊥
+outside : Reachable gf256 (0 ∷ 0 ∷ 0 ∷ 0 ∷ 0 ∷ 0 ∷ []) (0x00 ∷ 0x6C ∷ 0xAA ∷ 0x82 ∷ 0x8B ∷ 0xCE ∷ []) → ⊥
 unfolding countTo
 outside R = let z : _≡_ {A = ℕ} 0 1 = ap (λ (l : List ℕ). getD l 0 0) same in omega arith
   where
     same : 0 ∷ R .word ≡ 0x01 ∷ 0x00 ∷ 0x6C ∷ 0xAA ∷ 0x82 ∷ 0x8B ∷ 0xCE ∷ []
     same =
         one-in-reach (0 ∷ 0 ∷ 0 ∷ 0 ∷ 0 ∷ 0 ∷ 0 ∷ []) (0x00 ∷ 0x00 ∷ 0x6C ∷ 0xAA ∷ 0x82 ∷ 0x8B ∷ 0xCE ∷ []) (0 ∷ R .word)
-        (0x01 ∷ 0x00 ∷ 0x6C ∷ 0xAA ∷ 0x82 ∷ 0x8B ∷ 0xCE ∷ []) (omega arith) (cells-cons (R .word) (R .bytes))
+        (0x01 ∷ 0x00 ∷ 0x6C ∷ 0xAA ∷ 0x82 ∷ 0x8B ∷ 0xCE ∷ []) (omega arith) (cells-cons (R .word) (R .cells))
         (bytes-of (0x01 ∷ 0x00 ∷ 0x6C ∷ 0xAA ∷ 0x82 ∷ 0x8B ∷ 0xCE ∷ []) tt) (clean-cons (R .word) (R .clean)) clean3
         (reach-cons (0 ∷ 0 ∷ 0 ∷ 0 ∷ 0 ∷ 0 ∷ []) (0x00 ∷ 0x6C ∷ 0xAA ∷ 0x82 ∷ 0x8B ∷ 0xCE ∷ []) (R .word) (R .reach))
         (record { same-length = refl; few = omega arith })
@@ -137,5 +136,5 @@ cells = (
     ones = 1 ∷ 1 ∷ 1 ∷ 1 ∷ 1 ∷ 1 ∷ []
 
     -- a clean word at exactly six refutes every other
-    at-six : (marks r v : List ℕ) → length r ≤ 255 → Cells gf256 v → Clean gf256 v → length v ≡ length r → 2 * differing marks r v + marked marks r ≡ 6 → Reachable marks r → ⊥
-    at-six marks r v short cv kv e six R = none-at-six marks r v (R .word) short cv (R .bytes) kv (R .clean) e six (R .reach)
+    at-six : (marks r v : List ℕ) → length r ≤ 255 → Cells gf256 v → Clean gf256 v → length v ≡ length r → 2 * differing marks r v + marked marks r ≡ 6 → Reachable gf256 marks r → ⊥
+    at-six marks r v short cv kv e six R = none-at-six marks r v (R .word) short cv (R .cells) kv (R .clean) e six (R .reach)

@@ -8,7 +8,7 @@ use native.Mathlib.Omega.{arith}
 use lib.ListN.{length, getD, take, drop}
 use lib.Seq.{ext-getD, length-take-le}
 use Rattle.account.specs.Code.{Cells, Clean, syndrome}
-use Rattle.account.specs.Reach.{countTo, isMarked, differsAt, differing, marked, Reach}
+use Rattle.account.specs.Reach.{countTo, isMarked, differsAt, differing, marked, Reach, GoodMarks, Reachable}
 use Rattle.account.proofs.Cells.{count-places, count-none, not-differs}
 use Rattle.account.proofs.Words as words
 use Rattle.account.proofs.Decode.{Applied}
@@ -20,7 +20,7 @@ use Rattle.errata.specs.Errata.{at, Bytes5, cellsOf, valuesOf, Mends, Beyond, S
 use Rattle.code.specs.declared.repair.Repaired.the-variants as repaired
 use Rattle.code.specs.declared.repair.Entered.{Entered}
 use Rattle.rules.specs.Refusal.{First, Within}
-use Rattle.code.specs.Repair.{GoodMarks, Reachable, entering, repairing, RepairsAs, EntersAs, countedOf}
+use Rattle.code.specs.Repair.{entering, repairing, RepairsAs, EntersAs, countedOf}
 use Rattle.code.proofs.Applying.{count-is}
 
 -- ---- a syndrome's bytes
@@ -104,7 +104,7 @@ repair-refused marks r c f n = record {
 
 pub repair-beyond : (marks r : List ℕ) → Entry marks r → Beyond marks r → RepairsAs marks r r (repaired.Refused 6)
 repair-beyond marks r E B = record {
-  code = inr (E .legal, inr (E .matched, inr (E .good, inl ((λ R. B (R .word) (R .bytes) (R .clean) (R .reach)), refl))));
+  code = inr (E .legal, inr (E .matched, inr (E .good, inl ((λ R. B (R .word) (R .cells) (R .clean) (R .reach)), refl))));
   clean = λ e. absurd (omega arith);
   reach = λ e. absurd (omega arith);
   value = λ e. absurd (omega arith);
@@ -118,7 +118,7 @@ too-many marks r f E ef h w cw kw hw = omega (arith, hw .few, ef, ap (countTo (i
 pub repair-mends : (marks r w : List ℕ) (e : Errata) (m : ℕ) → Entry marks r → Mends marks r e → Applied gf256 (cellsOf e) (valuesOf e) r w
     → m ≡ countedOf marks (cellsOf e) (valuesOf e) → RepairsAs marks r w (repaired.Mended m)
 repair-mends marks r w e m E K A em = record {
-  code = inr (E .legal, inr (E .matched, inr (E .good, inr (record { word = w; bytes = mended .2; clean = mended .0; reach = mended .1 }, refl))));
+  code = inr (E .legal, inr (E .matched, inr (E .good, inr (record { word = w; cells = mended .2; clean = mended .0; reach = mended .1 }, refl))));
   clean = λ _. mended .0;
   reach = λ _. mended .1;
   value = λ _. em ∙ count-is marks (cellsOf e) (valuesOf e) r w long (K .listed .below) (K .listed .distinct) A;

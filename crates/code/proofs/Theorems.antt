@@ -9,7 +9,7 @@ use lib.ListN.{length, take, drop, take-append-drop}
 use lib.Seq.{length-take-le}
 use Rattle.account.specs.Field.{power}
 use Rattle.account.specs.Code.{alphaTo, Cells, Clean, WordOf}
-use Rattle.account.specs.Reach.{marked, differing, Reach, SameRead}
+use Rattle.account.specs.Reach.{marked, differing, Reach, SameRead, Reachable}
 use Rattle.account.specs.Generator.{generator, times, plus, scale, Multiple}
 use Rattle.account.specs.Product.{product}
 use Rattle.account.proofs.Theorems as theorems
@@ -28,7 +28,7 @@ use Rattle.code.specs.declared.lane.LaneRepair.{LaneRepair}
 use Rattle.rules.specs.Refusal.{First}
 use Rattle.rules.proofs.Laws.{first-fixes, same-numbers, decided, either}
 use Rattle.code.specs.Word.{writing, testing, WritesAs, TestsAs, writtenNumbers, testedNumbers}
-use Rattle.code.specs.Repair.{Reachable, repairing, RepairsAs, repairedNumbers}
+use Rattle.code.specs.Repair.{repairing, RepairsAs, repairedNumbers}
 use Rattle.code.specs.Lane.{wordOf, LaneRepairsAs}
 
 -- "Its first 255 powers are all different and non-zero"
@@ -137,8 +137,8 @@ repairs-fixed marks old v w a b cv cw A B =
 other-side : (marks r s : List ℕ) → SameRead marks r s → SameRead marks s r
 other-side marks r s same = record { same-length = sym (same .same-length); read = λ p e. sym (same .read p e) }
 
-reachable : (marks r s : List ℕ) → SameRead marks r s → Reachable marks r → Reachable marks s
-reachable marks r s same R = record { word = R .word; bytes = R .bytes; clean = R .clean; reach = theorems.same-reach marks r s (R .word) same (R .reach) }
+reachable : (marks r s : List ℕ) → SameRead marks r s → Reachable gf256 marks r → Reachable gf256 marks s
+reachable marks r s same R = record { word = R .word; cells = R .cells; clean = R .clean; reach = theorems.same-reach marks r s (R .word) same (R .reach) }
 
 same-code : (most n m : ℕ) (marks r s : List ℕ) (c : ℕ) → SameRead marks r s → First (repairing most n m marks r) c → First (repairing most n m marks s) c
 same-code most n m marks r s c same (inl p) = inl p

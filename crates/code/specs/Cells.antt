@@ -3,9 +3,8 @@ use mathlib.Core.Path.{_≡_}
 use mathlib.Core.List.{List, [], _∷_}
 use Prim.Native.Nat.{ℕ}
 use Rattle.account.specs.Code.{Clean, WordOf}
-use Rattle.account.specs.Reach.{differing, Reach}
+use Rattle.account.specs.Reach.{differing, Reach, Reachable}
 use Rattle.gf256.specs.Gf256.{gf256, times}
-use Rattle.code.specs.Repair.{Reachable}
 
 pub data Cell : Type 0 where
   -- a times b is c
@@ -21,7 +20,7 @@ abbrev pub Holds : Cell → Type 0
 Holds (product a b c) = times a b ≡ c
 Holds (gives d w) = WordOf gf256 d w
 Holds (becomes marks r w e) = Clean gf256 w × Reach marks r w × (differing marks r w ≡ e)
-Holds (refused marks r) = Reachable marks r → ⊥
+Holds (refused marks r) = Reachable gf256 marks r → ⊥
 
 abbrev pub All : List Cell → Type 0
 All [] = Unit {0}

@@ -6,7 +6,7 @@ use Prim.Native.Nat.{ℕ, _+_, _≤_, _<_}
 use lib.Dec.{eqb}
 use lib.ListN.{length, getD}
 use Rattle.account.specs.Code.{Cells, Clean}
-use Rattle.account.specs.Reach.{countTo, isMarked, oneIf, and, differing, Reach}
+use Rattle.account.specs.Reach.{countTo, isMarked, oneIf, and, differing, Reach, GoodMarks, Reachable}
 use Rattle.gf256.specs.Gf256.{gf256}
 use Rattle.rules.specs.Refusal.{Rule, unless, First, Numbers, done, refused, Within}
 use Rattle.code.specs.declared.repair.Repaired.{Repaired}
@@ -19,21 +19,10 @@ abbrev pub repairedNumbers : Repaired → Numbers
 repairedNumbers (repaired.Mended e) = done e
 repairedNumbers (repaired.Refused c) = refused c
 
--- "Marks are one byte per cell, 0 read, 1 unreadable."
-abbrev pub GoodMarks : List ℕ → Type 0
-GoodMarks marks = (p : ℕ) → p < length marks → getD marks p 0 ≤ 1
-
--- a clean word of bytes within reach of r
-pub record Reachable (marks r : List ℕ) : Type 0 where
-  pub word : List ℕ
-  pub bytes : Cells gf256 word
-  pub clean : Clean gf256 word
-  pub reach : Reach marks r word
-
 -- r has n bytes and m marks. 1: "word not 6–255" (most is 255; 96 for a lane); 2: "marks differ in length"; 3: "a mark above 1";
 -- 6: "no clean word within reach"
 abbrev pub repairing : ℕ → ℕ → ℕ → List ℕ → List ℕ → List Rule
-repairing most n m marks r = unless 1 (Within 6 most n) ∷ unless 2 (m ≡ n) ∷ unless 3 (GoodMarks marks) ∷ unless 6 (Reachable marks r) ∷ []
+repairing most n m marks r = unless 1 (Within 6 most n) ∷ unless 2 (m ≡ n) ∷ unless 3 (GoodMarks marks) ∷ unless 6 (Reachable gf256 marks r) ∷ []
 
 -- "If one is, the word becomes it and e is returned as mended. Otherwise refusal 6."
 pub record RepairsAs (marks old new : List ℕ) (a : Repaired) : Type 0 where

@@ -8,13 +8,13 @@ use native.Mathlib.Omega.{arith}
 use lib.ListN.{length, take}
 use Rattle.account.specs.Lanes.{lane}
 use Rattle.account.specs.Code.{Clean}
-use Rattle.account.specs.Reach.{Reach, countTo, isMarked, differing, differsAt, marked}
+use Rattle.account.specs.Reach.{Reach, countTo, isMarked, differing, differsAt, marked, GoodMarks, Reachable}
 use Rattle.account.proofs.Cells.{count-none, not-differs}
 use Rattle.account.proofs.Lanes.{length-lane, getD-lane}
 use Rattle.gf256.specs.Gf256.{gf256}
 use Rattle.rules.specs.Says.{Says}
 use Rattle.rules.specs.Refusal.{First}
-use Rattle.code.specs.Repair.{GoodMarks, Reachable, repairedNumbers, repairing}
+use Rattle.code.specs.Repair.{repairedNumbers, repairing}
 use Rattle.code.specs.Lane.{wordOf, LaneRepairsAs}
 use Rattle.code.specs.declared.lane.Lane.{Lane}
 use Rattle.code.specs.declared.lane.LaneRepair.{LaneRepair}
@@ -39,7 +39,7 @@ module _ (s marks : List ℕ) (j : ℕ) (below : j < 4) (w m : Lane) (r : LaneRe
   only-six c n (inl a) q = a .0 (record { from = omega (arith, lw, columns-fit s (rd .legal)); to = omega (arith, lw, columns-fit s (rd .legal)) })
   only-six c n (inr (x, inl a)) q = a .0 (lm ∙ sym lw)
   only-six c n (inr (x, inr (y, inl a))) q = a .0 (subst GoodMarks (sym em) (marks-good marks j below (rd .good)))
-  only-six c n (inr (x, inr (y, inr (z, inl a)))) q = a .0 (subst (λ (v : List ℕ). Reachable v (wordOf w)) (sym em) (subst (Reachable (lane 4 j marks)) (sym ew) q))
+  only-six c n (inr (x, inr (y, inr (z, inl a)))) q = a .0 (subst (λ (v : List ℕ). Reachable gf256 v (wordOf w)) (sym em) (subst (Reachable gf256 (lane 4 j marks)) (sym ew) q))
   only-six c n (inr (x, inr (y, inr (z, inr (p, e))))) q = n e
 
   pub no-lane : (repairedNumbers (r .answer) .code ≡ 0 → ⊥) → Mendable 4 marks s j → ⊥

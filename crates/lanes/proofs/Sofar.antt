@@ -110,7 +110,7 @@ module _ (s marks : List ℕ) where
       below = λ i j. let m = w .each i j in
           record {
             word = lane 4 i (front x);
-            bytes = bytes-lane 4 (omega arith) gf256 i (front x) (omega arith) (front-bytes x (fits o x e l rd w) (w .bytes));
+            cells = bytes-lane 4 (omega arith) gf256 i (front x) (omega arith) (front-bytes x (fits o x e l rd w) (w .bytes));
             clean = m .clean;
             reach = m .reach;
           };

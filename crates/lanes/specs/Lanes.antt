@@ -6,10 +6,10 @@ use Prim.Native.Nat.{ℕ, _≤_, _<_}
 use lib.ListN.{length, take}
 use Rattle.account.specs.Lanes.{lane}
 use Rattle.account.specs.Code.{Clean}
-use Rattle.account.specs.Reach.{Reach}
+use Rattle.account.specs.Reach.{Reach, GoodMarks}
 use Rattle.gf256.specs.Gf256.{gf256}
 use Rattle.rules.specs.Says.{Says}
-use Rattle.code.specs.Repair.{GoodMarks, repairedNumbers}
+use Rattle.code.specs.Repair.{repairedNumbers}
 use Rattle.code.specs.declared.repair.Repaired.{Repaired}
 use Rattle.level.specs.Strip.{Legal, wrongIn, mendedOf}
 use Rattle.level.specs.Reading.{Mends, Mendable, Lowest}

@@ -24,7 +24,7 @@ use Rattle.level.proofs.Judged.{levelOf, spelled-record, spelled-level,
 module _ (R : ℕ) (some : 0 < R) where
   -- a mended strip mends each lane
   pub mendable : (marks s t : List ℕ) → Mends R marks s t → (j : ℕ) → j < R → Mendable R marks s j
-  mendable marks s t M j h = record { word = lane R j t; bytes = bytes-lane R some gf256 j t h (M .bytes); clean = M .clean j h; reach = M .reach .each j h }
+  mendable marks s t M j h = record { word = lane R j t; cells = bytes-lane R some gf256 j t h (M .bytes); clean = M .clean j h; reach = M .reach .each j h }
 
   -- the cells of a strip of k + 5 columns, without the last five
   module _ (t : List ℕ) (k : ℕ) (size : length t ≡ R * (k + 5)) where

@@ -3,12 +3,12 @@ use mathlib.Core.Path.{_≡_}
 use mathlib.Core.List.{List, [], _∷_}
 use Prim.Native.Nat.{ℕ, _+_, _*_, _-_, _≤_, _<_}
 use lib.ListN.{length, take}
+use Rattle.account.specs.Reach.{GoodMarks, Reachable}
 use Rattle.account.specs.Lists.{listOf}
 use Rattle.account.specs.Lanes.{lane}
 use Rattle.account.specs.Code.{Cells, Clean}
 use Rattle.gf256.specs.Gf256.{gf256}
 use Rattle.rules.specs.Refusal.{Rule, unless, Within}
-use Rattle.code.specs.Repair.{GoodMarks, Reachable}
 use Rattle.level.specs.Tile.{totals}
 use Rattle.level.specs.Level.{Level, Sized, AllTiles, Playable}
 use Rattle.level.specs.Record.{bitAt, fieldAt, recordLength}
@@ -58,7 +58,7 @@ readingRecord bs room = unless 1 (Within 4 364 (length bs)) ∷ unless 4 (961 �
 module _ (R : ℕ) where
   -- lane j can be mended
   abbrev pub Mendable : List ℕ → List ℕ → ℕ → Type 0
-  Mendable marks s j = Reachable (lane R j marks) (lane R j s)
+  Mendable marks s j = Reachable gf256 (lane R j marks) (lane R j s)
 
   -- t is what s is mended to: each lane is clean and within reach
   pub record Mends (marks s t : List ℕ) : Type 0 where

@@ -5,9 +5,8 @@ use mathlib.Core.List.{List, []}
 use Prim.Native.Nat.{ℕ, _-_, _/_, _%_, _≤_}
 use native.Mathlib.Omega.{arith}
 use lib.ListN.{length}
-use Rattle.account.specs.Reach.{countTo, isMarked}
+use Rattle.account.specs.Reach.{countTo, isMarked, GoodMarks}
 use Rattle.rules.specs.Refusal.{Rule, First}
-use Rattle.code.specs.Repair.{GoodMarks}
 use Rattle.level.specs.Strip.{Legal}
 use Rattle.level.specs.Reading.{entering}
 use Rattle.lanes.specs.Lanes.{Ready}

@@ -88,7 +88,7 @@ module _ (s marks tiles scratch : List ℕ) where
       no-level = λ k l t r.
           low .beyond (record {
             word = lanes.lane 4 j t;
-            bytes = bytes-lane 4 (omega arith) gf256 j t (low .lane-below) (r .is-strip .bytes);
+            cells = bytes-lane 4 (omega arith) gf256 j t (low .lane-below) (r .is-strip .bytes);
             clean = r .is-strip .clean j (low .lane-below);
             reach = r .reach .each j (low .lane-below);
           });

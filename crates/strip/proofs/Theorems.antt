@@ -10,12 +10,11 @@ use lib.Dec.{T, eqb}
 use lib.ListN.{length, getD, take, drop, take-append-drop}
 use Rattle.account.specs.Lists.{sumOf}
 use Rattle.account.specs.Lanes.{lane}
-use Rattle.account.specs.Reach.{countTo, differsAt, isMarked, Reach}
+use Rattle.account.specs.Reach.{countTo, differsAt, isMarked, Reach, GoodMarks}
 use Rattle.account.proofs.Cells.{count-none, not-differs}
 use Rattle.account.proofs.Lanes.{length-lane, getD-lane}
 use Rattle.rules.specs.Refusal.{First}
 use Rattle.code.specs.Word.{writtenNumbers}
-use Rattle.code.specs.Repair.{GoodMarks}
 use Rattle.code.specs.declared.word.Written.{Written}
 use Rattle.rules.proofs.Laws.{first-fixes, decided, either}
 use Rattle.code.proofs.Theorems.{written-zero}

@@ -7,11 +7,10 @@ use mathlib.Core.List.{List}
 use mathlib.Core.Logic.{⊎-elim}
 use lib.ListN.{length, getD}
 use lib.Seq.{ext-getD}
-use Rattle.account.specs.Code.{Cells}
-use Rattle.gf256.specs.Gf256.{gf256}
+use Rattle.rules.specs.Bytes.{Bytes}
 use Rattle.level.specs.Level.{Level, IsLevel}
 use Rattle.level.specs.Record.{bitAt, fieldAt, IsRecord}
-use Rattle.level.proofs.Strips.{lt-or-ge}
+use Rattle.level.proofs.Dealing.{lt-or-ge}
 use Rattle.level.proofs.Bits.{bit-of}
 
 pub bit-small : (bs : List ℕ) (p : ℕ) → bitAt bs p < 2
@@ -66,7 +65,7 @@ module _ (xs ys : List ℕ) where
   bits-field p (suc n) f = ap₂ (λ (x y : ℕ). 2 * x + y) (bits-field p n (λ i h. f i (omega arith))) (f n (omega arith))
 
   -- bytes with the same bits are the same
-  pub ext-bits : Cells gf256 xs → Cells gf256 ys → length xs ≡ length ys → ((p : ℕ) → p < 8 * length xs → bitAt xs p ≡ bitAt ys p) → xs ≡ ys
+  pub ext-bits : Bytes xs → Bytes ys → length xs ≡ length ys → ((p : ℕ) → p < 8 * length xs → bitAt xs p ≡ bitAt ys p) → xs ≡ ys
   ext-bits bx by e f =
       ext-getD 0 xs ys e (λ q h.
       sym (byte-field xs q (bx .cell q h)) ∙ bits-field (8 * q) 8 (λ i l. f (8 * q + i) (omega arith)) ∙ byte-field ys q (by .cell q (omega arith)))

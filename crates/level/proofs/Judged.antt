@@ -7,22 +7,17 @@ use mathlib.Core.List.{List}
 use mathlib.Core.Logic.{_⊎_, inl, inr}
 use lib.ListN.{length, getD, take}
 use lib.Seq.{getD-take, ext-getD, length-take-le}
-use Rattle.account.specs.Code.{Cells}
-use Rattle.gf256.specs.Gf256.{gf256}
+use Rattle.rules.specs.Bytes.{Bytes}
+use Rattle.rules.specs.Refusal.{Hold, asked}
 use Rattle.account.proofs.Lists.{length-listOf, getD-listOf}
 use Rattle.account.proofs.Lanes.{getD-past}
-use Rattle.level.specs.Tile.{totals}
-use Rattle.level.specs.Level.{Level, IsLevel, Playable, AllTiles, Sized}
+use Rattle.level.specs.Level.{Level, IsLevel, Ranged, Coded, Fair}
 use Rattle.level.specs.Record.{bitAt, fieldAt, recordLength, IsRecord}
 use Rattle.level.specs.Strip.{columns}
-use Rattle.level.specs.Reading.{tilesIn, tilesOf, Headed, Shaped}
+use Rattle.level.specs.Reading.{tilesIn, tilesOf, levelOf, Shaped, judging}
 use Rattle.level.proofs.Bits.{bit-of}
-use Rattle.level.proofs.Strips.{lt-or-ge, within}
+use Rattle.level.proofs.Dealing.{lt-or-ge, within}
 use Rattle.level.proofs.Fields.{same-level}
-
--- the level that a run of bytes spells
-abbrev pub levelOf : List ℕ → Level
-levelOf bs = record { width = fieldAt bs 4 5; height = fieldAt bs 9 5; par = fieldAt bs 14 10; tiles = tilesOf bs }
 
 pub length-tiles : (bs : List ℕ) (n : ℕ) → length (tilesIn bs n) ≡ n
 unfolding tilesIn
@@ -63,7 +58,7 @@ zero-bit : (bs : List ℕ) (p : ℕ) → getD bs (p / 8) 0 ≡ 0 → bitAt bs p 
 unfolding bitAt
 zero-bit bs p e = ap (λ (x : ℕ). x / 2 ^ (7 - p % 8) % 2) e ∙ ap (λ (x : ℕ). x % 2) (zero-div (2 ^ (7 - p % 8)))
 
-module _ (R : ℕ) (some : 0 < R) (bs : List ℕ) (by : Cells gf256 bs) (sh : Shaped R bs) where
+module _ (R : ℕ) (some : 0 < R) (bs : List ℕ) (by : Bytes bs) (sh : Shaped R bs) where
   abbrev m : ℕ
   m = fieldAt bs 4 5 * fieldAt bs 9 5
 
@@ -83,11 +78,11 @@ module _ (R : ℕ) (some : 0 < R) (bs : List ℕ) (by : Cells gf256 bs) (sh : Sh
   fld p n h = field-front (take B bs) bs B same-front p n h
 
   -- its record is in front
-  pub spelled-record : Headed bs → IsRecord (levelOf bs) (take B bs)
-  spelled-record hd = record {
+  pub spelled-record : IsRecord (levelOf bs) (take B bs)
+  spelled-record = record {
     bytes = record { cell = λ j h. let k : j < B = omega (arith, front) in rw (same-front j k) (by .cell j (omega (arith, room))) };
     size = front;
-    version = fld 0 4 (omega arith) ∙ hd .version;
+    version = fld 0 4 (omega arith);
     width = fld 4 5 (omega arith);
     height = fld 9 5 (omega arith);
     par = fld 14 10 (omega arith);
@@ -104,10 +99,9 @@ module _ (R : ℕ) (some : 0 < R) (bs : List ℕ) (by : Cells gf256 bs) (sh : Sh
       go (inl k) = sym (same-front q k)
       go (inr k) = zero-byte bs q (by .cell q h) (λ p a b. sh .filling p (omega arith) (omega arith)) ∙ sym (getD-past (take B bs) q (omega (arith, front)))
 
-pub spelled-level : (bs : List ℕ) → Headed bs → AllTiles (tilesOf bs) → Playable (totals (tilesOf bs)) → IsLevel (levelOf bs)
-spelled-level bs hd al pl = record {
-  sized = hd .sized;
-  par-small = hd .par-small;
+pub spelled-level : (bs : List ℕ) → Ranged (levelOf bs) → Coded (levelOf bs) → Fair (levelOf bs) → IsLevel (levelOf bs)
+spelled-level bs ra al pl = record {
+  ranged = ra;
   count = length-tiles bs (fieldAt bs 4 5 * fieldAt bs 9 5);
   codes = al;
   playable = pl;
@@ -116,10 +110,13 @@ spelled-level bs hd al pl = record {
 -- nothing to refuse, and the level l is spelled
 pub record Passes (R : ℕ) (bs : List ℕ) (l : Level) : Type 0 where
   pub level : levelOf bs ≡ l
-  pub headed : Headed bs
+  pub ranged : Ranged (levelOf bs)
   pub shaped : Shaped R bs
-  pub tiles : AllTiles (tilesOf bs)
-  pub playable : Playable (totals (tilesOf bs))
+  pub codes : Coded (levelOf bs)
+  pub playable : Fair (levelOf bs)
+
+pub passes-all : (R : ℕ) (bs : List ℕ) (l : Level) → Passes R bs l → Hold (asked (λ ask. ask bs) (judging R))
+passes-all R bs l p = (p .ranged, (p .shaped, (p .codes, (p .playable, tt))))
 
 -- the record of a level with zero bytes after it passes
 module _ (R : ℕ) (some : 0 < R) (l : Level) (rec bs : List ℕ) (il : IsLevel l) (is : IsRecord l rec)
@@ -143,7 +140,7 @@ module _ (R : ℕ) (some : 0 < R) (l : Level) (rec bs : List ℕ) (il : IsLevel 
   area = ap₂ (λ (x y : ℕ). x * y) wide high
 
   e : levelOf bs ≡ l
-  e = same-level (levelOf bs) l wide high
+  e = same-level (levelOf bs) l (fld' 0 4 (omega (arith, long)) ∙ is .version) wide high
       (fld' 14 10 (omega (arith, long)) ∙ is .par)
       (ap (tilesIn bs) area ∙ ext-getD 0 (tilesIn bs (l .width * l .height)) (l .tiles) (length-tiles bs (l .width * l .height) ∙ sym (il .count)) (λ i k.
       let j : i < l .width * l .height = omega (arith, length-tiles bs (l .width * l .height)) in
@@ -156,17 +153,13 @@ module _ (R : ℕ) (some : 0 < R) (l : Level) (rec bs : List ℕ) (il : IsLevel 
   pub record-passes : Passes R bs l
   record-passes = record {
     level = e;
-    headed = record {
-      version = fld' 0 4 (omega (arith, long)) ∙ is .version;
-      sized = subst (λ (x : Level). Sized (x .width) (x .height)) (sym e) (il .sized);
-      par-small = subst (λ (x : Level). x .par ≤ 1023) (sym e) (il .par-small);
-    };
+    ranged = subst Ranged (sym e) (il .ranged);
     shaped = record {
       fits = subst (λ (x : Level). length bs ≡ R * columns R (recordLength (x .width) (x .height))) (sym e) (size ∙ ap (λ (n : ℕ). R * columns R n) (is .size));
       filling = λ p h k.
           sym (bit-front rec bs (length bs) same p k)
           ∙ fill p (subst (λ (x : Level). 24 + 3 * (x .width * x .height) ≤ p) e h) (lt-or-ge p (8 * length rec));
     };
-    tiles = subst (λ (x : Level). AllTiles (x .tiles)) (sym e) (il .codes);
-    playable = subst (λ (x : Level). Playable (totals (x .tiles))) (sym e) (il .playable);
+    codes = subst Coded (sym e) (il .codes);
+    playable = subst Fair (sym e) (il .playable);
   }

@@ -1,11 +1,14 @@
+pub mod Written
 pub mod Bits
+pub mod Dealing
 pub mod Fields
 pub mod Strips
 pub mod Determined
-pub mod OneStrip
 pub mod RecordOf
 pub mod Windows
 pub mod Judged
 pub mod Mended
+pub mod Counts
+pub mod Unread
 pub mod Cells
 pub mod Theorems

@@ -9,10 +9,10 @@ use borrow.Author.Tests.{lt-ltb, le-ltb}
 use lib.ListN.{length, getD}
 use Rattle.level.specs.Level.{Level, IsLevel}
 use Rattle.level.specs.Record.{bitAt, fieldAt, recordLength, IsRecord}
-use Rattle.level.specs.Written.{digit, spelled, recordBit, recordByte, recordOf}
+use Rattle.level.proofs.Written.{digit, spelled, recordBit, recordByte, recordOf}
 use Rattle.account.proofs.Lanes.{getD-past}
 use Rattle.account.proofs.Lists.{length-listOf, getD-listOf}
-use Rattle.level.proofs.Strips.{lt-or-ge}
+use Rattle.level.proofs.Dealing.{lt-or-ge}
 use Rattle.level.proofs.Determined.{byte-field, bit-small}
 
 pub spelled-below : (n : ℕ) (f : ℕ → ℕ) → ((i : ℕ) → i < n → f i < 2) → spelled n f < 2 ^ n
@@ -70,7 +70,7 @@ digit-small N v i = go (v / 2 ^ (N - suc i))
     go x = omega arith
 
 module _ (l : Level) where
-  pub bit-1 : (p : ℕ) → p < 4 → recordBit l p ≡ digit 4 1 p
+  pub bit-1 : (p : ℕ) → p < 4 → recordBit l p ≡ digit 4 (l .version) p
   unfolding recordBit
   bit-1 p h = rw (lt-ltb p 4 h)
 
@@ -94,7 +94,7 @@ module _ (l : Level) where
 
   pub bits-small : (p : ℕ) → recordBit l p < 2
   bits-small p =
-      ⊎-elim (λ h. rw (bit-1 p h) (digit-small 4 1 p)) (λ a.
+      ⊎-elim (λ h. rw (bit-1 p h) (digit-small 4 (l .version) p)) (λ a.
       ⊎-elim (λ h. rw (bit-2 p a h) (digit-small 5 (l .width) (p - 4))) (λ b.
       ⊎-elim (λ h. rw (bit-3 p b h) (digit-small 5 (l .height) (p - 9))) (λ d.
       ⊎-elim (λ h. rw (bit-4 p d h) (digit-small 10 (l .par) (p - 14))) (λ e.
@@ -146,10 +146,10 @@ module _ (l : Level) where
   record-of il = record {
     bytes = record { cell = λ j h. let k : j < B = omega (arith, length-record) in rw (getD-record j k) (byte-below j) };
     size = length-record;
-    version = field-record 0 4 1 (omega arith) (omega arith) (λ i h. let z : 0 + i ≡ i = omega arith in rw z (bit-1 i h));
-    width = field-record 4 5 (l .width) (omega arith) (omega (arith, il .sized)) (λ i h. bit-2 (4 + i) (omega arith) (omega arith) ∙ ap (digit 5 (l .width)) (omega arith));
-    height = field-record 9 5 (l .height) (omega arith) (omega (arith, il .sized)) (λ i h. bit-3 (9 + i) (omega arith) (omega arith) ∙ ap (digit 5 (l .height)) (omega arith));
-    par = field-record 14 10 (l .par) (omega arith) (omega (arith, il .par-small)) (λ i h. bit-4 (14 + i) (omega arith) (omega arith) ∙ ap (digit 10 (l .par)) (omega arith));
+    version = field-record 0 4 (l .version) (omega arith) (omega (arith, il .ranged .known)) (λ i h. let z : 0 + i ≡ i = omega arith in rw z (bit-1 i h));
+    width = field-record 4 5 (l .width) (omega arith) (omega (arith, il .ranged .sized)) (λ i h. bit-2 (4 + i) (omega arith) (omega arith) ∙ ap (digit 5 (l .width)) (omega arith));
+    height = field-record 9 5 (l .height) (omega arith) (omega (arith, il .ranged .sized)) (λ i h. bit-3 (9 + i) (omega arith) (omega arith) ∙ ap (digit 5 (l .height)) (omega arith));
+    par = field-record 14 10 (l .par) (omega arith) (omega (arith, il .ranged .par-small)) (λ i h. bit-4 (14 + i) (omega arith) (omega arith) ∙ ap (digit 10 (l .par)) (omega arith));
     tile = λ i h. field-record (24 + 3 * i) 3 (getD (l .tiles) i 0) (omega (arith, il .count)) (omega (arith, il .codes i h)) (λ j k. tiled i j k);
     filling = λ p h k. bits-record p (omega (arith, length-record)) ∙ bit-past p (omega arith) (omega arith);
   }

@@ -1,22 +1,25 @@
--- What is promised of levels, records and strips alone, each with its sentence.
-use mathlib.Core.Path.{_≡_, sym, _∙_}
+-- What is promised of levels, records and strips alone. Strips are over any field whose elements are bytes, and any number of lanes.
+use mathlib.Core.Path.{_≡_, sym, ap, _∙_}
 use mathlib.Core.List.{List}
 use Prim.Native.Nat.{ℕ, _+_, _*_, _/_, _≤_, _<_}
+use native.Mathlib.Omega.{arith}
 use lib.ListN.{length}
+use Rattle.account.specs.Field.{Ops, IsField}
+use Rattle.account.specs.Reach.{differing}
 use Rattle.level.specs.Level.{Level, IsLevel}
 use Rattle.level.specs.Record.{recordLength, IsRecord}
-use Rattle.level.specs.Written.{recordOf}
-use Rattle.level.specs.Strip.{columns, IsStrip, Reached, wrongIn, markedIn}
+use Rattle.level.specs.Strip.{columns, Legal, Dealt, IsStrip, StripReach, Reached, wrongIn, markedIn, mendedOf, wearOf}
+use Rattle.level.proofs.Written.{recordOf}
+use Rattle.level.proofs.Dealing.{some-dealt}
 use Rattle.level.proofs.Fields as fields
 use Rattle.level.proofs.Determined as determined
 use Rattle.level.proofs.RecordOf as records
 use Rattle.level.proofs.Strips as strips
-use Rattle.level.proofs.OneStrip as one
-use Rattle.level.proofs.Mended as mended
+use Rattle.level.proofs.Counts as counts
 
 -- Each level has a record, and one.
-pub some-record : (l : Level) → IsLevel l → IsRecord l (recordOf l)
-some-record = records.record-of
+pub some-record : (l : Level) → IsLevel l → (bs : List ℕ) × IsRecord l bs
+some-record l il = (recordOf l, records.record-of l il)
 
 pub one-record : (l : Level) (xs ys : List ℕ) → IsLevel l → IsRecord l xs → IsRecord l ys → xs ≡ ys
 one-record = determined.one-record
@@ -25,20 +28,44 @@ one-record = determined.one-record
 pub record-injective : (l m : Level) (bs : List ℕ) → IsLevel l → IsLevel m → IsRecord l bs → IsRecord m bs → l ≡ m
 record-injective = fields.record-injective
 
--- "that level's strip": a level has at most one.
-pub one-strip : (R : ℕ) → 0 < R → (l : Level) (s t : List ℕ) → IsLevel l → IsStrip R l s → IsStrip R l t
-    → columns R (recordLength (l .width) (l .height)) ≤ 250 → s ≡ t
-one-strip = one.one-strip
+module _ (O : Ops) (F : IsField O) (R : ℕ) (some : 0 < R) where
+  open Ops O using (order)
 
--- Two levels with one strip are one level.
-pub strip-injective : (R : ℕ) → 0 < R → (l m : Level) (s : List ℕ) → IsLevel l → IsLevel m → IsStrip R l s → IsStrip R m s → l ≡ m
-strip-injective R some l m s il im a b = sym (mended.strip-passes R some l s il a .level) ∙ mended.strip-passes R some m s im b .level
+  -- Each level has a strip, where bytes are cells and its lanes are words of the code.
+  pub some-strip : 256 ≤ O .size → (l : Level) → IsLevel l → columns R (recordLength (l .width) (l .height)) + 5 ≤ order → (s : List ℕ) × IsStrip O R l s
+  some-strip room l il short = (d .0, record { bs = recordOf l; is-record = r; dealt = d .1 })
+    where
+      r : IsRecord l (recordOf l)
+      r = records.record-of l il
 
--- "no other level has a strip of that length within reach"
-pub one-level : (R : ℕ) → 0 < R → (marks s : List ℕ) → length s / R ≤ 255 → (l m : Level) (t u : List ℕ) → Reached R marks s l t → Reached R marks s m u → l ≡ m
-one-level = strips.one-level
+      d : (s : List ℕ) × Dealt O R (recordOf l) s
+      d = some-dealt O F R some (recordOf l) (rw (records.record-of l il .size) short) (record { cell = λ p h. omega (arith, room, records.record-of l il .bytes .cell p h) })
 
--- "Whenever the sum .. counted against some strip of that length that we wrote, is 6 in at least one lane, the picture is refused."
-pub six-refused : (R : ℕ) → 0 < R → (marks s : List ℕ) → length s / R ≤ 255 → (l m : Level) (v t : List ℕ) (j : ℕ) → length marks ≡ length s → IsStrip R l v
-    → length v ≡ length s → j < R → 2 * wrongIn R marks s v j + markedIn R marks j ≡ 6 → Reached R marks s m t → ⊥
-six-refused = strips.six-refused
+  -- And one.
+  pub one-strip : (l : Level) (s t : List ℕ) → IsLevel l → columns R (recordLength (l .width) (l .height)) + 5 ≤ order → IsStrip O R l s → IsStrip O R l t → s ≡ t
+  one-strip = strips.one-strip O F R some
+
+  -- Two levels with one strip are one level.
+  pub strip-injective : (l m : Level) (s : List ℕ) → IsLevel l → IsLevel m → IsStrip O R l s → IsStrip O R m s → l ≡ m
+  strip-injective = strips.strip-injective O F R some
+
+  module _ (marks s : List ℕ) (m : ℕ) (full : length s ≡ R * m) (short : m ≤ order) where
+    -- No other level has a strip of that length within reach.
+    pub one-level : (l n : Level) (t u : List ℕ) → Reached O R marks s l t → Reached O R marks s n u → l ≡ n
+    one-level = strips.one-level O F R some marks s m full short
+
+    -- At 2e + f = 6 in a lane, counted against a level's strip, no level is within reach.
+    pub six-refused : (l n : Level) (v t : List ℕ) (j : ℕ) → length marks ≡ length s → IsStrip O R l v → length v ≡ length s → j < R
+        → 2 * wrongIn R marks s v j + markedIn R marks j ≡ 6 → Reached O R marks s n t → ⊥
+    six-refused = strips.six-refused O F R some marks s m full short
+
+-- At most two cells of each lane are mended, and wear is at most 33.
+pub mended-most : (R : ℕ) → 0 < R → (marks s t : List ℕ) → StripReach R marks s t → mendedOf R marks s t ≤ 2 * R
+mended-most = counts.mended-most
+
+pub wear-most : (R : ℕ) → 0 < R → (marks s t : List ℕ) → Legal R (length s) → StripReach R marks s t → wearOf (mendedOf R marks s t) (length s) ≤ 33
+wear-most = counts.wear-most
+
+-- Mended is the number of unmarked cells in which the two strips differ.
+pub mended-differing : (R : ℕ) → 0 < R → (marks s t : List ℕ) (m : ℕ) → length s ≡ R * m → length marks ≡ length s → length t ≡ length s → mendedOf R marks s t ≡ differing marks s t
+mended-differing = counts.mended-differing

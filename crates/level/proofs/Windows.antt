@@ -7,7 +7,7 @@ use native.Mathlib.Omega.{arith}
 use lib.Pow.{mod-pow-add}
 use lib.ListN.{getD}
 use Rattle.level.specs.Record.{bitAt, fieldAt}
-use Rattle.level.specs.Written.{digit, spelled}
+use Rattle.level.proofs.Written.{digit, spelled}
 use Rattle.level.proofs.Bits.{bit-of}
 use Rattle.level.proofs.Determined.{bit-small}
 

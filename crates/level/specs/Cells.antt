@@ -1,31 +1,59 @@
--- The cells of document 01 that are marked P and concern records and strips, as a table.
+-- The worked examples that are proved, as one table: products, words, repairs, a record and its strip.
+use mathlib.Core.Path.{_≡_}
 use mathlib.Core.List.{List, [], _∷_}
 use Prim.Native.Nat.{ℕ}
+use Rattle.account.specs.Code.{Clean, WordOf}
+use Rattle.account.specs.Reach.{differing, Reach, Reachable}
+use Rattle.gf256.specs.Gf256.{gf256, times}
 use Rattle.level.specs.Level.{Level, IsLevel}
 use Rattle.level.specs.Record.{IsRecord}
 use Rattle.level.specs.Strip.{IsStrip}
 
--- a level with its record and its strip of four lanes
-pub record Cell : Type 0 where
-  pub level : Level
-  pub bytes : List ℕ
-  pub strip : List ℕ
+pub data Cell : Type 0 where
+  -- a times b is c
+  product : ℕ → ℕ → ℕ → Cell
+  -- data d gives the word w
+  gives : List ℕ → List ℕ → Cell
+  -- r with these marks becomes w, mended e
+  becomes : List ℕ → List ℕ → List ℕ → ℕ → Cell
+  -- r with these marks is refused (6)
+  refused : List ℕ → List ℕ → Cell
+  -- a level with its record and its strip of four lanes
+  lays : Level → List ℕ → List ℕ → Cell
 
 abbrev pub Holds : Cell → Type 0
-Holds c = IsLevel (c .level) × IsRecord (c .level) (c .bytes) × IsStrip 4 (c .level) (c .strip)
+Holds (product a b c) = times a b ≡ c
+Holds (gives d w) = WordOf gf256 d w
+Holds (becomes marks r w e) = Clean gf256 w × Reach marks r w × (differing marks r w ≡ e)
+Holds (refused marks r) = Reachable gf256 marks r → ⊥
+Holds (lays l bs s) = IsLevel l × IsRecord l bs × IsStrip gf256 4 l s
 
 abbrev pub All : List Cell → Type 0
 All [] = Unit {0}
 All (c ∷ cs) = Holds c × All cs
 
--- "width 2, height 1, par 5, tiles 4 5 is record 11 04 05 94 and strip 11 04 05 94 B2 .."
+abbrev none6 : List ℕ
+none6 = 0 ∷ 0 ∷ 0 ∷ 0 ∷ 0 ∷ 0 ∷ []
+
+abbrev none7 : List ℕ
+none7 = 0 ∷ none6
+
 abbrev pub table : List Cell
 table =
-    record {
-      level = record { width = 2; height = 1; par = 5; tiles = 4 ∷ 5 ∷ [] };
-      bytes = 0x11 ∷ 0x04 ∷ 0x05 ∷ 0x94 ∷ [];
-      strip =
-          0x11 ∷ 0x04 ∷ 0x05 ∷ 0x94 ∷ 0xB2 ∷ 0x1F ∷ 0xD1 ∷ 0xA4 ∷ 0x20 ∷ 0xBF ∷ 0x59 ∷ 0x07
-          ∷ 0x20 ∷ 0xBF ∷ 0x59 ∷ 0x07 ∷ 0xB2 ∷ 0x1F ∷ 0xD1 ∷ 0xA4 ∷ 0x11 ∷ 0x04 ∷ 0x05 ∷ 0x94 ∷ [];
-    }
+    product 0x02 0x8E 0x01
+    ∷ product 0xCE 0xCE 0x8A
+    ∷ product 0xCE 0xE6 0x4C
+    ∷ gives (0x01 ∷ []) (0x01 ∷ 0xCE ∷ 0xE6 ∷ 0xE6 ∷ 0xCE ∷ 0x01 ∷ [])
+    ∷ gives (0x02 ∷ []) (0x02 ∷ 0x81 ∷ 0xD1 ∷ 0xD1 ∷ 0x81 ∷ 0x02 ∷ [])
+    ∷ gives (0x01 ∷ 0x00 ∷ []) (0x01 ∷ 0x00 ∷ 0x6C ∷ 0xAA ∷ 0x82 ∷ 0x8B ∷ 0xCE ∷ [])
+    ∷ becomes none6 (0x00 ∷ 0xCE ∷ 0xE6 ∷ 0x00 ∷ 0x00 ∷ 0x00 ∷ []) (0 ∷ 0 ∷ 0 ∷ 0 ∷ 0 ∷ 0 ∷ []) 2
+    ∷ refused none6 (0x01 ∷ 0xCE ∷ 0xE6 ∷ 0x00 ∷ 0x00 ∷ 0x00 ∷ [])
+    ∷ becomes (0 ∷ 0 ∷ 0 ∷ 1 ∷ 0 ∷ 0 ∷ []) (0x01 ∷ 0xCE ∷ 0xE6 ∷ 0x00 ∷ 0x00 ∷ 0x00 ∷ []) (0x01 ∷ 0xCE ∷ 0xE6 ∷ 0xE6 ∷ 0xCE ∷ 0x01 ∷ []) 2
+    ∷ becomes (0 ∷ 1 ∷ 1 ∷ 1 ∷ 1 ∷ 1 ∷ []) (0x02 ∷ 0 ∷ 0 ∷ 0 ∷ 0 ∷ 0 ∷ []) (0x02 ∷ 0x81 ∷ 0xD1 ∷ 0xD1 ∷ 0x81 ∷ 0x02 ∷ []) 0
+    ∷ refused (1 ∷ 1 ∷ 1 ∷ 1 ∷ 1 ∷ 1 ∷ []) (0x02 ∷ 0 ∷ 0 ∷ 0 ∷ 0 ∷ 0 ∷ [])
+    ∷ becomes none7 (0x00 ∷ 0x00 ∷ 0x6C ∷ 0xAA ∷ 0x82 ∷ 0x8B ∷ 0xCE ∷ []) (0x01 ∷ 0x00 ∷ 0x6C ∷ 0xAA ∷ 0x82 ∷ 0x8B ∷ 0xCE ∷ []) 1
+    ∷ refused none6 (0x00 ∷ 0x6C ∷ 0xAA ∷ 0x82 ∷ 0x8B ∷ 0xCE ∷ [])
+    ∷ lays (record { version = 1; width = 2; height = 1; par = 5; tiles = 4 ∷ 5 ∷ [] }) (0x11 ∷ 0x04 ∷ 0x05 ∷ 0x94 ∷ [])
+    (0x11 ∷ 0x04 ∷ 0x05 ∷ 0x94 ∷ 0xB2 ∷ 0x1F ∷ 0xD1 ∷ 0xA4 ∷ 0x20 ∷ 0xBF ∷ 0x59 ∷ 0x07
+    ∷ 0x20 ∷ 0xBF ∷ 0x59 ∷ 0x07 ∷ 0xB2 ∷ 0x1F ∷ 0xD1 ∷ 0xA4 ∷ 0x11 ∷ 0x04 ∷ 0x05 ∷ 0x94 ∷ [])
     ∷ []

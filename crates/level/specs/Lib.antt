@@ -1,7 +1,8 @@
+pub mod Sizes
 pub mod Tile
 pub mod Level
 pub mod Record
-pub mod Written
 pub mod Strip
-pub mod Cells
 pub mod Reading
+pub mod Writing
+pub mod Cells

@@ -1,10 +1,9 @@
--- Records: "Fields are bit-packed, most significant first."
+-- Records: the fields of a level, bit-packed, the most significant bit first.
 use mathlib.Core.Path.{_≡_}
 use Prim.Native.Nat.{ℕ, zero, suc, _+_, _*_, _-_, _/_, _%_, _^_, _≤_, _<_}
 use mathlib.Core.List.{List}
 use lib.ListN.{length, getD}
-use Rattle.account.specs.Code.{Cells}
-use Rattle.gf256.specs.Gf256.{gf256}
+use Rattle.rules.specs.Bytes.{Bytes}
 use Rattle.level.specs.Level.{Level}
 
 -- bit p of a run of bytes, the most significant of each byte first
@@ -16,16 +15,15 @@ unfoldable pub fieldAt : List ℕ → ℕ → ℕ → ℕ
 fieldAt bs p zero = 0
 fieldAt bs p (suc n) = 2 * fieldAt bs p n + bitAt bs (p + n)
 
--- "Length is 3 + (3 times width times height)/8 rounded up"
+-- three bytes, and the bits of the tiles, rounded up to whole bytes
 abbrev pub recordLength : ℕ → ℕ → ℕ
 recordLength w h = 3 + (3 * (w * h) + 7) / 8
 
--- "version 4 bits (1), width 5 bits and height 5 bits, par 10 bits. Tiles start at byte 3, row by row, 3 bits each.
--- Zero bits fill the last byte."
+-- version 4 bits, width 5, height 5, par 10; the tiles from byte 3 on, row by row, 3 bits each; zero bits to the end
 pub record IsRecord (l : Level) (bs : List ℕ) : Type 0 where
-  pub bytes : Cells gf256 bs
+  pub bytes : Bytes bs
   pub size : length bs ≡ recordLength (l .width) (l .height)
-  pub version : fieldAt bs 0 4 ≡ 1
+  pub version : fieldAt bs 0 4 ≡ l .version
   pub width : fieldAt bs 4 5 ≡ l .width
   pub height : fieldAt bs 9 5 ≡ l .height
   pub par : fieldAt bs 14 10 ≡ l .par

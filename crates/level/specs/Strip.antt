@@ -1,60 +1,86 @@
--- Strips over R lanes.
+-- Strips: cells of a field dealt to R lanes, each lane a word of the code.
 use mathlib.Core.Path.{_≡_}
 use Prim.Native.Nat.{ℕ, _+_, _*_, _-_, _/_, _%_, _≤_, _<_}
 use mathlib.Core.List.{List}
 use lib.ListN.{length, getD}
+use Rattle.account.specs.Field.{Ops}
 use Rattle.account.specs.Code.{Cells, Clean}
-use Rattle.account.specs.Reach.{countTo, differsAt, isMarked, Reach}
-use Rattle.gf256.specs.Gf256.{gf256}
+use Rattle.account.specs.Reach.{countTo, differsAt, isMarked, Reach, Reachable}
 use Rattle.account.specs.Lists.{sumOf}
 use Rattle.account.specs.Lanes.{lane}
+use Rattle.level.specs.Sizes.{recordLeast, recordMost}
 use Rattle.level.specs.Level.{Level, IsLevel}
 use Rattle.level.specs.Record.{recordLength, IsRecord}
 
-module _ (R : ℕ) where
-  -- "k is B/4 rounded up"
-  abbrev pub columns : ℕ → ℕ
-  columns B = (B + (R - 1)) / R
+-- ---- over the lanes
 
-  -- "Length N = 4(k + 5), .. k from 1 to 91; each such N is a legal length": k is that of a record of 4 to 364 bytes, or between
+module _ (R : ℕ) where
+  -- data cells of a lane, for n cells in all
+  abbrev pub columns : ℕ → ℕ
+  columns n = (n + (R - 1)) / R
+
+  -- R (k + 5) cells, where k is that of the shortest record, of the longest, or between
   pub record Legal (N : ℕ) : Type 0 where
     pub k : ℕ
-    pub from : columns 4 ≤ k
-    pub to : k ≤ columns 364
+    pub from : columns recordLeast ≤ k
+    pub to : k ≤ columns recordMost
     pub cells : N ≡ R * (k + 5)
 
-  -- "Record byte q is data byte q div 4 of lane q mod 4", zero bytes fill it; "each lane is a word of k + 5 bytes"
-  pub record IsStrip (l : Level) (s : List ℕ) : Type 0 where
-    pub bytes : Cells gf256 s
-    pub size : length s ≡ R * (columns (recordLength (l .width) (l .height)) + 5)
-    pub clean : (j : ℕ) → j < R → Clean gf256 (lane R j s)
-    pub bs : List ℕ
-    pub is-record : IsRecord l bs
-    pub laid : (q : ℕ) → q < R * columns (length bs) → getD (lane R (q % R) s) (q / R) 0 ≡ getD bs q 0
-
-  -- "in each lane, twice the unmarked cells that differ plus the marked cells is at most 5"
+  -- t is within reach of s: lane for lane
   pub record StripReach (marks s t : List ℕ) : Type 0 where
     pub same-length : length t ≡ length s
     pub each : (j : ℕ) → j < R → Reach (lane R j marks) (lane R j s) (lane R j t)
 
-  -- the unmarked cells of lane j in which t and s differ
+  -- the unmarked cells of lane j in which t and s differ, and its marked cells
   abbrev pub wrongIn : List ℕ → List ℕ → List ℕ → ℕ → ℕ
   wrongIn marks s t j = countTo (differsAt (lane R j marks) (lane R j s) (lane R j t)) (length s / R)
 
   abbrev pub markedIn : List ℕ → ℕ → ℕ
   markedIn marks j = countTo (isMarked (lane R j marks)) (length marks / R)
 
-  -- mended: "the number of unmarked cells, over all lanes, in which the strip read differs"
+  -- mended: the unmarked cells in which t and s differ, over all lanes
   unfoldable pub mendedOf : List ℕ → List ℕ → List ℕ → ℕ
   unfolding sumOf
   mendedOf marks s t = sumOf R (wrongIn marks s t)
+
+-- wear: 100 times mended over the cells, rounded down
+abbrev pub wearOf : ℕ → ℕ → ℕ
+wearOf mended N = 100 * mended / N
+
+-- ---- over the field and the lanes
+
+module _ (O : Ops) (R : ℕ) where
+  -- the cells cs with zeros after them, dealt to the lanes: cell q is cell q div R of lane q mod R. Each lane is a clean word.
+  pub record Dealt (cs s : List ℕ) : Type 0 where
+    pub cells : Cells O s
+    pub size : length s ≡ R * (columns R (length cs) + 5)
+    pub clean : (j : ℕ) → j < R → Clean O (lane R j s)
+    pub laid : (q : ℕ) → q < R * columns R (length cs) → getD (lane R (q % R) s) (q / R) 0 ≡ getD cs q 0
+
+  -- the strip of a level: its record, dealt
+  pub record IsStrip (l : Level) (s : List ℕ) : Type 0 where
+    pub bs : List ℕ
+    pub is-record : IsRecord l bs
+    pub dealt : Dealt bs s
 
   -- a level with its strip, of the same length and within reach
   pub record Reached (marks s : List ℕ) (l : Level) (t : List ℕ) : Type 0 where
     pub is-level : IsLevel l
     pub is-strip : IsStrip l t
-    pub reach : StripReach marks s t
+    pub reach : StripReach R marks s t
 
--- "wear: 100 times mended / N, rounded down"
-abbrev pub wearOf : ℕ → ℕ → ℕ
-wearOf mended N = 100 * mended / N
+  -- lane j can be mended
+  abbrev pub Mendable : List ℕ → List ℕ → ℕ → Type 0
+  Mendable marks s j = Reachable O (lane R j marks) (lane R j s)
+
+  -- t is what s is mended to: each lane is clean and within reach
+  pub record Mends (marks s t : List ℕ) : Type 0 where
+    pub cells : Cells O t
+    pub clean : (j : ℕ) → j < R → Clean O (lane R j t)
+    pub reach : StripReach R marks s t
+
+  -- the lowest lane beyond reach
+  pub record Lowest (marks s : List ℕ) (j : ℕ) : Type 0 where
+    pub lane-below : j < R
+    pub beyond : Mendable marks s j → ⊥
+    pub below : (i : ℕ) → i < j → Mendable marks s i

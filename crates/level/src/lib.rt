@@ -1,2 +1,2 @@
 // Levels, records and strips are in specs/, with what is true of them in proofs/. This function only makes it a crate.
-pub fn level() {}
+fn level() {}

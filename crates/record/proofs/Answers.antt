@@ -1,41 +1,58 @@
 -- The answers of the writer.
 use mathlib.Core.Path.{_≡_, refl, subst}
 use mathlib.Core.Logic.{inl, inr}
-use mathlib.Core.List.{List, _++_}
+use mathlib.Core.List.{List}
 use Prim.Native.Nat.{ℕ, _≤_}
 use native.Mathlib.Omega.{arith}
-use lib.ListN.{length, drop}
-use Rattle.level.specs.Level.{IsLevel}
-use Rattle.level.specs.Record.{recordLength}
-use Rattle.level.specs.Written.{recordOf}
-use Rattle.rules.specs.Refusal.{First}
+use lib.ListN.{length}
+use Rattle.rules.specs.Refusal.{First, Hold, asked}
+use Rattle.rules.proofs.Laws.{all-hold, hold-first, stops}
+use Rattle.level.specs.Level.{Level, IsLevel, Ranged, lending}
+use Rattle.level.specs.Writing.{lent, writingLevel}
 use Rattle.code.specs.declared.word.Written.the-variants as written
-use Rattle.record.specs.Writing.{lent, lending, writingLevel, RecordWritesAs}
+use Rattle.record.specs.Writing.{RecordWritesAs, RecordPut, InRange}
 
+-- the ranges, of numbers and of the level that has them
 module _ (w h par : ℕ) (tiles : List ℕ) where
-  -- what is not refused is a level
-  pub lent-level : (c : ℕ) → c ≡ 0 → First (lending w h par tiles) c → IsLevel (lent w h par tiles)
-  lent-level c z (inl p) = absurd (omega (arith, z, p .1))
-  lent-level c z (inr (s, inl p)) = absurd (omega (arith, z, p .1))
-  lent-level c z (inr (s, inr (t, inl p))) = absurd (omega (arith, z, p .1))
-  lent-level c z (inr (s, inr (t, inr (k, inl p)))) = absurd (omega (arith, z, p .1))
-  lent-level c z (inr (s, inr (t, inr (k, inr (y, p))))) = record { sized = s .sized; par-small = s .par-small; count = t; codes = k; playable = y }
+  pub ranged-is : InRange w h par → Ranged (lent w h par tiles)
+  ranged-is r = record { known = refl; sized = r .sized; par-small = r .par-small }
+
+  pub ranged-has : Ranged (lent w h par tiles) → InRange w h par
+  ranged-has r = record { sized = r .sized; par-small = r .par-small }
+
+module _ (l : Level) where
+  -- a level passes, and what passes is one
+  pub level-passes : IsLevel l → Hold (asked (λ ask. ask l) lending)
+  level-passes il = (il .ranged, (il .count, (il .codes, (il .playable, tt))))
+
+  pub level-passed : Hold (asked (λ ask. ask l) lending) → IsLevel l
+  level-passed (r, (c, (k, (p, none)))) = record { ranged = r; count = c; codes = k; playable = p }
+
+  pub lent-level : (c : ℕ) → c ≡ 0 → First (asked (λ ask. ask l) lending) c → IsLevel l
+  lent-level c z f = level-passed (all-hold 10 (asked (λ ask. ask l) lending) c tt f z)
+
+  -- the same of a writer's whole list
+  pub written-level : (least room c : ℕ) → c ≡ 0 → First (writingLevel least l room) c → (least ≤ room) × IsLevel l
+  written-level least room c z f = let h = all-hold 10 (writingLevel least l room) c tt f z in (h .0, level-passed (h .1))
+
+  pub level-written : (least room : ℕ) → least ≤ room → IsLevel l → First (writingLevel least l room) 0
+  level-written least room k il = hold-first (writingLevel least l room) (k, level-passes il)
 
   module _ (old : List ℕ) where
-    none : (c : ℕ) → (c ≡ 0 → ⊥) → First (writingLevel 364 w h par tiles (length old)) c → RecordWritesAs w h par tiles old old (written.Refused c)
-    none c n f = record { code = f; value = λ z. absurd (n z); written = λ z. absurd (n z); kept = λ _. refl }
+    none : (c : ℕ) → (c ≡ 0 → ⊥) → First (writingLevel 364 l (length old)) c → RecordWritesAs l old old (written.Refused c)
+    none c n f = record { code = f; value = λ z. absurd (n z); is-record = λ z. absurd (n z); past = λ z. absurd (n z); kept = λ _. refl }
 
-    pub refused-4 : (364 ≤ length old → ⊥) → RecordWritesAs w h par tiles old old (written.Refused 4)
-    refused-4 n = none 4 (λ z. omega arith) (inl (n, refl))
+    pub refused-4 : (364 ≤ length old → ⊥) → RecordWritesAs l old old (written.Refused 4)
+    refused-4 n = none 4 (λ z. omega arith) (stops 0 (writingLevel 364 l (length old)) 4 (n, refl))
 
-    pub refused-later : (c : ℕ) → 364 ≤ length old → (c ≡ 0 → ⊥) → First (lending w h par tiles) c → RecordWritesAs w h par tiles old old (written.Refused c)
+    pub refused-later : (c : ℕ) → 364 ≤ length old → (c ≡ 0 → ⊥) → First (asked (λ ask. ask l) lending) c → RecordWritesAs l old old (written.Refused c)
     refused-later c a n f = none c n (inr (a, f))
 
-    pub wrote : (new : List ℕ) (c n : ℕ) → 364 ≤ length old → c ≡ 0 → First (lending w h par tiles) c → n ≡ recordLength w h
-        → new ≡ recordOf (lent w h par tiles) ++ drop n old → RecordWritesAs w h par tiles old new (written.Length n)
-    wrote new c n a z f size is = record {
-      code = inr (a, subst (First (lending w h par tiles)) z f);
-      value = λ _. size;
-      written = λ _. rw size at is;
+    pub wrote : (new : List ℕ) (c n : ℕ) → 364 ≤ length old → c ≡ 0 → First (asked (λ ask. ask l) lending) c → RecordPut l old new n → RecordWritesAs l old new (written.Length n)
+    wrote new c n a z f P = record {
+      code = inr (a, subst (First (asked (λ ask. ask l) lending)) z f);
+      value = λ _. P .size;
+      is-record = λ _. rw (P .size) at (P .is-record);
+      past = λ _. rw (P .size) at (P .past);
       kept = λ k. absurd (k refl);
     }

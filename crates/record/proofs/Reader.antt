@@ -6,33 +6,28 @@ use Prim.Native.Nat.{ℕ, _*_, _-_, _≤_}
 use native.Mathlib.Omega.{arith}
 use lib.ListN.{length, take, drop}
 use lib.Seq.{take-at, drop-at, take-all, length-take-le}
-use Rattle.account.specs.Code.{Cells}
-use Rattle.gf256.specs.Gf256.{gf256}
-use Rattle.rules.specs.Refusal.{First, Within}
-use Rattle.level.specs.Tile.{totals}
-use Rattle.level.specs.Level.{Level, IsLevel, AllTiles, Playable}
+use Rattle.rules.specs.Refusal.{First, Hold, Within, asked}
+use Rattle.rules.specs.Bytes.{Bytes}
+use Rattle.rules.proofs.Laws.{all-hold, stops}
+use Rattle.level.specs.Level.{Level, IsLevel, Ranged}
 use Rattle.level.specs.Record.{fieldAt, recordLength, IsRecord}
 use Rattle.level.specs.Strip.{columns}
-use Rattle.level.specs.Reading.{tilesOf, Headed, Shaped, judging, readingRecord}
+use Rattle.level.specs.Reading.{tilesOf, levelOf, Shaped, judging, readingRecord}
 use Rattle.level.proofs.Fields.{same-level}
-use Rattle.level.proofs.Judged.{levelOf, length-tiles, spelled-record, spelled-level}
+use Rattle.level.proofs.Judged.{length-tiles, spelled-record, spelled-level}
 use Rattle.record.specs.declared.read.Judged.{Judged}
 use Rattle.record.specs.declared.read.RecordRead.the-variants as read
 use Rattle.record.specs.Reading.{RecordReadsAs, JudgedAs, AcceptedAs}
 
 -- what is not refused has passed every rule
-pub passed : (R : ℕ) (bs : List ℕ) (c : ℕ) → c ≡ 0 → First (judging R (λ ask. ask bs)) c → Headed bs × Shaped R bs × AllTiles (tilesOf bs) × Playable (totals (tilesOf bs))
-passed R bs c z (inl p) = absurd (omega (arith, z, p .1))
-passed R bs c z (inr (h, inl p)) = absurd (omega (arith, z, p .1))
-passed R bs c z (inr (h, inr (s, inl p))) = absurd (omega (arith, z, p .1))
-passed R bs c z (inr (h, inr (s, inr (t, inl p)))) = absurd (omega (arith, z, p .1))
-passed R bs c z (inr (h, inr (s, inr (t, inr (y, p))))) = (h, s, t, y)
+pub passed : (R : ℕ) (bs : List ℕ) (c : ℕ) → c ≡ 0 → First (asked (λ ask. ask bs) (judging R)) c → Hold (asked (λ ask. ask bs) (judging R))
+passed R bs c z f = all-hold 10 (asked (λ ask. ask bs) (judging R)) c tt f z
 
 -- the bytes of a record are all of it
-pub whole-record : (bs : List ℕ) → Cells gf256 bs → Headed bs → Shaped 1 bs → IsRecord (levelOf bs) bs
-whole-record bs by h s =
+pub whole-record : (bs : List ℕ) → Bytes bs → Shaped 1 bs → IsRecord (levelOf bs) bs
+whole-record bs by s =
     subst (IsRecord (levelOf bs)) (take-all (recordLength (fieldAt bs 4 5) (fieldAt bs 9 5)) bs (omega (arith, all, s .fits)))
-    (spelled-record 1 (omega arith) bs by s h)
+    (spelled-record 1 (omega arith) bs by s)
   where
     all : 1 * columns 1 (recordLength (fieldAt bs 4 5) (fieldAt bs 9 5)) ≡ recordLength (fieldAt bs 4 5) (fieldAt bs 9 5)
     all = go (recordLength (fieldAt bs 4 5) (fieldAt bs 9 5))
@@ -43,12 +38,15 @@ whole-record bs by h s =
 -- the level that the bytes spell is the one returned, and what is past its tiles keeps its value
 module _ (bs old new : List ℕ) (w h par : ℕ) (ew : w ≡ fieldAt bs 4 5) (eh : h ≡ fieldAt bs 9 5) (ep : par ≡ fieldAt bs 14 10)
     (put : new ≡ tilesOf bs ++ drop (w * h) old) where
+  abbrev made : Level
+  made = record { version = 1; width = w; height = h; par = par; tiles = take (w * h) new }
+
   count : length (tilesOf bs) ≡ w * h
   count = length-tiles bs (fieldAt bs 4 5 * fieldAt bs 9 5) ∙ sym (ap₂ (λ (x y : ℕ). x * y) ew eh)
 
-  pub level-is : levelOf bs ≡ record { width = w; height = h; par = par; tiles = take (w * h) new }
-  level-is =
-      same-level (levelOf bs) (record { width = w; height = h; par = par; tiles = take (w * h) new }) (sym ew) (sym eh) (sym ep)
+  pub level-is : Ranged (levelOf bs) → levelOf bs ≡ record { version = 1; width = w; height = h; par = par; tiles = take (w * h) new }
+  level-is ra =
+      same-level (levelOf bs) made (ra .known) (sym ew) (sym eh) (sym ep)
       (sym (ap (take (w * h)) put ∙ take-at (tilesOf bs) (drop (w * h) old) (w * h) count))
 
   pub tiles-past : drop (w * h) new ≡ drop (w * h) old
@@ -91,23 +89,23 @@ module _ (bs old : List ℕ) where
   none new c e n f = record { code = f; is-level = λ z. absurd (n z); is-record = λ z. absurd (n z); past = λ z. absurd (n z); kept = λ _. e }
 
   pub not-read-1 : (Within 4 364 (length bs) → ⊥) → RecordReadsAs bs old old (read.Refused 1)
-  not-read-1 n = none old 1 refl (λ z. omega arith) (inl (n, refl))
+  not-read-1 n = none old 1 refl (λ z. omega arith) (stops 0 (readingRecord bs (length old)) 1 (n, refl))
 
   pub not-read-4 : Within 4 364 (length bs) → (961 ≤ length old → ⊥) → RecordReadsAs bs old old (read.Refused 4)
-  not-read-4 a n = none old 4 refl (λ z. omega arith) (inr (a, inl (n, refl)))
+  not-read-4 a n = none old 4 refl (λ z. omega arith) (stops 1 (readingRecord bs (length old)) 4 (a, (n, refl)))
 
   pub not-read-later : (r : Judged) (new : List ℕ) → (r .code ≡ 0 → ⊥) → AcceptedAs 1 bs old new r → Within 4 364 (length bs) → 961 ≤ length old → RecordReadsAs bs old new (read.Refused (r .code))
   not-read-later r new n A a b = none new (r .code) (A .kept n) n (inr (a, inr (b, A .first)))
 
-  pub reads : (r : Judged) (new : List ℕ) → r .code ≡ 0 → AcceptedAs 1 bs old new r → Cells gf256 bs → Within 4 364 (length bs) → 961 ≤ length old
+  pub reads : (r : Judged) (new : List ℕ) → r .code ≡ 0 → AcceptedAs 1 bs old new r → Bytes bs → Within 4 364 (length bs) → 961 ≤ length old
       → RecordReadsAs bs old new (read.Level (r .width) (r .height) (r .par))
   reads r new z A by a b =
       let p = passed 1 bs (r .code) z (A .first) in
-      let e = level-is bs old new (r .width) (r .height) (r .par) (A .width z) (A .height z) (A .par z) (A .tiles z) in
+      let e = level-is bs old new (r .width) (r .height) (r .par) (A .width z) (A .height z) (A .par z) (A .tiles z) (p .0) in
       record {
-        code = inr (a, inr (b, subst (First (judging 1 (λ ask. ask bs))) z (A .first)));
-        is-level = λ _. subst IsLevel e (spelled-level bs (p .0) (p .2) (p .3));
-        is-record = λ _. subst (λ (l : Level). IsRecord l bs) e (whole-record bs by (p .0) (p .1));
+        code = inr (a, inr (b, subst (First (asked (λ ask. ask bs) (judging 1))) z (A .first)));
+        is-level = λ _. subst IsLevel e (spelled-level bs (p .0) (p .1 .1 .0) (p .1 .1 .1 .0));
+        is-record = λ _. subst (λ (l : Level). IsRecord l bs) e (whole-record bs by (p .1 .0));
         past = λ _. tiles-past bs old new (r .width) (r .height) (r .par) (A .width z) (A .height z) (A .par z) (A .tiles z);
         kept = λ k. absurd (k refl);
       }

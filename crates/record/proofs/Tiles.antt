@@ -12,7 +12,7 @@ use lib.Seq.{drop-cons, drop-length}
 use Rattle.level.specs.Tile.{adds, totals}
 use Rattle.level.specs.Level.{Sized, AllTiles}
 use Rattle.level.specs.Record.{recordLength}
-use Rattle.level.proofs.Strips.{lt-or-ge}
+use Rattle.level.proofs.Dealing.{lt-or-ge}
 use Rattle.record.specs.Sum.{packed, weighed, weight, Packs}
 
 -- rows are small
@@ -77,8 +77,8 @@ weight-end ts i h = rw (h, drop-length) refl
 record Counts (ts : List ℕ) : Type 0 where
   above : ℕ
   sum : weight ts ≡ packed (totals ts) + 281474976710656 * above
-  right : above ≡ 0 → AllTiles ts
-  wrong : AllTiles ts → above ≡ 0
+  right : above ≡ 0 → AllTiles 1 ts
+  wrong : AllTiles 1 ts → above ≡ 0
   few : (totals ts .player ≤ length ts) × (totals ts .crate' ≤ length ts) × (totals ts .goal ≤ length ts)
 
 more : (t : ℕ) (ts : List ℕ) → Counts ts → (t < 7) ⊎ (7 ≤ t) → Counts (t ∷ ts)
@@ -91,7 +91,7 @@ more t ts r (inl h) = record {
   few = (omega (arith, adds-small t, r .few), omega (arith, adds-small t, r .few), omega (arith, adds-small t, r .few));
 }
   where
-    all : AllTiles ts → AllTiles (t ∷ ts)
+    all : AllTiles 1 ts → AllTiles 1 (t ∷ ts)
     all f zero l = omega arith
     all f (suc i) l = f i (omega arith)
 more t ts r (inr h) = record {
@@ -111,13 +111,13 @@ module _ (ts : List ℕ) (x : ℕ) (short : length ts ≤ 961) (e : x ≡ weight
   top : x / 281474976710656 ≡ counts ts .above
   top = omega (arith, e, counts ts .sum, counts ts .few)
 
-  pub all-tiles : x / 281474976710656 ≡ 0 → AllTiles ts
+  pub all-tiles : x / 281474976710656 ≡ 0 → AllTiles 1 ts
   all-tiles z = counts ts .right (omega (arith, top, z))
 
-  pub not-all : (x / 281474976710656 ≡ 0 → ⊥) → AllTiles ts → ⊥
+  pub not-all : (x / 281474976710656 ≡ 0 → ⊥) → AllTiles 1 ts → ⊥
   not-all n f = n (omega (arith, top, counts ts .wrong f))
 
-  pub sums : x / 281474976710656 ≡ 0 → (x % 65536 ≡ totals ts .player) × (x / 65536 % 65536 ≡ totals ts .crate') × (x / 4294967296 ≡ totals ts .goal)
+  pub sums : x / 281474976710656 ≡ 0 → (x % 4096 ≡ totals ts .player) × (x / 4096 % 4096 ≡ totals ts .crate') × (x / 16777216 % 4096 ≡ totals ts .goal)
   sums z = (omega (arith, e, counts ts .sum, counts ts .few, top, z), omega (arith, e, counts ts .sum, counts ts .few, top, z), omega (arith, e, counts ts .sum, counts ts .few, top, z))
 
 -- a board has at most 961 tiles

@@ -5,20 +5,21 @@ use mathlib.Core.List.{List, [], _∷_, _++_}
 use Prim.Native.Nat.{ℕ, zero, suc, _+_, _*_, _-_, _/_, _%_, _^_, _≤_, _<_}
 use native.Mathlib.Numerals.{add-one}
 use native.Mathlib.Omega.{arith}
-use lib.ListN.{length, getD, drop, set, length-append, length-drop}
-use lib.Seq.{sets, sets-eq, drop-cons, drop-set-lt, set-at, append-snoc}
+use lib.ListN.{length, getD, take, drop, set, length-append, length-drop}
+use lib.Seq.{sets, sets-eq, take-at, drop-at, drop-cons, drop-set-lt, set-at, append-snoc}
 use Rattle.account.specs.Lists.{listOf}
 use Rattle.account.proofs.Lanes.{getD-past}
 use Rattle.account.proofs.Lists.{length-listOf}
-use Rattle.level.specs.Level.{Level, AllTiles}
-use Rattle.level.specs.Written.{digit, recordBit, recordByte}
-use Rattle.level.proofs.Strips.{lt-or-ge}
-use Rattle.level.proofs.RecordOf.{bit-1, bit-2, bit-3, bit-4, bit-5}
+use Rattle.level.specs.Level.{Level, AllTiles, IsLevel}
+use Rattle.level.specs.Record.{recordLength, IsRecord}
+use Rattle.level.proofs.Written.{digit, recordBit, recordByte, recordOf}
+use Rattle.level.proofs.Dealing.{lt-or-ge}
+use Rattle.level.proofs.RecordOf.{bit-1, bit-2, bit-3, bit-4, bit-5, record-of}
 use Rattle.level.proofs.Windows.{run, run-append, window}
-use Rattle.record.specs.Writing.{headBytes, TileByte}
+use Rattle.record.specs.Writing.{headBytes, threeOf, tileByte, RecordPut}
 
 -- past the tiles are zeros
-pub codes-all : (ts : List ℕ) → AllTiles ts → (q : ℕ) → getD ts q 0 ≤ 6
+pub codes-all : (ts : List ℕ) → AllTiles 1 ts → (q : ℕ) → getD ts q 0 ≤ 6
 codes-all ts f q = ⊎-elim (λ h. f q h) (λ h. omega (arith, getD-past ts q h)) (lt-or-ge q (length ts))
 
 module _ (l : Level) where
@@ -76,7 +77,7 @@ module _ (l : Level) where
         ∙ omega arith
 
   -- the bytes in front of the tiles
-  module _ (w : l .width ≤ 31) (h : l .height ≤ 31) (p : l .par ≤ 1023) where
+  module _ (v : l .version ≡ 1) (w : l .width ≤ 31) (h : l .height ≤ 31) (p : l .par ≤ 1023) where
     -- n bits of a field v of N bits that starts with bit o
     in-field : (N v o q k n j r : ℕ) → ((i : ℕ) → o ≤ i → i < o + N → recordBit l i ≡ digit N v (i - o)) → q ≡ o + k → k + n + j ≡ N → v / 2 ^ j % 2 ^ n ≡ r → run (recordBit l) q n ≡ r
     in-field N v o q k n j r f eq e is = window (λ i. recordBit l (q + i)) N v k n j e (λ i m. let z : q + i - o ≡ k + i = omega arith in f (q + i) (omega arith) (omega arith) ∙ ap (digit N v) z) ∙ is
@@ -94,7 +95,7 @@ module _ (l : Level) where
     unfolding recordByte
     head-0 =
         join 0 4 4 1 (l .width / 2)
-        (in-field 4 1 0 0 0 4 0 1 (λ i a b. let z : i ≡ i - 0 = omega arith in bit-1 l i b ∙ ap (digit 4 1) z) (omega arith) (omega arith) refl)
+        (in-field 4 (l .version) 0 0 0 4 0 1 (λ i a b. let z : i ≡ i - 0 = omega arith in bit-1 l i b ∙ ap (digit 4 (l .version)) z) (omega arith) (omega arith) (omega (arith, v)))
         (wide 4 0 4 1 (l .width / 2) (omega arith) (omega arith) (omega arith))
 
     head-1 : recordByte l 1 ≡ l .width % 2 * 128 + l .height * 4 + l .par / 256
@@ -125,32 +126,59 @@ module _ (l : Level) where
     pub head-start : (o mid : List ℕ) → 3 ≤ length o → mid ≡ sets o 0 (headBytes (l .width) (l .height) (l .par)) → mid ≡ listOf 3 (recordByte l) ++ drop 3 mid
     head-start o mid room e = e ∙ head-put o room ∙ ap (λ (s : List ℕ). listOf 3 (recordByte l) ++ s) (sym (head-past o mid e 3 (omega arith)))
 
--- the same from tiles as they are lent
-module _ (ts : List ℕ) (b : ℕ) (codes : AllTiles ts) where
-  moved : (l : Level) → l .tiles ≡ ts → (x j : ℕ) → x ≡ getD ts (b / 3 * 8 + j) 0 → x ≡ getD (l .tiles) (8 * (b / 3) + j) 0
-  moved l e x j ex = let z : b / 3 * 8 + j ≡ 8 * (b / 3) + j = omega arith in ex ∙ ap₂ (λ (s : List ℕ) (k : ℕ). getD s k 0) (sym e) z
+-- the same, byte for byte
+pub byte-is : (l : Level) (b : ℕ) → AllTiles 1 (l .tiles) → tileByte (l .tiles) b ≡ recordByte l (3 + b)
+byte-is l b codes = go (b % 3) refl
+  where
+    small : (q : ℕ) → getD (l .tiles) q 0 ≤ 6
+    small q = codes-all (l .tiles) codes q
 
-  small-in : (l : Level) → l .tiles ≡ ts → (q : ℕ) → getD (l .tiles) q 0 ≤ 6
-  small-in l e q = codes-all (l .tiles) (subst AllTiles (sym e) codes) q
+    same : (i : ℕ) → threeOf (λ j. getD (l .tiles) (b / 3 * 8 + j) 0) i ≡ threeOf (λ j. getD (l .tiles) (8 * (b / 3) + j) 0) i
+    same i = let z : b / 3 * 8 ≡ 8 * (b / 3) = omega arith in ap (λ (k : ℕ). threeOf (λ j. getD (l .tiles) (k + j) 0) i) z
+
+    at : (i : ℕ) → b ≡ 3 * (b / 3) + i → recordByte l (3 + (3 * (b / 3) + i)) ≡ recordByte l (3 + b)
+    at i e = ap (λ (k : ℕ). recordByte l (3 + k)) (sym e)
+
+    go : (i : ℕ) → b % 3 ≡ i → threeOf (λ j. getD (l .tiles) (b / 3 * 8 + j) 0) i ≡ recordByte l (3 + b)
+    go zero e =
+        let z : 3 * (b / 3) ≡ 3 * (b / 3) + 0 = omega arith in
+        same 0 ∙ sym (first-byte l (b / 3) small) ∙ ap (λ (k : ℕ). recordByte l (3 + k)) z ∙ at 0 (omega arith)
+    go (suc zero) e = same 1 ∙ sym (second-byte l (b / 3) small) ∙ at 1 (omega arith)
+    go (suc (suc zero)) e = same 2 ∙ sym (third-byte l (b / 3) small) ∙ at 2 (omega arith)
+    go (suc (suc (suc i))) e = absurd (omega arith)
+
+-- the record in front, and what is past it
+pub record-put : (l : Level) (old new : List ℕ) (n : ℕ) → IsLevel l → n ≡ recordLength (l .width) (l .height) → n ≤ 364
+    → new ≡ listOf n (recordByte l) ++ drop n old → RecordPut l old new n
+unfolding recordOf
+record-put l old new n il e short is = record {
+  size = e;
+  short = short;
+  is-record = subst (IsRecord l) (sym (ap (take n) is ∙ take-at (listOf n (recordByte l)) (drop n old) n size ∙ ap (λ (k : ℕ). listOf k (recordByte l)) e)) (record-of l il);
+  past = ap (drop n) is ∙ drop-at (listOf n (recordByte l)) (drop n old) n size;
+}
+  where
+    size : length (listOf n (recordByte l)) ≡ n
+    size = length-listOf n (recordByte l)
+
+-- the three of them, from tiles as they are lent
+module _ (ts : List ℕ) (b : ℕ) where
+  at-rest : (i : ℕ) → b % 3 ≡ i → threeOf (λ j. getD ts (b / 3 * 8 + j) 0) i ≡ tileByte ts b
+  at-rest i e = ap (threeOf (λ j. getD ts (b / 3 * 8 + j) 0)) (sym e)
 
   pub tile-byte-0 : (t0 t1 t2 : ℕ) → b % 3 ≡ 0 → t0 ≡ getD ts (b / 3 * 8) 0 → t1 ≡ getD ts (b / 3 * 8 + 1) 0 → t2 ≡ getD ts (b / 3 * 8 + 2) 0
-      → TileByte ts b (t0 * 32 + t1 * 4 + t2 / 2)
-  tile-byte-0 t0 t1 t2 r e0 e1 e2 l e =
-      let z : 3 + 3 * (b / 3) ≡ 3 + b = omega arith in
+      → t0 * 32 + t1 * 4 + t2 / 2 ≡ tileByte ts b
+  tile-byte-0 t0 t1 t2 r e0 e1 e2 =
       let y : b / 3 * 8 ≡ b / 3 * 8 + 0 = omega arith in
-      rw (moved l e t0 0 (e0 ∙ ap (λ (k : ℕ). getD ts k 0) y), moved l e t1 1 e1, moved l e t2 2 e2) (sym (first-byte l (b / 3) (small-in l e)) ∙ ap (recordByte l) z)
+      rw (e0 ∙ ap (λ (k : ℕ). getD ts k 0) y, e1, e2) (at-rest 0 r)
 
-  pub tile-byte-1 : (t2 t3 t4 t5 : ℕ) → b % 3 ≡ 1 → t2 ≡ getD ts (b / 3 * 8 + 2) 0 → t3 ≡ getD ts (b / 3 * 8 + 3) 0 → t4 ≡ getD ts (b / 3 * 8 + 4) 0 → t5 ≡ getD ts (b / 3 * 8 + 5) 0
-      → TileByte ts b (t2 % 2 * 128 + t3 * 16 + t4 * 2 + t5 / 4)
-  tile-byte-1 t2 t3 t4 t5 r e2 e3 e4 e5 l e =
-      let z : 3 + (3 * (b / 3) + 1) ≡ 3 + b = omega arith in
-      rw (moved l e t2 2 e2, moved l e t3 3 e3, moved l e t4 4 e4, moved l e t5 5 e5) (sym (second-byte l (b / 3) (small-in l e)) ∙ ap (recordByte l) z)
+  pub tile-byte-1 : (t2 t3 t4 t5 : ℕ) → b % 3 ≡ 1 → t2 ≡ getD ts (b / 3 * 8 + 2) 0 → t3 ≡ getD ts (b / 3 * 8 + 3) 0
+      → t4 ≡ getD ts (b / 3 * 8 + 4) 0 → t5 ≡ getD ts (b / 3 * 8 + 5) 0 → t2 % 2 * 128 + t3 * 16 + t4 * 2 + t5 / 4 ≡ tileByte ts b
+  tile-byte-1 t2 t3 t4 t5 r e2 e3 e4 e5 = rw (e2, e3, e4, e5) (at-rest 1 r)
 
   pub tile-byte-2 : (t5 t6 t7 : ℕ) → b % 3 ≡ 2 → t5 ≡ getD ts (b / 3 * 8 + 5) 0 → t6 ≡ getD ts (b / 3 * 8 + 6) 0 → t7 ≡ getD ts (b / 3 * 8 + 7) 0
-      → TileByte ts b (t5 % 4 * 64 + t6 * 8 + t7)
-  tile-byte-2 t5 t6 t7 r e5 e6 e7 l e =
-      let z : 3 + (3 * (b / 3) + 2) ≡ 3 + b = omega arith in
-      rw (moved l e t5 5 e5, moved l e t6 6 e6, moved l e t7 7 e7) (sym (third-byte l (b / 3) (small-in l e)) ∙ ap (recordByte l) z)
+      → t5 % 4 * 64 + t6 * 8 + t7 ≡ tileByte ts b
+  tile-byte-2 t5 t6 t7 r e5 e6 e7 = rw (e5, e6, e7) (at-rest 2 r)
 
 -- ---- one after the other
 

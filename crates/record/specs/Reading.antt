@@ -3,27 +3,28 @@ use mathlib.Core.Path.{_≡_}
 use mathlib.Core.List.{List, [], _∷_, _++_}
 use Prim.Native.Nat.{ℕ, _+_, _*_, _/_, _%_, _≤_, _<_}
 use lib.ListN.{length, getD, take, drop}
-use Rattle.level.specs.Level.{IsLevel}
 use Rattle.level.specs.Record.{fieldAt, IsRecord}
+use Rattle.level.specs.Sizes.{tilesMost}
+use Rattle.level.specs.Level.{IsLevel}
 use Rattle.level.specs.Reading.{tilesOf, judging, readingRecord, ReadNumbers, refusedAt, returned}
-use Rattle.rules.specs.Refusal.{First}
+use Rattle.rules.specs.Refusal.{First, asked}
 use Rattle.record.specs.declared.read.RecordRead.{RecordRead}
 use Rattle.record.specs.declared.read.RecordRead.the-variants as read
 use Rattle.record.specs.declared.read.Head.{Head}
 use Rattle.record.specs.declared.read.Judged.{Judged}
 
--- "The record reader returns the first three": a record has no lanes, and nothing in it is mended
-abbrev pub readNumbers : RecordRead → ReadNumbers
-readNumbers (read.Level w h p) = record { code = 0; lane = 0; width = w; height = h; par = p; mended = 0; wear = 0 }
-readNumbers (read.Refused c) = refusedAt c 0
+-- a record has no lanes, and nothing in it is mended
+abbrev pub recordNumbers : RecordRead → ReadNumbers
+recordNumbers (read.Level w h p) = record { code = 0; lane = 0; width = w; height = h; par = p; mended = 0; wear = 0 }
+recordNumbers (read.Refused c) = refusedAt c 0
 
--- "and fills the tiles": bs is the record of the level returned; "Tile bytes past the level keep their value"
+-- bs is the record of the level returned; tile bytes past the level keep their value
 pub record RecordReadsAs (bs old new : List ℕ) (a : RecordRead) : Type 0 where
-  pub code : First (readingRecord bs (length old)) (readNumbers a .code)
-  pub is-level : readNumbers a .code ≡ 0 → IsLevel (returned (readNumbers a) new)
-  pub is-record : readNumbers a .code ≡ 0 → IsRecord (returned (readNumbers a) new) bs
-  pub past : readNumbers a .code ≡ 0 → drop (readNumbers a .width * readNumbers a .height) new ≡ drop (readNumbers a .width * readNumbers a .height) old
-  pub kept : (readNumbers a .code ≡ 0 → ⊥) → new ≡ old
+  pub code : First (readingRecord bs (length old)) (recordNumbers a .code)
+  pub is-level : recordNumbers a .code ≡ 0 → IsLevel (returned (recordNumbers a) new)
+  pub is-record : recordNumbers a .code ≡ 0 → IsRecord (returned (recordNumbers a) new) bs
+  pub past : recordNumbers a .code ≡ 0 → drop (recordNumbers a .width * recordNumbers a .height) new ≡ drop (recordNumbers a .width * recordNumbers a .height) old
+  pub kept : (recordNumbers a .code ≡ 0 → ⊥) → new ≡ old
 
 -- ---- parts
 
@@ -51,18 +52,18 @@ pub record Spells (bs board : List ℕ) (r : Judged) : Type 0 where
   pub width : r .width ≡ fieldAt bs 4 5
   pub height : r .height ≡ fieldAt bs 9 5
   pub par : r .par ≡ fieldAt bs 14 10
-  pub few : r .width * r .height ≤ 961
+  pub few : r .width * r .height ≤ tilesMost
   pub tiles : take (r .width * r .height) board ≡ tilesOf bs
 
 -- a record (lanes = 1), or the data cells of a strip, judged
 pub record JudgedAs (lanes : ℕ) (bs board : List ℕ) (r : Judged) : Type 0 where
-  pub first : First (judging lanes (λ ask. ask bs)) (r .code)
+  pub first : First (asked (λ ask. ask bs) (judging lanes)) (r .code)
   pub spells : r .code ≡ 0 → Spells bs board r
   pub none : (r .code ≡ 0 → ⊥) → r ≡ without (r .code)
 
 -- the bytes judged, and their tiles written where nothing is refused
 pub record AcceptedAs (lanes : ℕ) (bs old new : List ℕ) (r : Judged) : Type 0 where
-  pub first : First (judging lanes (λ ask. ask bs)) (r .code)
+  pub first : First (asked (λ ask. ask bs) (judging lanes)) (r .code)
   pub width : r .code ≡ 0 → r .width ≡ fieldAt bs 4 5
   pub height : r .code ≡ 0 → r .height ≡ fieldAt bs 9 5
   pub par : r .code ≡ 0 → r .par ≡ fieldAt bs 14 10

@@ -1,50 +1,48 @@
 -- Writing a record.
 use mathlib.Core.Path.{_≡_}
-use mathlib.Core.List.{List, [], _∷_, _++_}
-use Prim.Native.Nat.{ℕ, _+_, _*_, _/_, _%_, _≤_}
-use lib.ListN.{length, drop}
-use Rattle.level.specs.Tile.{totals}
-use Rattle.level.specs.Level.{Level, Sized, AllTiles, Playable}
-use Rattle.level.specs.Record.{recordLength}
-use Rattle.level.specs.Written.{recordByte, recordOf}
-use Rattle.rules.specs.Refusal.{Rule, unless, First}
+use mathlib.Core.List.{List, [], _∷_}
+use Prim.Native.Nat.{ℕ, zero, suc, _+_, _*_, _/_, _%_, _≤_}
+use lib.ListN.{length, getD, take, drop}
+use Rattle.rules.specs.Refusal.{First}
+use Rattle.level.specs.Sizes.{recordMost}
+use Rattle.level.specs.Level.{Level, Sized}
+use Rattle.level.specs.Record.{recordLength, IsRecord}
+use Rattle.level.specs.Writing.{writingLevel}
 use Rattle.code.specs.Word.{writtenNumbers}
 use Rattle.code.specs.declared.word.Written.{Written}
 
--- "The record and strip writers take width, height, par, tiles"
-abbrev pub lent : ℕ → ℕ → ℕ → List ℕ → Level
-lent w h par tiles = record { width = w; height = h; par = par; tiles = tiles }
-
--- "width or height not 1–31; par above 1023"
-pub record Ranged (w h par : ℕ) : Type 0 where
-  pub sized : Sized w h
-  pub par-small : par ≤ 1023
-
--- 9: "a tile code above 6"; 10: "not one player, no crate, or crates and goals unequal"
-abbrev pub boarding : List ℕ → List Rule
-boarding tiles = unless 9 (AllTiles tiles) ∷ unless 10 (Playable (totals tiles)) ∷ []
-
--- 7; 8: "lent tiles not width times height"; 9; 10
-abbrev pub lending : ℕ → ℕ → ℕ → List ℕ → List Rule
-lending w h par tiles = unless 7 (Ranged w h par) ∷ unless 8 (length tiles ≡ w * h) ∷ boarding tiles
-
--- 4: a buffer of fewer than `least` bytes
-abbrev pub writingLevel : ℕ → ℕ → ℕ → ℕ → List ℕ → ℕ → List Rule
-writingLevel least w h par tiles room = unless 4 (least ≤ room) ∷ lending w h par tiles
-
 -- the record in front, its length returned; what is past it keeps its value
-pub record RecordWritesAs (w h par : ℕ) (tiles old new : List ℕ) (a : Written) : Type 0 where
-  pub code : First (writingLevel 364 w h par tiles (length old)) (writtenNumbers a .code)
-  pub value : writtenNumbers a .code ≡ 0 → writtenNumbers a .value ≡ recordLength w h
-  pub written : writtenNumbers a .code ≡ 0 → new ≡ recordOf (lent w h par tiles) ++ drop (recordLength w h) old
+pub record RecordWritesAs (l : Level) (old new : List ℕ) (a : Written) : Type 0 where
+  pub code : First (writingLevel recordMost l (length old)) (writtenNumbers a .code)
+  pub value : writtenNumbers a .code ≡ 0 → writtenNumbers a .value ≡ recordLength (l .width) (l .height)
+  pub is-record : writtenNumbers a .code ≡ 0 → IsRecord l (take (recordLength (l .width) (l .height)) new)
+  pub past : writtenNumbers a .code ≡ 0 → drop (recordLength (l .width) (l .height)) new ≡ drop (recordLength (l .width) (l .height)) old
   pub kept : (writtenNumbers a .code ≡ 0 → ⊥) → new ≡ old
 
 -- ---- parts
 
--- version, width, height and par
+-- the record of a level put in front of a buffer, its length told
+pub record RecordPut (l : Level) (old new : List ℕ) (n : ℕ) : Type 0 where
+  pub size : n ≡ recordLength (l .width) (l .height)
+  pub short : n ≤ recordMost
+  pub is-record : IsRecord l (take n new)
+  pub past : drop n new ≡ drop n old
+
+-- the numbers are within their ranges
+pub record InRange (w h par : ℕ) : Type 0 where
+  pub sized : Sized w h
+  pub par-small : par ≤ 1023
+
+-- version 1, width, height and par
 abbrev pub headBytes : ℕ → ℕ → ℕ → List ℕ
 headBytes w h par = (16 + w / 2) ∷ (w % 2 * 128 + h * 4 + par / 256) ∷ (par % 256) ∷ []
 
--- byte b of the tiles, in every record that has them
-abbrev pub TileByte : List ℕ → ℕ → ℕ → Type 0
-TileByte tiles b r = (l : Level) → l .tiles ≡ tiles → r ≡ recordByte l (3 + b)
+-- eight tiles make three bytes: the first, the second and the third
+abbrev pub threeOf : (ℕ → ℕ) → ℕ → ℕ
+threeOf t zero = t 0 * 32 + t 1 * 4 + t 2 / 2
+threeOf t (suc zero) = t 2 % 2 * 128 + t 3 * 16 + t 4 * 2 + t 5 / 4
+threeOf t (suc (suc i)) = t 5 % 4 * 64 + t 6 * 8 + t 7
+
+-- byte b of the tiles
+abbrev pub tileByte : List ℕ → ℕ → ℕ
+tileByte tiles b = threeOf (λ j. getD tiles (b / 3 * 8 + j) 0) (b % 3)

@@ -2,10 +2,8 @@
 ghost use mathlib.Core.Path.{_≡_};
 ghost use Prim.Native.Nat.{_+_, _*_, _≤_, _<_};
 ghost use lib.ListN.{length, getD};
-ghost use Rattle.rules.specs.Refusal.{First};
 ghost use Rattle.level.specs.Tile.{adds};
-ghost use Rattle.record.specs.Sum.{Same, packed, weighed, weight, Packs};
-ghost use Rattle.record.specs.Writing.{boarding};
+ghost use Rattle.record.specs.Sum.{Same, packed, weighed, weight, Packs, BoardCode};
 
 // What a tile adds.
 pub struct Adds {
@@ -60,13 +58,13 @@ fn adds_of(t: usize) -> Adds
     ADDS[t]
 }
 
-// Row t in one number, sixteen bits for each sum.
+// Row t in one number, twelve bits for each sum.
 fn pack(t: usize) -> u64
     requires { ⌜ t ≤ 6 ⌝ }
     ensures { λ r. ⌜ r ≡ packed (adds t) ⌝ }
 {
     let a = adds_of(t);
-    a.player + 65536 * a.crate_ + 4294967296 * a.goal
+    a.player + 4096 * a.crate_ + 16777216 * a.goal
 }
 
 // The rows packed, made once a call and lent; last what is added for a byte that is no tile code.
@@ -113,16 +111,16 @@ fn tally(rows: &[u64; 8], tiles: &[u8]) -> u64
 // Refusals 9 and 10: a code of the table each; one player, a crate, and as many crates as goals.
 pub(crate) fn board_code(tiles: &[u8]) -> u8
     requires { ⌜ length (now tiles) ≤ 961 ⌝ }
-    ensures { λ r. ⌜ First (boarding (now (tiles .entry))) r ⌝ }
+    ensures { λ r. ⌜ BoardCode 1 (now (tiles .entry)) r ⌝ }
 {
     let table = rows();
     let x = tally(&table, tiles);
     if x / 281474976710656 != 0 {
         return 9;
     }
-    let players = x % 65536;
-    let crates = x / 65536 % 65536;
-    let goals = x / 4294967296;
+    let players = x % 4096;
+    let crates = x / 4096 % 4096;
+    let goals = x / 16777216 % 4096;
     if players != 1 {
         return 10;
     }

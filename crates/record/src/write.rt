@@ -1,19 +1,18 @@
 // Writing a record: a level, bit-packed.
 ghost use mathlib.Core.Path.{_≡_};
-ghost use mathlib.Core.List.{_++_};
 ghost use Prim.Native.Nat.{_+_, _*_, _≤_, _<_};
-ghost use lib.ListN.{length, getD, drop};
+ghost use lib.ListN.{length, getD};
 ghost use lib.Seq.{sets};
 ghost use Rattle.rules.specs.Says.{Says};
-ghost use Rattle.rules.specs.Refusal.{First};
-ghost use Rattle.level.specs.Level.{Sized, AllTiles, IsLevel};
+ghost use Rattle.rules.specs.Refusal.{First, asked};
+ghost use Rattle.level.specs.Level.{Sized, AllTiles, IsLevel, lending};
 ghost use Rattle.level.specs.Record.{recordLength};
-ghost use Rattle.level.specs.Written.{recordOf};
-ghost use Rattle.record.specs.Writing.{lent, Ranged, lending, RecordWritesAs, headBytes, TileByte};
+ghost use Rattle.level.specs.Writing.{lent};
+ghost use Rattle.record.specs.Writing.{RecordWritesAs, RecordPut, InRange, headBytes, tileByte};
 use code::word::Written;
 
 fn ranged(w: usize, h: usize, par: usize) -> bool
-    ensures { λ r. ⌜ Says r (Ranged w h par) ⌝ }
+    ensures { λ r. ⌜ Says r (InRange w h par) ⌝ }
 {
     if w < 1 {
         return false;
@@ -53,7 +52,7 @@ fn put_head(w: usize, h: usize, par: usize, out: &mut [u8])
 
 // Tile i, and floor past the end.
 fn tile_at(tiles: &[u8], i: usize) -> u8
-    requires { ⌜ AllTiles (now tiles) ⌝ }
+    requires { ⌜ AllTiles 1 (now tiles) ⌝ }
     ensures { λ r. ⌜ (r ≡ getD (now (tiles .entry)) i 0) × (r ≤ 6) ⌝ }
 {
     super::tile::cell(tiles, i)
@@ -61,8 +60,8 @@ fn tile_at(tiles: &[u8], i: usize) -> u8
 
 // Byte b of the tiles. Eight tiles make three bytes.
 fn tile_byte(tiles: &[u8], b: usize) -> u8
-    requires { ⌜ AllTiles (now tiles) × (b ≤ 364) ⌝ }
-    ensures { λ r. ⌜ TileByte (now (tiles .entry)) b r ⌝ }
+    requires { ⌜ AllTiles 1 (now tiles) × (b ≤ 364) ⌝ }
+    ensures { λ r. ⌜ r ≡ tileByte (now (tiles .entry)) b ⌝ }
 {
     let k = b / 3 * 8;
     if b % 3 == 0 {
@@ -80,7 +79,7 @@ fn tile_byte(tiles: &[u8], b: usize) -> u8
 // The record of a level, in the first bytes of a buffer; its length is returned.
 pub fn put_record(w: usize, h: usize, par: usize, tiles: &[u8], out: &mut [u8]) -> usize
     requires { ⌜ IsLevel (lent w h par (now tiles)) × (recordLength w h ≤ length (now out)) ⌝ }
-    ensures { λ r. ⌜ (r ≡ recordLength w h) × (r ≤ 364) × (now (out .exit) ≡ recordOf (lent w h par (now (tiles .entry))) ++ drop r (now (out .entry))) ⌝ }
+    ensures { λ r. ⌜ RecordPut (lent w h par (now (tiles .entry))) (now (out .entry)) (now (out .exit)) r ⌝ }
 {
     let n = record_length(w, h);
     put_head(w, h, par, out);
@@ -94,7 +93,7 @@ pub fn put_record(w: usize, h: usize, par: usize, tiles: &[u8], out: &mut [u8]) 
 
 // Refusals 7 to 10 of a writer.
 pub fn check(w: usize, h: usize, par: usize, tiles: &[u8]) -> u8
-    ensures { λ r. ⌜ First (lending w h par (now (tiles .entry))) r ⌝ }
+    ensures { λ r. ⌜ First (asked (λ ask. ask (lent w h par (now (tiles .entry)))) lending) r ⌝ }
 {
     if !ranged(w, h, par) {
         return 7;
@@ -107,7 +106,7 @@ pub fn check(w: usize, h: usize, par: usize, tiles: &[u8]) -> u8
 
 // Writes the record of a level.
 pub fn write(w: usize, h: usize, par: usize, tiles: &[u8], out: &mut [u8]) -> Written
-    ensures { λ r. ⌜ RecordWritesAs w h par (now (tiles .entry)) (now (out .entry)) (now (out .exit)) r ⌝ }
+    ensures { λ r. ⌜ RecordWritesAs (lent w h par (now (tiles .entry))) (now (out .entry)) (now (out .exit)) r ⌝ }
 {
     if out.len() < 364 {
         return Written::Refused(4);

@@ -29,6 +29,11 @@ pub record Question (A : Type 0) : Type 1 where
   pub number : ℕ
   pub asks : A → Type 0
 
+-- the same, asked of what a thing gives
+abbrev pub about : {A B : Type 0} → (B → A) → List (Question A) → List (Question B)
+about f [] = []
+about f (q ∷ qs) = record { number = q .number; asks = λ b. q .asks (f b) } ∷ about f qs
+
 -- the questions as rules: `told` turns what is asked into what must hold
 abbrev pub asked : {A : Type 0} → ((A → Type 0) → Type 0) → List (Question A) → List Rule
 asked told [] = []

@@ -18,7 +18,7 @@ refused-requires c κs = search needs
 returns : tie.Need-returns
 returns c =
     let a = c .before .before .before .before .before .before .args in
-    judged-7 (a .lanes) (a .bs .now) (a .board .now) (c .refused .result) (c .refused .ensures) (λ h. omega (arith, h .version, c .before .before .before .head-of .ensures .version, c .before .if1 .taken))
+    judged-7 (a .lanes) (a .bs .now) (a .board .now) (c .refused .result) (c .refused .ensures) (λ h. omega (arith, h .known, c .before .before .before .head-of .ensures .version, c .before .if1 .taken))
 
 refused-requires-2 : tie.Need-refused-requires-2
 refused-requires-2 c κs = search needs
@@ -101,7 +101,7 @@ returns-5 c =
     judged-later (a .lanes) (a .bs .now) (u .last .1 .1 .0) (c .refused5 .result) (b .result) (c .refused5 .ensures) (λ z. omega (arith, z, c .before .if5 .taken))
     (headed (a .bs .now) (f .result) (f .ensures) (omega (arith, c .before .before .before .before .before .before .before .before .before .before .before .before .before .before .before .before .before .if1 .left)) (omega (arith, c .before .before .before .before .before .before .before .before .before .before .before .before .before .before .before .if2 .left)) (omega (arith, c .before .before .before .before .before .before .before .before .before .before .before .before .before .if3 .left)))
     (said (Shaped (a .lanes) (a .bs .now)) (s .result) (not-false (s .result) (c .before .before .before .before .before .before .before .before .before .before .if4 .left)) (s .ensures))
-    (boarded (a .bs .now) (f .result) (f .ensures) (u .last .1 .1 .0) (b .result) r (u .ensures) (b .ensures))
+    (boarded (a .bs .now) (f .result) (f .ensures) (omega (arith, c .before .before .before .before .before .before .before .before .before .before .before .before .before .before .before .before .before .if1 .left)) (u .last .1 .1 .0) (b .result) r (u .ensures) (b .ensures))
 
 same-length-2 : tie.Need-same-length-2
 same-length-2 c = search needs
@@ -117,7 +117,7 @@ returns-6 c =
     judged-0 (a .bs .now) (f .result) (f .ensures) (a .lanes) (u .last .1 .1 .0) (b .result) r (u .ensures) (omega (arith, c .if5 .left))
     (headed (a .bs .now) (f .result) (f .ensures) (omega (arith, c .before .before .before .before .before .before .before .before .before .before .before .before .before .before .before .before .if1 .left)) (omega (arith, c .before .before .before .before .before .before .before .before .before .before .before .before .before .before .if2 .left)) (omega (arith, c .before .before .before .before .before .before .before .before .before .before .before .before .if3 .left)))
     (said (Shaped (a .lanes) (a .bs .now)) (s .result) (not-false (s .result) (c .before .before .before .before .before .before .before .before .before .if4 .left)) (s .ensures))
-    (boarded (a .bs .now) (f .result) (f .ensures) (u .last .1 .1 .0) (b .result) r (u .ensures) (b .ensures))
+    (boarded (a .bs .now) (f .result) (f .ensures) (omega (arith, c .before .before .before .before .before .before .before .before .before .before .before .before .before .before .before .before .if1 .left)) (u .last .1 .1 .0) (b .result) r (u .ensures) (b .ensures))
 
 pub judge-spec : {M : Type 1} → statement M
 judge-spec =

@@ -1,6 +1,6 @@
-use Rattle.record.proofs.Writing.{head-start, head-past, long, next}
-use Rattle.record.specs.Writing.{lent}
-use Rattle.level.specs.Written.{recordByte, recordOf}
+use Rattle.record.proofs.Writing.{head-start, head-past, long, next, byte-is, record-put}
+use Rattle.level.specs.Writing.{lent}
+use Rattle.level.proofs.Written.{recordByte}
 use Rattle.account.specs.Lists.{listOf}
 use borrow.Author.Needs.{needs}
 use lib.ListN.{drop}
@@ -18,16 +18,16 @@ abbrev μ-loop : tie.MeasureT-loop
 μ-loop w h par tiles out₀ n q₀ out q = n - q
 
 record-length-requires : tie.Need-record-length-requires Inv-loop μ-loop
-record-length-requires c κs = c .before .before .pre .0 .sized
+record-length-requires c κs = c .before .before .pre .0 .ranged .sized
 
 put-head-requires : tie.Need-put-head-requires Inv-loop μ-loop
-put-head-requires c κs = let s = c .before .before .before .before .pre .0 in (s .sized .not-wider, s .sized .not-higher, s .par-small, omega (arith, c .before .before .before .before .pre .1))
+put-head-requires c κs = let s = c .before .before .before .before .pre .0 in (s .ranged .sized .not-wider, s .ranged .sized .not-higher, s .ranged .par-small, omega (arith, c .before .before .before .before .pre .1))
 
 loop-holds : tie.Need-loop-holds Inv-loop μ-loop
 loop-holds c =
     let a = c .before .before .before .before .before .before .before .args in
     let s = c .before .before .before .before .before .before .before .pre .0 in
-    (omega arith, omega (arith, c .before .before .before .before .record-length .ensures .0), head-start (lent (a .w) (a .h) (a .par) (a .tiles .now)) (s .sized .not-wider) (s .sized .not-higher) (s .par-small) (a .out .now) (c .before .before .put-head .last .1 .1 .1 .0) (omega (arith, c .before .before .before .before .before .before .before .pre .1)) (c .before .before .put-head .ensures))
+    (omega arith, omega (arith, c .before .before .before .before .record-length .ensures .0), head-start (lent (a .w) (a .h) (a .par) (a .tiles .now)) refl (s .ranged .sized .not-wider) (s .ranged .sized .not-higher) (s .ranged .par-small) (a .out .now) (c .before .before .put-head .last .1 .1 .1 .0) (omega (arith, c .before .before .before .before .before .before .before .pre .1)) (c .before .before .put-head .ensures))
 
 sub-tile-byte : tie.Need-sub-tile-byte Inv-loop μ-loop
 sub-tile-byte c = search needs
@@ -56,7 +56,7 @@ loop-again c =
     let o = c .before .before .loop in
     let m = c .before .before .before .before .before .put-head in
     let z : 3 + (o .q - 3) ≡ o .q = omega arith in
-    (omega arith, omega arith, next (recordByte l) (m .last .1 .1 .1 .0) (o .out) (o .q) (c .tile-byte .result) (omega (arith, m .kept .1 .1 .1 .0, c .before .before .before .before .before .before .before .record-length .ensures .0, c .before .before .before .before .before .before .before .before .before .before .pre .1)) (o .inv .2) (c .tile-byte .ensures l refl ∙ ap (recordByte l) z))
+    (omega arith, omega arith, next (recordByte l) (m .last .1 .1 .1 .0) (o .out) (o .q) (c .tile-byte .result) (omega (arith, m .kept .1 .1 .1 .0, c .before .before .before .before .before .before .before .record-length .ensures .0, c .before .before .before .before .before .before .before .before .before .before .pre .1)) (o .inv .2) (c .tile-byte .ensures ∙ byte-is l (o .q - 3) (c .before .before .before .before .before .before .before .before .before .before .pre .0 .codes) ∙ ap (recordByte l) z))
 
 same-length : tie.Need-same-length Inv-loop μ-loop
 same-length c =
@@ -67,7 +67,6 @@ same-length c =
     omega (arith, long (recordByte l) (m .last .1 .1 .1 .0) (o .out) (o .q) (omega (arith, m .kept .1 .1 .1 .0, c .before .before .before .before .before .before .record-length .ensures .0, c .before .before .before .before .before .before .before .before .before .pre .1)) (o .inv .2), m .kept .1 .1 .1 .0)
 
 returns : tie.Need-returns Inv-loop μ-loop
-unfolding recordOf
 returns c =
     let a = c .before .before .before .before .before .before .before .before .before .args in
     let l = lent (a .w) (a .h) (a .par) (a .tiles .now) in
@@ -75,11 +74,10 @@ returns c =
     let o = c .before .loop in
     let m = c .before .before .before .before .put-head in
     let r = c .before .before .before .before .before .before .record-length in
-    let e : o .q ≡ r .result = omega arith in (
-      r .ensures .0,
-      r .ensures .1,
-      o .inv .2 ∙ ap₂ (λ (x : ℕ) (y : List ℕ). listOf x (recordByte l) ++ y) (e ∙ r .ensures .0) (ap (λ (k : ℕ). drop k (m .last .1 .1 .1 .0)) e ∙ head-past l (s .sized .not-wider) (s .sized .not-higher) (s .par-small) (a .out .now) (m .last .1 .1 .1 .0) (m .ensures) (r .result) (omega (arith, r .ensures .0))),
-    )
+    let e : o .q ≡ r .result = omega arith in
+    record-put l (a .out .now) (o .out) (r .result) s (r .ensures .0) (r .ensures .1)
+    (o .inv .2 ∙ ap₂ (λ (x : ℕ) (y : List ℕ). listOf x (recordByte l) ++ y) e
+    (ap (λ (k : ℕ). drop k (m .last .1 .1 .1 .0)) e ∙ head-past l refl (s .ranged .sized .not-wider) (s .ranged .sized .not-higher) (s .ranged .par-small) (a .out .now) (m .last .1 .1 .1 .0) (m .ensures) (r .result) (omega (arith, r .ensures .0))))
 
 pub put-record-spec : {M : Type 1} → statement M
 put-record-spec =

@@ -1,4 +1,4 @@
--- The record of a level, as a function: what a writer writes.
+-- The record of a level, as a function: bit by bit.
 use mathlib.Core.Bool.{cond}
 use Prim.Native.Nat.{ℕ, zero, suc, _+_, _*_, _-_, _/_, _%_, _^_}
 use mathlib.Core.List.{List}
@@ -20,7 +20,7 @@ spelled (suc n) f = 2 * spelled n f + f n
 -- version, width, height, par, tiles; past them zero bits
 unfoldable pub recordBit : Level → ℕ → ℕ
 recordBit l p =
-    cond (ltb p 4) (digit 4 1 p)
+    cond (ltb p 4) (digit 4 (l .version) p)
     (cond (ltb p 9) (digit 5 (l .width) (p - 4))
     (cond (ltb p 14) (digit 5 (l .height) (p - 9))
     (cond (ltb p 24) (digit 10 (l .par) (p - 14))

@@ -1,0 +1,96 @@
+-- Counts over the lanes: a sum over lanes is a count over cells; what is mended is little.
+use mathlib.Core.Path.{_≡_, refl, sym, ap, ap₂, _∙_}
+use mathlib.Core.Bool.{Bool}
+use mathlib.Core.Logic.{⊎-elim}
+use mathlib.Core.List.{List}
+use Prim.Native.Nat.{ℕ, zero, suc, _+_, _*_, _-_, _/_, _≤_, _<_}
+use native.Mathlib.Nat.{mul-suc, mul-zero, mul-le-mul-left, div-lt-iff-lt-mul, div-add-mod, mod-lt, eq-zero-or-pos}
+use native.Mathlib.Omega.{arith}
+use lib.ListN.{length, getD}
+use Rattle.account.specs.Lists.{sumOf}
+use Rattle.account.specs.Lanes.{lane}
+use Rattle.account.specs.Reach.{oneIf, countTo, isMarked, differsAt, differing}
+use Rattle.account.proofs.Cells.{count-cong}
+use Rattle.account.proofs.Lanes.{length-lane, getD-lane, columns-of}
+use Rattle.level.specs.Strip.{columns, Legal, StripReach, wrongIn, mendedOf, wearOf}
+
+sum-none : (R : ℕ) → sumOf R (λ j. 0) ≡ 0
+unfolding sumOf
+sum-none zero = refl
+sum-none (suc R) = omega (arith, sum-none R)
+
+sum-add : (R : ℕ) (f g : ℕ → ℕ) → sumOf R (λ j. f j + g j) ≡ sumOf R f + sumOf R g
+unfolding sumOf
+sum-add zero f g = refl
+sum-add (suc R) f g = omega (arith, sum-add R f g)
+
+pub sum-cong : (R : ℕ) (f g : ℕ → ℕ) → ((j : ℕ) → j < R → f j ≡ g j) → sumOf R f ≡ sumOf R g
+unfolding sumOf
+sum-cong zero f g h = refl
+sum-cong (suc R) f g h = ap₂ (λ (x y : ℕ). x + y) (sum-cong R f g (λ j l. h j (omega arith))) (h R (omega arith))
+
+sum-most : (R b : ℕ) (f : ℕ → ℕ) → ((j : ℕ) → j < R → f j ≤ b) → sumOf R f ≤ b * R
+unfolding sumOf
+sum-most zero b f h = omega (arith, mul-zero b)
+sum-most (suc R) b f h = omega (arith, mul-suc b R, sum-most R b f (λ j l. h j (omega arith)), h R (omega arith))
+
+-- n cells after the first a
+count-more : (f : ℕ → Bool) (a n : ℕ) → countTo f (a + n) ≡ countTo f a + sumOf n (λ j. oneIf (f (a + j)))
+unfolding countTo sumOf
+count-more f a zero = let z : a + 0 ≡ a = omega arith in rw z (omega arith)
+count-more f a (suc n) = let z : a + suc n ≡ suc (a + n) = omega arith in rw z (omega (arith, count-more f a n))
+
+-- cells counted lane by lane
+pub count-lanes : (f : ℕ → Bool) (R m : ℕ) → countTo f (R * m) ≡ sumOf R (λ j. countTo (λ i. f (R * i + j)) m)
+unfolding countTo
+count-lanes f R zero = rw (mul-zero R) (sym (sum-none R))
+count-lanes f R (suc m) =
+    rw (mul-suc R m) (count-more f (R * m) R)
+    ∙ ap (λ (x : ℕ). x + sumOf R (λ j. oneIf (f (R * m + j)))) (count-lanes f R m)
+    ∙ sym (sum-add R (λ j. countTo (λ i. f (R * i + j)) m) (λ j. oneIf (f (R * m + j))))
+
+module _ (R : ℕ) (some : 0 < R) (marks s t : List ℕ) where
+  pub wrong-few : StripReach R marks s t → (j : ℕ) → j < R → wrongIn R marks s t j ≤ 2
+  wrong-few h j l =
+      let q : 2 * countTo (differsAt (lane R j marks) (lane R j s) (lane R j t)) (length s / R) + countTo (isMarked (lane R j marks)) (length s / R) ≤ 5 =
+      rw (length-lane R some j s) at (h .each j l .few) in
+      omega arith
+
+  pub mended-most : StripReach R marks s t → mendedOf R marks s t ≤ 2 * R
+  unfolding mendedOf
+  mended-most h = sum-most R 2 (wrongIn R marks s t) (wrong-few h)
+
+  pub wear-most : Legal R (length s) → StripReach R marks s t → wearOf (mendedOf R marks s t) (length s) ≤ 33
+  wear-most legal h = omega (arith, div-lt-iff-lt-mul {k = length s} positive .1 small)
+    where
+      one-column : 1 ≤ columns R 4
+      one-column = ⊎-elim (λ z. absurd (omega (arith, div-add-mod (4 + (R - 1)) R, mod-lt (4 + (R - 1)) some, ap (λ (q : ℕ). R * q) z, mul-zero R))) (λ p. p) (eq-zero-or-pos (columns R 4))
+
+      long : R * 6 ≤ length s
+      long = rw (legal .cells) (mul-le-mul-left R (omega (arith, legal .from, one-column)))
+
+      positive : 0 < length s
+      positive = omega (arith, long, some)
+
+      small : 100 * mendedOf R marks s t < 34 * length s
+      small = omega (arith, mended-most h, long, some)
+
+  pub mended-differing : (m : ℕ) → length s ≡ R * m → length marks ≡ length s → length t ≡ length s → mendedOf R marks s t ≡ differing marks s t
+  unfolding mendedOf
+  mended-differing m full em et =
+      sum-cong R (wrongIn R marks s t) (λ j. countTo (λ i. differsAt marks s t (R * i + j)) m) each
+      ∙ sym (count-lanes (differsAt marks s t) R m) ∙ ap (countTo (differsAt marks s t)) (sym full)
+    where
+      wide : length s / R ≡ m
+      wide = columns-of R some s m full
+
+      each : (j : ℕ) → j < R → wrongIn R marks s t j ≡ countTo (λ i. differsAt marks s t (R * i + j)) m
+      each j h =
+          ap (countTo (differsAt (lane R j marks) (lane R j s) (lane R j t))) wide
+          ∙ count-cong (differsAt (lane R j marks) (lane R j s) (lane R j t)) (λ i. differsAt marks s t (R * i + j)) m (λ i l. cell i l)
+        where
+          at : (u : List ℕ) → length u ≡ length s → (i : ℕ) → i < m → getD (lane R j u) i 0 ≡ getD u (R * i + j) 0
+          at u e i l = getD-lane R some j u i (rw (e, wide) l)
+
+          cell : (i : ℕ) → i < m → differsAt (lane R j marks) (lane R j s) (lane R j t) i ≡ differsAt marks s t (R * i + j)
+          cell i l = rw (at marks em i l, at s refl i l, at t et i l) refl

@@ -2,6 +2,6 @@ pub mod Applying
 pub mod Tally
 pub mod Writing
 pub mod Repairing
-pub mod Lanes
+pub mod LaneRepairs
 pub mod Theorems
 pub mod Cells

@@ -1,4 +1,5 @@
 pub mod Word
+pub mod Marks
 pub mod Repair
 pub mod Lane
 pub mod Cells

@@ -11,7 +11,6 @@ use Rattle.gf256.specs.Gf256.{gf256}
 use Rattle.rules.specs.Refusal.{Rule, unless, First, Numbers, done, refused, Within}
 use Rattle.code.specs.declared.repair.Repaired.{Repaired}
 use Rattle.code.specs.declared.repair.Repaired.the-variants as repaired
-use Rattle.code.specs.declared.repair.Marked.{Marked}
 use Rattle.code.specs.declared.repair.Entered.{Entered}
 
 -- mended is returned
@@ -33,12 +32,6 @@ pub record RepairsAs (marks old new : List ℕ) (a : Repaired) : Type 0 where
   pub kept : (repairedNumbers a .code ≡ 0 → ⊥) → new ≡ old
 
 -- ---- parts
-
--- or-ed together the marks are at most 1 just where each is, and then their sum counts the marked cells
-pub record Tallied (marks : List ℕ) (t : Marked) : Type 0 where
-  pub good : t .any ≤ 1 → GoodMarks marks
-  pub bad : (t .any ≤ 1 → ⊥) → GoodMarks marks → ⊥
-  pub count : t .any ≤ 1 → t .sum ≡ countTo (isMarked marks) (length marks)
 
 -- refusals 1 to 3 of a word of n
 abbrev pub entering : ℕ → List ℕ → List Rule

@@ -5,7 +5,7 @@ use native.Mathlib.Omega.{arith}
 use lib.ListN.{length, take, drop}
 use Rattle.code.specs.Lane.{LaneRepairsAs}
 use Rattle.code.specs.Repair.{RepairsAs}
-use Rattle.code.proofs.Lanes.{lane-1, lane-2, lane-repaired}
+use Rattle.code.proofs.LaneRepairs.{lane-1, lane-2, lane-repaired}
 use borrow.Author.Needs.{needs}
 use Rattle.code.proofs.lane.repair_lane.Statement.{statement}
 use Rattle.code.proofs.lane.repair_lane.Tie as tie

@@ -3,8 +3,8 @@ use native.Mathlib.Omega.{arith}
 use borrow.Author.Needs.{needs}
 use lib.ListN.{length}
 use Rattle.code.proofs.Tally.{Tallying, tally-starts, tally-goes, tally-ends}
-use Rattle.code.proofs.repair.tally.Statement.{statement}
-use Rattle.code.proofs.repair.tally.Tie as tie
+use Rattle.code.proofs.marks.tally.Statement.{statement}
+use Rattle.code.proofs.marks.tally.Tie as tie
 
 abbrev Inv-loop : tie.InvT-loop
 Inv-loop marks any₀ sum₀ i₀ any sum i = Tallying marks any sum i

@@ -3,5 +3,8 @@ pub mod Tally
 pub mod Writing
 pub mod Repairing
 pub mod LaneRepairs
+pub mod Gathering
+pub mod Placing
+pub mod Answers
 pub mod Theorems
 pub mod Cells

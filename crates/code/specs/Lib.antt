@@ -2,4 +2,5 @@ pub mod Word
 pub mod Marks
 pub mod Repair
 pub mod Lane
+pub mod Lanes
 pub mod Cells

@@ -4,3 +4,4 @@ pub mod word; // writing, testing, the syndrome
 pub mod marks; // marks tallied
 pub mod repair; // repair in place
 pub mod lane; // repair of a lane by value
+pub mod lanes; // the four lanes of a strip

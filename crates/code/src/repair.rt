@@ -11,7 +11,8 @@ ghost use Rattle.account.proofs.Decode.{Applied};
 ghost use Rattle.gf256.specs.Gf256.{gf256};
 ghost use Rattle.remainder.specs.Remainder.{Remains};
 ghost use Rattle.errata.specs.Errata.{cellsOf, valuesOf, ErrataFor, SearchedAs};
-ghost use Rattle.code.specs.Repair.{EntersAs, countedOf, RepairsAs};
+ghost use Rattle.code.specs.Word.{wordMost};
+ghost use Rattle.code.specs.Repair.{WordEntersAs, Searchable, countedOf, RepairsAs};
 
 // What repairing a word answers: how many unmarked cells were mended, or a refusal's number.
 pub enum Repaired {
@@ -26,7 +27,7 @@ struct Entered {
 }
 
 fn enter(n: usize, marks: &[u8]) -> Entered
-    ensures { λ r. ⌜ EntersAs n (now (marks .entry)) r ⌝ }
+    ensures { λ r. ⌜ WordEntersAs n (now (marks .entry)) r ⌝ }
 {
     if n < 6 {
         return Entered { code: 1, marked: 0 };
@@ -60,7 +61,7 @@ fn errata_of(r: u64, marks: &[u8], f: usize) -> errata::Found
 
 // The errata of a word of which f cells are marked. A clean word costs no more than its test.
 fn search(word: &[u8], marks: &[u8], f: usize) -> errata::Found
-    requires { ⌜ (length (now word) ≡ length (now marks)) × (length (now marks) ≤ 255) × (f ≡ countTo (isMarked (now marks)) (length (now marks))) × (f ≤ 5) ⌝ }
+    requires { ⌜ Searchable (length (now word)) (now marks) f ⌝ }
     ensures { λ x. ⌜ SearchedAs (x .good) (now (marks .entry)) (now (word .entry)) (x .errata) ⌝ }
 {
     let r = remainder::remainder_of(word);
@@ -124,7 +125,7 @@ fn apply(e: errata::Errata, word: &mut [u8])
 
 // The word becomes the clean word within reach, if there is one.
 pub fn repair(word: &mut [u8], marks: &[u8]) -> Repaired
-    ensures { λ r. ⌜ RepairsAs (now (marks .entry)) (now (word .entry)) (now (word .exit)) r ⌝ }
+    ensures { λ r. ⌜ RepairsAs gf256 wordMost (now (marks .entry)) (now (word .entry)) (now (word .exit)) r ⌝ }
 {
     let entered = enter(word.len(), marks);
     let code = entered.code;

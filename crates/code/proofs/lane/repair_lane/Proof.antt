@@ -3,6 +3,8 @@ use mathlib.Core.List.{List, _++_}
 use Prim.Native.Nat.{ℕ, _-_}
 use native.Mathlib.Omega.{arith}
 use lib.ListN.{length, take, drop}
+use Rattle.gf256.specs.Gf256.{gf256}
+use Rattle.code.specs.Word.{wordMost}
 use Rattle.code.specs.Lane.{LaneRepairsAs}
 use Rattle.code.specs.Repair.{RepairsAs}
 use Rattle.code.proofs.LaneRepairs.{lane-1, lane-2, lane-repaired}
@@ -50,8 +52,8 @@ returns-4 c =
     let r = c .before .repair in
     let e : a .lane .len - 0 ≡ a .lane .len = omega arith in
     subst (λ (k : ℕ). LaneRepairsAs (a .lane) (a .marks) (record { lane = record { bytes = r .last .0 ++ drop k (a .lane .bytes); len = a .lane .len }; answer = r .result })) (sym e)
-    (lane-repaired (a .lane) (a .marks) (r .last .0) (r .result) (search needs) (search needs) (c .before .before .before .before .before .before .before .if3 .left) (search needs) (search needs)
-    (subst (λ (k : ℕ). RepairsAs (take k (a .marks .bytes)) (take k (a .lane .bytes)) (r .last .0) (r .result)) e (r .ensures)))
+    (lane-repaired (a .lane) (a .marks) (search needs) (search needs) (r .last .0) (r .result) (c .before .before .before .before .before .before .before .if3 .left) (search needs) (search needs)
+    (subst (λ (k : ℕ). RepairsAs gf256 wordMost (take k (a .marks .bytes)) (take k (a .lane .bytes)) (r .last .0) (r .result)) e (r .ensures)))
 
 pub repair-lane-spec : {M : Type 1} → statement M
 repair-lane-spec =

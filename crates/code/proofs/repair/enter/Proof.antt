@@ -20,7 +20,7 @@ returns-4 : tie.Need-returns-4
 returns-4 c = enters-3 (c .before .before .before .before .before .before .args .n) (c .before .before .before .before .before .before .args .marks .now) (search needs) (search needs) (c .before .before .if3 .left) (c .before .tally .ensures .bad (λ h. omega (arith, c .if4 .taken)))
 
 returns-5 : tie.Need-returns-5
-returns-5 c = enters (c .before .before .before .before .before .before .args .n) (c .before .before .before .before .before .before .args .marks .now) (c .before .tally .result .sum) (search needs) (search needs) (c .before .before .if3 .left) (c .before .tally .ensures .good (search needs)) (c .before .tally .ensures .count (search needs))
+returns-5 c = enters (c .before .before .before .before .before .before .args .n) (c .before .before .before .before .before .before .args .marks .now) (search needs) (search needs) (c .before .tally .result .sum) (c .before .before .if3 .left) (c .before .tally .ensures .good (search needs)) (c .before .tally .ensures .count (search needs))
 
 pub enter-spec : {M : Type 1} → statement M
 enter-spec = tie.close (tie.spec returns returns-2 returns-3 tally-requires returns-4 returns-5)

@@ -4,7 +4,7 @@ use lib.ListN.{length}
 use Rattle.errata.specs.Errata.{ErrataFor}
 use native.Mathlib.Omega.{arith}
 use borrow.Author.Tests.{not-true, not-false}
-use Rattle.code.proofs.Repairing.{Entry, entry-of, repair-refused, repair-beyond, too-many, repair-mends, searched, unsearched}
+use Rattle.code.proofs.Repairing.{Entry, entry-of, repair-refused, repair-beyond, too-many, searchable, repair-mends, searched, unsearched}
 use borrow.Author.Needs.{needs}
 use Rattle.code.proofs.repair.repair.Statement.{statement}
 use Rattle.code.proofs.repair.repair.Tie as tie
@@ -29,7 +29,7 @@ search-requires c κs =
     let s = c .before .before .before .before .before .before in
     let e = c .before .before .before .enter in
     let E = entry-of (s .args .marks .now) (s .args .word .now) (e .result .code) (e .ensures .first) (c .before .before .if1 .left) in
-    (sym (E .matched), omega (arith, E .matched, E .legal .to), e .ensures .count (c .before .before .if1 .left), search needs)
+    searchable (s .args .marks .now) (s .args .word .now) (e .result .marked) E (e .ensures .count (c .before .before .if1 .left)) (search needs)
 
 same-length : tie.Need-same-length
 same-length c = search needs
@@ -47,7 +47,7 @@ count-requires c κs =
     let s = c .before .before .before .before .before .before .before .before .before in
     let e = c .before .before .before .before .before .before .enter in
     let f = c .before .before .search in
-    subst (λ (n : ℕ). ErrataFor n (f .result .errata)) (sym (entry-of (s .args .marks .now) (s .args .word .now) (e .result .code) (e .ensures .first) (c .before .before .before .before .before .if1 .left) .matched))
+    subst (λ (n : ℕ). ErrataFor n (f .result .errata)) (sym (entry-of (s .args .marks .now) (s .args .word .now) (e .result .code) (e .ensures .first) (c .before .before .before .before .before .if1 .left) .1 .0))
     (searched (f .result .good) (s .args .marks .now) (s .args .word .now) (f .result .errata) (not-false (f .result .good) (c .before .if3 .left)) (f .ensures) .listed)
 
 apply-requires : tie.Need-apply-requires

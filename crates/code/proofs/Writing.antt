@@ -15,7 +15,7 @@ use Rattle.code.specs.declared.word.Tested.{Tested}
 use Rattle.code.specs.declared.word.Tested.the-variants as tested
 use Rattle.rules.specs.Refusal.{First, Within}
 use Rattle.rules.proofs.Laws.{stops, hold-first}
-use Rattle.code.specs.Word.{wordMost, writing, testing, WritesAs, TestsAs}
+use Rattle.code.specs.Word.{wordMost, dataMost, writing, testing, WritesAs, TestsAs}
 
 -- ---- the check bytes
 
@@ -69,7 +69,7 @@ module _ (d old : List ℕ) where
   none : (c : ℕ) → c ≢ 0 → First (writing d old) c → WritesAs d old old (written.Refused c)
   none c k f = record { code = f; word = λ z. absurd (k z); value = λ z. absurd (k z); kept = λ _. refl }
 
-  pub refused-1 : (Within 1 250 (length d) → ⊥) → WritesAs d old old (written.Refused 1)
+  pub refused-1 : (Within 1 dataMost (length d) → ⊥) → WritesAs d old old (written.Refused 1)
   refused-1 h = none 1 (λ z. omega (arith, z)) (stops 0 (writing d old) 1 (h, refl))
 
   pub refused-4 : 1 ≤ length d → length d ≤ 250 → length old ≢ length d + 5 → WritesAs d old old (written.Refused 4)

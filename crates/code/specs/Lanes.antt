@@ -56,6 +56,12 @@ pub record LaneAsked (R l : ℕ) (s marks : List ℕ) : Type 0 where
   pub matched : length marks ≡ length s
   pub good : GoodMarks marks
 
+-- lane l of R, each of n cells
+pub record LaneOf (R l n : ℕ) (s : List ℕ) : Type 0 where
+  pub inside : l < R
+  pub short : n ≤ laneMost
+  pub full : length s ≡ R * n
+
 -- cells from a to b are what v says, the others are as they were
 pub record Placed (a b : ℕ) (v : ℕ → ℕ) (x x' : List ℕ) : Type 0 where
   pub long : length x' ≡ length x

@@ -16,6 +16,10 @@ use Rattle.code.specs.declared.word.Tested.the-variants as tested
 abbrev pub wordMost : ℕ
 wordMost = 255
 
+-- and how many of them are data
+abbrev pub dataMost : ℕ
+dataMost = 250
+
 -- ---- writing: the length is returned
 
 abbrev pub writtenNumbers : Written → Numbers
@@ -24,7 +28,7 @@ writtenNumbers (written.Refused c) = refused c
 
 -- 1: the data are not 1 to 250 bytes; 4: the buffer is not five longer
 abbrev pub writing : List ℕ → List ℕ → List Rule
-writing d old = unless 1 (Within 1 250 (length d)) ∷ unless 4 (length old ≡ length d + 5) ∷ []
+writing d old = unless 1 (Within 1 dataMost (length d)) ∷ unless 4 (length old ≡ length d + 5) ∷ []
 
 pub record WritesAs (d old new : List ℕ) (a : Written) : Type 0 where
   pub code : First (writing d old) (writtenNumbers a .code)

@@ -5,8 +5,10 @@ ghost use lib.ListN.{length, getD};
 ghost use Rattle.account.specs.Lanes.{lane};
 ghost use Rattle.gf256.specs.Gf256.{gf256};
 ghost use Rattle.remainder.specs.Remainder.{unpacked};
+ghost use Rattle.code.specs.Word.{dataMost};
 ghost use Rattle.code.specs.Lane.{wordOf};
-ghost use Rattle.code.specs.Lanes.{LanesTested, LaneMendsAs, ChecksPut, LaneAsked, Placed};
+ghost use Rattle.code.specs.Lanes.{LanesTested, LaneMendsAs, ChecksPut, LaneAsked, LaneOf, Placed};
+use super::lane::LANE_MOST;
 use super::lane::Lane;
 use super::lane::LaneRepair;
 
@@ -20,11 +22,11 @@ pub fn test(strip: &[u8]) -> [bool; 4]
 
 // Lane l of a strip, or of its marks, by value.
 fn gather(strip: &[u8], l: usize, n: usize) -> Lane
-    requires { ⌜ (l < 4) × (n ≤ 96) × (length (now strip) ≡ 4 * n) ⌝ }
+    requires { ⌜ LaneOf 4 l n (now strip) ⌝ }
     ensures { λ r. ⌜ (r .len ≡ n) × (wordOf r ≡ lane 4 l (now (strip .entry))) ⌝ }
 {
     let mut t = Lane {
-        bytes: [0; 96],
+        bytes: [0; LANE_MOST],
         len: n,
     };
     let mut k: usize = 0;
@@ -56,7 +58,7 @@ fn check_byte(c: u64, i: usize) -> u8
 
 // The packed check bytes of four lanes of k cells, as five columns after them.
 fn place_checks(x: &mut [u8], k: usize, c: [u64; 4])
-    requires { ⌜ (k ≤ 250) × (4 * (k + 5) ≤ length (now x)) ⌝ }
+    requires { ⌜ (k ≤ dataMost) × (4 * (k + 5) ≤ length (now x)) ⌝ }
     ensures { λ _. ⌜ Placed (4 * k) (4 * (k + 5)) (λ p. getD (unpacked (getD c (p % 4) 0)) ((p - 4 * k) / 4) 0) (now (x .entry)) (now (x .exit)) ⌝ }
 {
     let from = 4 * k;
@@ -70,7 +72,7 @@ fn place_checks(x: &mut [u8], k: usize, c: [u64; 4])
 
 // The check cells of four lanes of k data cells, which stand in front.
 pub fn put_checks(x: &mut [u8], k: usize)
-    requires { ⌜ (k ≤ 250) × (4 * (k + 5) ≤ length (now x)) ⌝ }
+    requires { ⌜ (k ≤ dataMost) × (4 * (k + 5) ≤ length (now x)) ⌝ }
     ensures { λ _. ⌜ ChecksPut gf256 4 k (now (x .entry)) (now (x .exit)) ⌝ }
 {
     let c = remainder::lane_checks_of(&x[0..4 * k]);

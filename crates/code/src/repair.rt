@@ -13,6 +13,7 @@ ghost use Rattle.remainder.specs.Remainder.{Remains};
 ghost use Rattle.errata.specs.Errata.{cellsOf, valuesOf, ErrataFor, SearchedAs};
 ghost use Rattle.code.specs.Word.{wordMost};
 ghost use Rattle.code.specs.Repair.{WordEntersAs, Searchable, countedOf, RepairsAs};
+use super::word::WORD_MOST;
 
 // What repairing a word answers: how many unmarked cells were mended, or a refusal's number.
 pub enum Repaired {
@@ -32,7 +33,7 @@ fn enter(n: usize, marks: &[u8]) -> Entered
     if n < 6 {
         return Entered { code: 1, marked: 0 };
     }
-    if 255 < n {
+    if WORD_MOST < n {
         return Entered { code: 1, marked: 0 };
     }
     if marks.len() != n {

@@ -12,13 +12,15 @@ use lib.ListN.{length, getD, take, set, length-set}
 use lib.Seq.{slice, slice-empty, getD-take, getD-set-same, getD-set-other, length-take-le}
 use borrow.Author.Tests.{eq-eqb, ne-eqb}
 use Rattle.account.specs.Reach.{countTo, isMarked, oneIf, and, differsAt, differing}
-use Rattle.account.proofs.Cells.{Outside, Below, Distinct, below-at, less, less-same, count-less, count-cong, count-none}
+use Rattle.account.proofs.Cells.{Outside, Below, Distinct, below-at, one-most, less, less-same, count-less, count-cong, count-none}
 use Rattle.account.proofs.Laws as laws
 use Rattle.account.proofs.Solve as solve
 use Rattle.account.proofs.Solve.{added, only, only-here, only-off}
 use Rattle.account.proofs.Decode.{Applied}
 use Rattle.gf256.specs.Gf256.{gf256}
 use Rattle.gf256.proofs.Field256.{field256}
+use Rattle.errata.specs.declared.Errata.{Errata}
+use Rattle.errata.specs.Errata.{cellsOf, ErrataFor}
 use Rattle.errata.proofs.Values.{from}
 use Rattle.code.specs.Repair.{countedOf}
 
@@ -54,7 +56,8 @@ before xs k i h l e = from (i - 1) k xs (omega arith) e ∙ ap (λ (j : ℕ). ge
 
 pub apply-goes : (cells values r w : List ℕ) (k i : ℕ) → 0 < i → i ≤ k → k ≤ length cells → k ≤ length values → getD cells (i - 1) 0 < length r
     → Applied gf256 (slice i k cells) (slice i k values) r w
-    → Applied gf256 (slice (i - 1) k cells) (slice (i - 1) k values) r (set w (getD cells (i - 1) 0) (bitXor (getD w (getD cells (i - 1) 0) 0) (getD values (i - 1) 0)))
+    → Applied gf256 (slice (i - 1) k cells) (slice (i - 1) k values) r
+    (set w (getD cells (i - 1) 0) (bitXor (getD w (getD cells (i - 1) 0) 0) (getD values (i - 1) 0)))
 apply-goes cells values r w k i h l lc lv b A =
     subst (λ (ps : List ℕ). Applied gf256 ps (slice (i - 1) k values) r w') (sym (before cells k i h l lc))
     (subst (λ (vs : List ℕ). Applied gf256 (getD cells (i - 1) 0 ∷ slice i k cells) vs r w') (sym (before values k i h l lv))
@@ -67,6 +70,9 @@ apply-goes cells values r w k i h l lc lv b A =
 
 pub count-starts : (marks cells values : List ℕ) (k : ℕ) → countedOf marks (slice k k cells) (slice k k values) ≡ 0
 count-starts marks cells values k = ap (λ (ps : List ℕ). countedOf marks ps (slice k k values)) (slice-empty k cells)
+
+pub counts-one : (marks : List ℕ) (p v x : ℕ) → x ≡ oneIf (and (not (isMarked marks p)) (not (eqb v 0))) → x ≤ 1
+counts-one marks p v x e = omega (arith, e, one-most (and (not (isMarked marks p)) (not (eqb v 0))))
 
 pub count-goes : (marks cells values : List ℕ) (k i c x : ℕ) → 0 < i → i ≤ k → k ≤ length cells → k ≤ length values
     → c ≡ countedOf marks (slice i k cells) (slice i k values)
@@ -139,6 +145,7 @@ count-is marks ps vs r w e b d A =
     ∙ count-changed marks ps vs (length r) e b d)
 
 -- the i-th cell of errata is one of the word
-pub erratum-below : (n k : ℕ) (cells : List ℕ) → k ≤ 5 → length cells ≡ 5 → Below (take k cells) n → (i : ℕ) → i < k → getD cells i 0 < n
-erratum-below n k cells h r b i l =
-    subst (λ (x : ℕ). x < n) (getD-take k cells i 0 l) (below-at (take k cells) n i b (omega (arith, length-take-le k cells (omega arith))))
+pub erratum-below : (n : ℕ) (e : Errata) → ErrataFor n e → (i : ℕ) → i < e .count → getD (e .cells) i 0 < n
+erratum-below n e F i l =
+    subst (λ (x : ℕ). x < n) (getD-take (e .count) (e .cells) i 0 l)
+    (below-at (cellsOf e) n i (F .below) (omega (arith, length-take-le (e .count) (e .cells) (omega (arith, F .few, F .room)))))

@@ -87,8 +87,8 @@ module _ (n : ℕ) (marks : List ℕ) where
 abbrev pub Entry : List ℕ → List ℕ → Type 0
 Entry marks r = Hold (enteringWord wordMost (length r) (length marks) marks)
 
-pub entry-of : (marks r : List ℕ) (c : ℕ) → First (enteringWord wordMost (length r) (length marks) marks) c → c ≡ 0 → Entry marks r
-entry-of marks r c f z = all-hold 3 (enteringWord wordMost (length r) (length marks) marks) c tt f z
+pub entry-of : (marks r : List ℕ) (e : Entered) → WordEntersAs (length r) marks e → e .code ≡ 0 → Entry marks r
+entry-of marks r e E z = all-hold 3 (enteringWord wordMost (length r) (length marks) marks) (e .code) tt (E .first) z
 
 -- ---- repair
 
@@ -125,8 +125,8 @@ module _ (marks r : List ℕ) where
   abbrev entry : List Rule
   entry = enteringWord wordMost (length r) (length marks) marks
 
-  pub repair-refused : (c : ℕ) → First (enteringWord wordMost (length r) (length marks) marks) c → c ≢ 0 → RepairsAs gf256 wordMost marks r r (repaired.Refused c)
-  repair-refused c f k = refuses gf256 wordMost (length r) (length marks) marks r c k (before entry last c k f)
+  pub repair-refused : (e : Entered) → WordEntersAs (length r) marks e → e .code ≢ 0 → RepairsAs gf256 wordMost marks r r (repaired.Refused (e .code))
+  repair-refused e E k = refuses gf256 wordMost (length r) (length marks) marks r (e .code) k (before entry last (e .code) k (E .first))
 
   pub repair-beyond : Entry marks r → Beyond marks r → RepairsAs gf256 wordMost marks r r (repaired.Refused 6)
   repair-beyond E B =

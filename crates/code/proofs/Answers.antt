@@ -46,7 +46,8 @@ pub repaired-same : (a b : Repaired) → repairedNumbers a .code ≡ repairedNum
     → (repairedNumbers a .code ≡ 0 → repairedNumbers a .mended ≡ repairedNumbers b .mended) → repairedNumbers a ≡ repairedNumbers b
 repaired-same a b e m =
     ap₂ (λ (c v : ℕ). made c v) e
-    (either (repairedNumbers a .mended ≡ repairedNumbers b .mended) (repairedNumbers a .code) m (λ n. repaired-zero a n ∙ sym (repaired-zero b (λ z. n (e ∙ z)))))
+    (either (repairedNumbers a .mended ≡ repairedNumbers b .mended) (repairedNumbers a .code) m
+    (λ n. repaired-zero a n ∙ sym (repaired-zero b (λ z. n (e ∙ z)))))
   where
     made : ℕ → ℕ → RepairNumbers
     made c v = record { code = c; mended = v }

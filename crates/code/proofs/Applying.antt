@@ -45,7 +45,8 @@ apply-one p v ps vs r w h A = record {
         ∙ ap (bitXor (getD r p 0)) (field256 .add-comm (added gf256 ps vs p) v ∙ ap (λ (x : ℕ). bitXor x (added gf256 ps vs p)) (sym (only-here p v))))
     at j l (no ne) =
         getD-set-other w p j (bitXor (getD w p 0) v) 0 ne ∙ A .cell j l
-        ∙ ap (bitXor (getD r j 0)) (sym (ap (λ (x : ℕ). bitXor x (added gf256 ps vs j)) (only-off p v j ne) ∙ laws.zero-add gf256 field256 (added gf256 ps vs j)))
+        ∙ ap (bitXor (getD r j 0))
+        (sym (ap (λ (x : ℕ). bitXor x (added gf256 ps vs j)) (only-off p v j ne) ∙ laws.zero-add gf256 field256 (added gf256 ps vs j)))
 
 -- one cell more in front
 before : (xs : List ℕ) (k i : ℕ) → 0 < i → i ≤ k → k ≤ length xs → slice (i - 1) k xs ≡ getD xs (i - 1) 0 ∷ slice i k xs
@@ -106,7 +107,9 @@ count-changed marks [] vs n e b d = count-none (changed marks [] vs) n (λ j l. 
 count-changed marks (p ∷ ps) [] n e b d = absurd (omega arith)
 count-changed marks (p ∷ ps) (v ∷ vs) n e b d =
     count-less (changed marks (p ∷ ps) (v ∷ vs)) p n (b .0)
-    ∙ ap₂ (λ (x y : ℕ). x + y) (count-cong (less p (changed marks (p ∷ ps) (v ∷ vs))) (changed marks ps vs) n (λ j l. others j (ℕ-discrete j p)) ∙ count-changed marks ps vs n (omega arith) (b .1) (d .1))
+    ∙ ap₂ (λ (x y : ℕ). x + y)
+    (count-cong (less p (changed marks (p ∷ ps) (v ∷ vs))) (changed marks ps vs) n (λ j l. others j (ℕ-discrete j p))
+    ∙ count-changed marks ps vs n (omega arith) (b .1) (d .1))
     (ap (λ (x : ℕ). oneIf (and (not (isMarked marks p)) (not (eqb x 0)))) here)
     ∙ swap (countedOf marks ps vs) (oneIf (and (not (isMarked marks p)) (not (eqb v 0))))
   where
@@ -137,11 +140,13 @@ same-test a x = go (ℕ-discrete x 0)
     go (no ne) =
         ne-eqb (bitXor a x) a (λ q. ne (sym (laws.gone gf256 field256 a x) ∙ ap (bitXor a) q ∙ field256 .add-self a)) ∙ sym (ne-eqb x 0 ne)
 
-pub count-is : (marks ps vs r w : List ℕ) → length vs ≡ length ps → Below ps (length r) → Distinct ps → Applied gf256 ps vs r w → countedOf marks ps vs ≡ differing marks r w
+pub count-is : (marks ps vs r w : List ℕ) → length vs ≡ length ps → Below ps (length r) → Distinct ps → Applied gf256 ps vs r w
+    → countedOf marks ps vs ≡ differing marks r w
 count-is marks ps vs r w e b d A =
     sym
     (count-cong (differsAt marks r w) (changed marks ps vs) (length r)
-    (λ j l. ap (λ (x : Bool). and (not (isMarked marks j)) (not x)) (ap (λ (x : ℕ). eqb x (getD r j 0)) (A .cell j l) ∙ same-test (getD r j 0) (added gf256 ps vs j)))
+    (λ j l. ap (λ (x : Bool). and (not (isMarked marks j)) (not x))
+    (ap (λ (x : ℕ). eqb x (getD r j 0)) (A .cell j l) ∙ same-test (getD r j 0) (added gf256 ps vs j)))
     ∙ count-changed marks ps vs (length r) e b d)
 
 -- the i-th cell of errata is one of the word

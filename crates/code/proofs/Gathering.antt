@@ -89,7 +89,8 @@ module _ (s marks : List ℕ) (l : ℕ) (Q : LaneAsked 4 l s marks) (w m : Lane)
     (lm ∙ sym lw, (subst GoodMarks (sym em) (marks-good marks l (Q .inside) (Q .good)), tt)),
   )
 
-  mends : (y : Lane) (a : Repaired) → y .len ≡ w .len → Repairs gf256 laneMost (w .len) (m .len) (wordOf m) (wordOf w) (wordOf y) a → LaneMendsAs gf256 4 l marks s y a
+  mends : (y : Lane) (a : Repaired) → y .len ≡ w .len → Repairs gf256 laneMost (w .len) (m .len) (wordOf m) (wordOf w) (wordOf y) a
+      → LaneMendsAs gf256 4 l marks s y a
   mends y (repaired.Mended e) ey A = record {
     len = ey ∙ lw;
     cells = A .cells refl;

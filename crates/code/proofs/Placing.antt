@@ -11,7 +11,7 @@ use Rattle.account.specs.Lanes.{lane}
 use Rattle.account.proofs.Lanes.{length-lane, getD-lane}
 use Rattle.gf256.specs.Gf256.{gf256}
 use Rattle.remainder.specs.Remainder.{unpacked, LanesCheck}
-use Rattle.code.specs.Lanes.{ChecksPut, Placed}
+use Rattle.code.specs.Lanes.{ChecksPut, Placed, checkCell}
 use Rattle.code.proofs.Writing.{word-of}
 
 lt-or-ge : (q n : ℕ) → (q < n) ⊎ (n ≤ q)
@@ -48,7 +48,7 @@ check-byte-is c (suc (suc (suc (suc (suc i))))) h = absurd (omega arith)
 
 -- k columns of data, and five of check bytes after them
 module _ (k : ℕ) (x x' c : List ℕ) (room : 4 * (k + 5) ≤ length x) (checks : LanesCheck (take (4 * k) x) c)
-    (put : Placed (4 * k) (4 * (k + 5)) (λ p. getD (unpacked (getD c (p % 4) 0)) ((p - 4 * k) / 4) 0) x x') where
+    (put : Placed (4 * k) (4 * (k + 5)) (checkCell 4 k c) x x') where
   front : length (take (4 * (k + 5)) x') ≡ 4 * (k + 5)
   front = length-take-le (4 * (k + 5)) x' (omega (arith, put .long))
 
@@ -89,7 +89,8 @@ module _ (k : ℕ) (x x' c : List ℕ) (room : 4 * (k + 5) ≤ length x) (checks
     lane-is =
         ext-getD 0 (lane 4 j (take (4 * (k + 5)) x')) (lane 4 j (take (4 * k) x) ++ unpacked (getD c j 0)) (long ∙ sym both) (λ i h.
         let m : i < k + 5 = omega (arith, long) in
-        getD-lane 4 (omega arith) j (take (4 * (k + 5)) x') i (omega (arith, front)) ∙ getD-take (4 * (k + 5)) x' (4 * i + j) 0 (omega arith) ∙ cell i m (lt-or-ge i k))
+        getD-lane 4 (omega arith) j (take (4 * (k + 5)) x') i (omega (arith, front))
+        ∙ getD-take (4 * (k + 5)) x' (4 * i + j) 0 (omega arith) ∙ cell i m (lt-or-ge i k))
 
   pub checks-put : ChecksPut gf256 4 k x x'
   checks-put = record {

@@ -45,7 +45,8 @@ counted-places marks f e = e ∙ sym (count-places (isMarked marks) (length mark
 
 -- ---- a clean word needs nothing
 
-pub as-is : (marks w : List ℕ) (f : ℕ) (cells values : List ℕ) → length w ≡ length marks → f ≡ countTo (isMarked marks) (length marks) → f ≤ 5 → Cells gf256 w → Clean gf256 w
+pub as-is : (marks w : List ℕ) (f : ℕ) (cells values : List ℕ) → length w ≡ length marks → f ≡ countTo (isMarked marks) (length marks) → f ≤ 5
+    → Cells gf256 w → Clean gf256 w
     → length cells ≡ 5 → length values ≡ 5 → Mends marks w (record { count = 0; cells = cells; values = values })
 as-is marks w f cells values en ef h cw kw lc lv = record {
   listed = record { few = omega arith; room = lc; values-room = lv; below = tt; distinct = tt };
@@ -80,7 +81,8 @@ module _ (n : ℕ) (marks : List ℕ) where
     pub enters-3 : length marks ≡ n → (GoodMarks marks → ⊥) → WordEntersAs n marks (record { code = 3; marked = 0 })
     enters-3 e h = none 3 (λ z. omega (arith, z)) (stops 2 (enteringWord wordMost n (length marks) marks) 3 (within, (e, (h, refl))))
 
-    pub enters : (f : ℕ) → length marks ≡ n → GoodMarks marks → f ≡ countTo (isMarked marks) (length marks) → WordEntersAs n marks (record { code = 0; marked = f })
+    pub enters : (f : ℕ) → length marks ≡ n → GoodMarks marks → f ≡ countTo (isMarked marks) (length marks)
+        → WordEntersAs n marks (record { code = 0; marked = f })
     enters f e g c = record { first = hold-first (enteringWord wordMost n (length marks) marks) (within, (e, (g, tt))); count = λ _. c }
 
 -- a word that is entered: its rules hold
@@ -93,7 +95,8 @@ entry-of marks r e E z = all-hold 3 (enteringWord wordMost (length r) (length ma
 -- ---- repair
 
 -- what is refused is kept
-pub refuses : (O : Ops) (most n m : ℕ) (marks r : List ℕ) (c : ℕ) → c ≢ 0 → First (repairing O most n m marks r) c → Repairs O most n m marks r r (repaired.Refused c)
+pub refuses : (O : Ops) (most n m : ℕ) (marks r : List ℕ) (c : ℕ) → c ≢ 0 → First (repairing O most n m marks r) c
+    → Repairs O most n m marks r r (repaired.Refused c)
 refuses O most n m marks r c k f = record {
   told = k;
   code = f;
@@ -105,7 +108,8 @@ refuses O most n m marks r c k f = record {
 }
 
 -- rules exchanged for others that say the same
-pub repairs-alike : (O : Ops) (most most' n n' m m' : ℕ) (marks r w : List ℕ) (a : Repaired) → Alike (repairing O most n m marks r) (repairing O most' n' m' marks r)
+pub repairs-alike : (O : Ops) (most most' n n' m m' : ℕ) (marks r w : List ℕ) (a : Repaired)
+    → Alike (repairing O most n m marks r) (repairing O most' n' m' marks r)
     → Repairs O most n m marks r w a → Repairs O most' n' m' marks r w a
 repairs-alike O most most' n n' m m' marks r w a e A = record {
   told = A .told;

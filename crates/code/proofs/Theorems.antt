@@ -36,11 +36,13 @@ pub powers-nonzero : (i : ℕ) → power gf256 2 i ≢ 0
 powers-nonzero = powers.pow-some gf256 field256
 
 -- Two clean words of one length differ in at least six places or nowhere.
-pub six-apart : (v w : List ℕ) → length v ≤ 255 → length w ≡ length v → Cells gf256 v → Cells gf256 w → Clean gf256 v → Clean gf256 w → (v ≡ w) ⊎ (6 ≤ differing [] v w)
+pub six-apart : (v w : List ℕ) → length v ≤ 255 → length w ≡ length v → Cells gf256 v → Cells gf256 w → Clean gf256 v → Clean gf256 w
+    → (v ≡ w) ⊎ (6 ≤ differing [] v w)
 six-apart = theorems.six-apart gf256 field256
 
 -- At most one clean word is within reach of a word with its marks.
-pub one-in-reach : (marks r v w : List ℕ) → length r ≤ 255 → Cells gf256 v → Cells gf256 w → Clean gf256 v → Clean gf256 w → Reach marks r v → Reach marks r w → v ≡ w
+pub one-in-reach : (marks r v w : List ℕ) → length r ≤ 255 → Cells gf256 v → Cells gf256 w → Clean gf256 v → Clean gf256 w
+    → Reach marks r v → Reach marks r w → v ≡ w
 one-in-reach = theorems.one-in-reach gf256 field256
 
 -- A word at 2e + f = 6 from a clean word has none within reach.
@@ -123,7 +125,8 @@ pub lane-repairs-fixed : (lane marks : Lane) (r s : LaneRepair) → length (lane
     → (r .lane ≡ s .lane) × (repairedNumbers (r .answer) ≡ repairedNumbers (s .answer))
 lane-repairs-fixed lane marks r s room A B = (
   lane-same (r .lane) (s .lane)
-      (sym (lane-is lane marks r A) ∙ ap (λ (l : List ℕ). l ++ drop (lane .len) (lane .bytes)) (one .0) ∙ lane-is lane marks s B) (A .same-len ∙ sym (B .same-len)),
+      (sym (lane-is lane marks r A) ∙ ap (λ (l : List ℕ). l ++ drop (lane .len) (lane .bytes)) (one .0) ∙ lane-is lane marks s B)
+      (A .same-len ∙ sym (B .same-len)),
   one .1,
 )
   where
@@ -139,4 +142,5 @@ lane-repairs-fixed lane marks r s room A B = (
 pub lane-kept : (lane marks : Lane) (r : LaneRepair) → LaneRepairsAs lane marks r → repairedNumbers (r .answer) .code ≢ 0 → r .lane ≡ lane
 lane-kept lane marks r A n =
     lane-same (r .lane) lane
-    (sym (lane-is lane marks r A) ∙ ap (λ (l : List ℕ). l ++ drop (lane .len) (lane .bytes)) (A .repairs .kept n) ∙ take-append-drop (lane .len) (lane .bytes)) (A .same-len)
+    (sym (lane-is lane marks r A) ∙ ap (λ (l : List ℕ). l ++ drop (lane .len) (lane .bytes)) (A .repairs .kept n)
+    ∙ take-append-drop (lane .len) (lane .bytes)) (A .same-len)

@@ -79,7 +79,12 @@ module _ (d old : List ℕ) where
 
 module _ (w : List ℕ) where
   pub test-refused : (Within 6 wordMost (length w) → ⊥) → TestsAs w (tested.Refused 1)
-  test-refused h = record { told = λ z. omega (arith, z); code = stops 0 (testing w) 1 (h, refl); only = λ e. absurd (omega (arith, e)); always = λ e. absurd (omega (arith, e)) }
+  test-refused h = record {
+    told = λ z. omega (arith, z);
+    code = stops 0 (testing w) 1 (h, refl);
+    only = λ e. absurd (omega (arith, e));
+    always = λ e. absurd (omega (arith, e));
+  }
 
   module _ (low : 6 ≤ length w) (high : length w ≤ wordMost) where
     entered : First (testing w) 0

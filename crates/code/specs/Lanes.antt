@@ -3,12 +3,13 @@ use mathlib.Core.Path.{_≡_}
 use mathlib.Core.Logic.{_⊎_}
 use mathlib.Core.Bool.{Bool, false}
 use mathlib.Core.List.{List}
-use Prim.Native.Nat.{ℕ, _+_, _*_, _/_, _≤_, _<_}
+use Prim.Native.Nat.{ℕ, _+_, _*_, _-_, _/_, _%_, _≤_, _<_}
 use lib.ListN.{length, getD, take}
 use Rattle.account.specs.Field.{Ops}
 use Rattle.account.specs.Code.{Cells, Clean, WordOf}
 use Rattle.account.specs.Lanes.{lane}
 use Rattle.account.specs.Reach.{differing, Reach, GoodMarks, Reachable}
+use Rattle.remainder.specs.Remainder.{unpacked}
 use Rattle.rules.specs.Says.{Says}
 use Rattle.rules.specs.Refusal.{Within}
 use Rattle.code.specs.Lane.{laneMost, wordOf}
@@ -61,6 +62,10 @@ pub record LaneOf (R l n : ℕ) (s : List ℕ) : Type 0 where
   pub inside : l < R
   pub short : n ≤ laneMost
   pub full : length s ≡ R * n
+
+-- cell p of the five columns after k columns, where c has the packed check bytes of each of R lanes
+abbrev pub checkCell : ℕ → ℕ → List ℕ → ℕ → ℕ
+checkCell R k c p = getD (unpacked (getD c (p % R) 0)) ((p - R * k) / R) 0
 
 -- cells from a to b are what v says, the others are as they were
 pub record Placed (a b : ℕ) (v : ℕ → ℕ) (x x' : List ℕ) : Type 0 where

@@ -1,13 +1,13 @@
 // The four lanes of a strip: tested at once, mended one by one, and their check cells written. Cell p is byte p div 4 of lane p mod 4.
 ghost use mathlib.Core.Path.{_≡_};
-ghost use Prim.Native.Nat.{_+_, _*_, _-_, _/_, _%_, _≤_, _<_};
+ghost use Prim.Native.Nat.{_+_, _*_, _≤_, _<_};
 ghost use lib.ListN.{length, getD};
 ghost use Rattle.account.specs.Lanes.{lane};
 ghost use Rattle.gf256.specs.Gf256.{gf256};
 ghost use Rattle.remainder.specs.Remainder.{unpacked};
 ghost use Rattle.code.specs.Word.{dataMost};
 ghost use Rattle.code.specs.Lane.{wordOf};
-ghost use Rattle.code.specs.Lanes.{LanesTested, LaneMendsAs, ChecksPut, LaneAsked, LaneOf, Placed};
+ghost use Rattle.code.specs.Lanes.{LanesTested, LaneMendsAs, ChecksPut, LaneAsked, LaneOf, Placed, checkCell};
 use super::lane::LANE_MOST;
 use super::lane::Lane;
 use super::lane::LaneRepair;
@@ -59,7 +59,7 @@ fn check_byte(c: u64, i: usize) -> u8
 // The packed check bytes of four lanes of k cells, as five columns after them.
 fn place_checks(x: &mut [u8], k: usize, c: [u64; 4])
     requires { ⌜ (k ≤ dataMost) × (4 * (k + 5) ≤ length (now x)) ⌝ }
-    ensures { λ _. ⌜ Placed (4 * k) (4 * (k + 5)) (λ p. getD (unpacked (getD c (p % 4) 0)) ((p - 4 * k) / 4) 0) (now (x .entry)) (now (x .exit)) ⌝ }
+    ensures { λ _. ⌜ Placed (4 * k) (4 * (k + 5)) (checkCell 4 k c) (now (x .entry)) (now (x .exit)) ⌝ }
 {
     let from = 4 * k;
     let to = from + 20;

@@ -17,7 +17,8 @@ returns c =
     let s = c .before .before .before .before .before in
     let w = c .before .before .gather in
     let m = c .before .gather2 in
-    mends-as (s .args .strip .now) (s .args .marks .now) (s .args .l) (s .pre) (w .result) (m .result) (w .ensures .0) (m .ensures .0) (w .ensures .1) (m .ensures .1)
+    mends-as (s .args .strip .now) (s .args .marks .now) (s .args .l) (s .pre) (w .result) (m .result)
+    (w .ensures .0) (m .ensures .0) (w .ensures .1) (m .ensures .1)
     (c .repair-lane .result) (c .repair-lane .ensures)
 
 pub mend-spec : {M : Type 1} → statement M

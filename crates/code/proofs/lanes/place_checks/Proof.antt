@@ -4,13 +4,13 @@ use lib.ListN.{getD}
 use native.Mathlib.Omega.{arith}
 use borrow.Author.Needs.{needs}
 use Rattle.remainder.specs.Remainder.{unpacked}
-use Rattle.code.specs.Lanes.{Placed}
+use Rattle.code.specs.Lanes.{Placed, checkCell}
 use Rattle.code.proofs.Placing.{placed-0, placed-more}
 use Rattle.code.proofs.lanes.place_checks.Statement.{statement}
 use Rattle.code.proofs.lanes.place_checks.Tie as tie
 
 abbrev Inv-loop : tie.InvT-loop
-Inv-loop x₀ k c from to p₀ x p = (from ≡ 4 * k) × (to ≡ 4 * (k + 5)) × (from ≤ p) × (p ≤ to) × Placed from p (λ q. getD (unpacked (getD c (q % 4) 0)) ((q - from) / 4) 0) x₀ x
+Inv-loop x₀ k c from to p₀ x p = (from ≡ 4 * k) × (to ≡ 4 * (k + 5)) × (from ≤ p) × (p ≤ to) × Placed (4 * k) p (checkCell 4 k c) x₀ x
 
 abbrev μ-loop : tie.MeasureT-loop
 μ-loop x₀ k c from to p₀ x p = to - p
@@ -24,7 +24,7 @@ add-to c = search needs
 loop-holds : tie.Need-loop-holds Inv-loop μ-loop
 loop-holds c =
     let a = c .before .args in
-    (refl, omega arith, omega arith, omega arith, placed-0 (4 * a .k) (λ q. getD (unpacked (getD (a .t3) (q % 4) 0)) ((q - 4 * a .k) / 4) 0) (a .x .now))
+    (refl, omega arith, omega arith, omega arith, placed-0 (4 * a .k) (checkCell 4 (a .k) (a .t3)) (a .x .now))
 
 mul-check-byte : tie.Need-mul-check-byte Inv-loop μ-loop
 mul-check-byte c = search needs
@@ -50,8 +50,14 @@ loop-less c = search needs
 loop-again : tie.Need-loop-again Inv-loop μ-loop
 loop-again c =
     let l = c .before .before .loop in
-    let a = c .before .before .before .before .args in
-    (omega arith, omega arith, omega arith, omega arith, placed-more (4 * a .k) (λ q. getD (unpacked (getD (a .t3) (q % 4) 0)) ((q - 4 * a .k) / 4) 0) (a .x .now) (l .x) (l .p) (c .check-byte .result) (omega arith) (omega arith) (c .check-byte .ensures) (l .inv .4))
+    let a = c .before .before .before .before .args in (
+      omega arith,
+      omega arith,
+      omega arith,
+      omega arith,
+      placed-more (4 * a .k) (checkCell 4 (a .k) (a .t3)) (a .x .now) (l .x) (l .p) (c .check-byte .result)
+          (omega arith) (omega arith) (c .check-byte .ensures) (l .inv .4),
+    )
 
 same-length : tie.Need-same-length Inv-loop μ-loop
 same-length c = c .before .loop .inv .4 .long
@@ -61,7 +67,7 @@ returns c =
     let l = c .before .loop in
     let a = c .before .before .before .args in
     let e : l .p ≡ 4 * (a .k + 5) = omega arith in
-    subst (λ (b : ℕ). Placed (4 * a .k) b (λ q. getD (unpacked (getD (a .t3) (q % 4) 0)) ((q - 4 * a .k) / 4) 0) (a .x .now) (l .x)) e (l .inv .4)
+    subst (λ (b : ℕ). Placed (4 * a .k) b (checkCell 4 (a .k) (a .t3)) (a .x .now) (l .x)) e (l .inv .4)
 
 pub place-checks-spec : {M : Type 1} → statement M
 place-checks-spec =

@@ -12,13 +12,15 @@ use lib.ListN.{length, getD, take, set, length-set}
 use lib.Seq.{slice, slice-empty, getD-take, getD-set-same, getD-set-other, length-take-le}
 use borrow.Author.Tests.{eq-eqb, ne-eqb}
 use Rattle.account.specs.Reach.{countTo, isMarked, oneIf, and, differsAt, differing}
-use Rattle.account.proofs.Cells.{Outside, Below, Distinct, below-at, less, less-same, count-less, count-cong, count-none}
+use Rattle.account.proofs.Cells.{Outside, Below, Distinct, below-at, one-most, less, less-same, count-less, count-cong, count-none}
 use Rattle.account.proofs.Laws as laws
 use Rattle.account.proofs.Solve as solve
 use Rattle.account.proofs.Solve.{added, only, only-here, only-off}
 use Rattle.account.proofs.Decode.{Applied}
 use Rattle.gf256.specs.Gf256.{gf256}
 use Rattle.gf256.proofs.Field256.{field256}
+use Rattle.errata.specs.declared.Errata.{Errata}
+use Rattle.errata.specs.Errata.{cellsOf, ErrataFor}
 use Rattle.errata.proofs.Values.{from}
 use Rattle.code.specs.Repair.{countedOf}
 
@@ -43,7 +45,8 @@ apply-one p v ps vs r w h A = record {
         ∙ ap (bitXor (getD r p 0)) (field256 .add-comm (added gf256 ps vs p) v ∙ ap (λ (x : ℕ). bitXor x (added gf256 ps vs p)) (sym (only-here p v))))
     at j l (no ne) =
         getD-set-other w p j (bitXor (getD w p 0) v) 0 ne ∙ A .cell j l
-        ∙ ap (bitXor (getD r j 0)) (sym (ap (λ (x : ℕ). bitXor x (added gf256 ps vs j)) (only-off p v j ne) ∙ laws.zero-add gf256 field256 (added gf256 ps vs j)))
+        ∙ ap (bitXor (getD r j 0))
+        (sym (ap (λ (x : ℕ). bitXor x (added gf256 ps vs j)) (only-off p v j ne) ∙ laws.zero-add gf256 field256 (added gf256 ps vs j)))
 
 -- one cell more in front
 before : (xs : List ℕ) (k i : ℕ) → 0 < i → i ≤ k → k ≤ length xs → slice (i - 1) k xs ≡ getD xs (i - 1) 0 ∷ slice i k xs
@@ -54,7 +57,8 @@ before xs k i h l e = from (i - 1) k xs (omega arith) e ∙ ap (λ (j : ℕ). ge
 
 pub apply-goes : (cells values r w : List ℕ) (k i : ℕ) → 0 < i → i ≤ k → k ≤ length cells → k ≤ length values → getD cells (i - 1) 0 < length r
     → Applied gf256 (slice i k cells) (slice i k values) r w
-    → Applied gf256 (slice (i - 1) k cells) (slice (i - 1) k values) r (set w (getD cells (i - 1) 0) (bitXor (getD w (getD cells (i - 1) 0) 0) (getD values (i - 1) 0)))
+    → Applied gf256 (slice (i - 1) k cells) (slice (i - 1) k values) r
+    (set w (getD cells (i - 1) 0) (bitXor (getD w (getD cells (i - 1) 0) 0) (getD values (i - 1) 0)))
 apply-goes cells values r w k i h l lc lv b A =
     subst (λ (ps : List ℕ). Applied gf256 ps (slice (i - 1) k values) r w') (sym (before cells k i h l lc))
     (subst (λ (vs : List ℕ). Applied gf256 (getD cells (i - 1) 0 ∷ slice i k cells) vs r w') (sym (before values k i h l lv))
@@ -67,6 +71,9 @@ apply-goes cells values r w k i h l lc lv b A =
 
 pub count-starts : (marks cells values : List ℕ) (k : ℕ) → countedOf marks (slice k k cells) (slice k k values) ≡ 0
 count-starts marks cells values k = ap (λ (ps : List ℕ). countedOf marks ps (slice k k values)) (slice-empty k cells)
+
+pub counts-one : (marks : List ℕ) (p v x : ℕ) → x ≡ oneIf (and (not (isMarked marks p)) (not (eqb v 0))) → x ≤ 1
+counts-one marks p v x e = omega (arith, e, one-most (and (not (isMarked marks p)) (not (eqb v 0))))
 
 pub count-goes : (marks cells values : List ℕ) (k i c x : ℕ) → 0 < i → i ≤ k → k ≤ length cells → k ≤ length values
     → c ≡ countedOf marks (slice i k cells) (slice i k values)
@@ -100,7 +107,9 @@ count-changed marks [] vs n e b d = count-none (changed marks [] vs) n (λ j l. 
 count-changed marks (p ∷ ps) [] n e b d = absurd (omega arith)
 count-changed marks (p ∷ ps) (v ∷ vs) n e b d =
     count-less (changed marks (p ∷ ps) (v ∷ vs)) p n (b .0)
-    ∙ ap₂ (λ (x y : ℕ). x + y) (count-cong (less p (changed marks (p ∷ ps) (v ∷ vs))) (changed marks ps vs) n (λ j l. others j (ℕ-discrete j p)) ∙ count-changed marks ps vs n (omega arith) (b .1) (d .1))
+    ∙ ap₂ (λ (x y : ℕ). x + y)
+    (count-cong (less p (changed marks (p ∷ ps) (v ∷ vs))) (changed marks ps vs) n (λ j l. others j (ℕ-discrete j p))
+    ∙ count-changed marks ps vs n (omega arith) (b .1) (d .1))
     (ap (λ (x : ℕ). oneIf (and (not (isMarked marks p)) (not (eqb x 0)))) here)
     ∙ swap (countedOf marks ps vs) (oneIf (and (not (isMarked marks p)) (not (eqb v 0))))
   where
@@ -131,14 +140,17 @@ same-test a x = go (ℕ-discrete x 0)
     go (no ne) =
         ne-eqb (bitXor a x) a (λ q. ne (sym (laws.gone gf256 field256 a x) ∙ ap (bitXor a) q ∙ field256 .add-self a)) ∙ sym (ne-eqb x 0 ne)
 
-pub count-is : (marks ps vs r w : List ℕ) → length vs ≡ length ps → Below ps (length r) → Distinct ps → Applied gf256 ps vs r w → countedOf marks ps vs ≡ differing marks r w
+pub count-is : (marks ps vs r w : List ℕ) → length vs ≡ length ps → Below ps (length r) → Distinct ps → Applied gf256 ps vs r w
+    → countedOf marks ps vs ≡ differing marks r w
 count-is marks ps vs r w e b d A =
     sym
     (count-cong (differsAt marks r w) (changed marks ps vs) (length r)
-    (λ j l. ap (λ (x : Bool). and (not (isMarked marks j)) (not x)) (ap (λ (x : ℕ). eqb x (getD r j 0)) (A .cell j l) ∙ same-test (getD r j 0) (added gf256 ps vs j)))
+    (λ j l. ap (λ (x : Bool). and (not (isMarked marks j)) (not x))
+    (ap (λ (x : ℕ). eqb x (getD r j 0)) (A .cell j l) ∙ same-test (getD r j 0) (added gf256 ps vs j)))
     ∙ count-changed marks ps vs (length r) e b d)
 
 -- the i-th cell of errata is one of the word
-pub erratum-below : (n k : ℕ) (cells : List ℕ) → k ≤ 5 → length cells ≡ 5 → Below (take k cells) n → (i : ℕ) → i < k → getD cells i 0 < n
-erratum-below n k cells h r b i l =
-    subst (λ (x : ℕ). x < n) (getD-take k cells i 0 l) (below-at (take k cells) n i b (omega (arith, length-take-le k cells (omega arith))))
+pub erratum-below : (n : ℕ) (e : Errata) → ErrataFor n e → (i : ℕ) → i < e .count → getD (e .cells) i 0 < n
+erratum-below n e F i l =
+    subst (λ (x : ℕ). x < n) (getD-take (e .count) (e .cells) i 0 l)
+    (below-at (cellsOf e) n i (F .below) (omega (arith, length-take-le (e .count) (e .cells) (omega (arith, F .few, F .room)))))

@@ -2,6 +2,9 @@ pub mod Applying
 pub mod Tally
 pub mod Writing
 pub mod Repairing
-pub mod Lanes
+pub mod LaneRepairs
+pub mod Gathering
+pub mod Placing
+pub mod Answers
 pub mod Theorems
 pub mod Cells

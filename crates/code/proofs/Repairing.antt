@@ -1,12 +1,13 @@
 -- The answers of repair.
 use mathlib.Core.Path.{_≡_, refl, sym, ap, ap₂, _∙_, subst}
-use mathlib.Core.Logic.{_⊎_, inl, inr}
+use mathlib.Core.Logic.{_≢_}
 use mathlib.Core.Bool.{Bool, true, false}
-use mathlib.Core.List.{List, [], _∷_}
+use mathlib.Core.List.{List, [], _∷_, _++_}
 use Prim.Native.Nat.{ℕ, zero, suc, _+_, _*_, _-_, _≤_, _<_}
 use native.Mathlib.Omega.{arith}
 use lib.ListN.{length, getD, take, drop}
 use lib.Seq.{ext-getD, length-take-le}
+use Rattle.account.specs.Field.{Ops}
 use Rattle.account.specs.Code.{Cells, Clean, syndrome}
 use Rattle.account.specs.Reach.{countTo, isMarked, differsAt, differing, marked, Reach, GoodMarks, Reachable}
 use Rattle.account.proofs.Cells.{count-places, count-none, not-differs}
@@ -17,10 +18,13 @@ use Rattle.gf256.specs.Gf256.{gf256}
 use Rattle.gf256.proofs.Field256.{field256}
 use Rattle.errata.specs.declared.Errata.{Errata}
 use Rattle.errata.specs.Errata.{at, Bytes5, cellsOf, valuesOf, Mends, Beyond, SearchedAs}
+use Rattle.code.specs.declared.repair.Repaired.{Repaired}
 use Rattle.code.specs.declared.repair.Repaired.the-variants as repaired
 use Rattle.code.specs.declared.repair.Entered.{Entered}
-use Rattle.rules.specs.Refusal.{First, Within}
-use Rattle.code.specs.Repair.{entering, repairing, RepairsAs, EntersAs, countedOf}
+use Rattle.rules.specs.Refusal.{Rule, unless, First, Hold, Within}
+use Rattle.rules.proofs.Laws.{stops, hold-first, all-hold, before, after, Alike, first-alike}
+use Rattle.code.specs.Word.{wordMost}
+use Rattle.code.specs.Repair.{repairedNumbers, enteringWord, repairing, Repairs, RepairsAs, WordEntersAs, Searchable, countedOf}
 use Rattle.code.proofs.Applying.{count-is}
 
 -- ---- a syndrome's bytes
@@ -41,7 +45,8 @@ counted-places marks f e = e ∙ sym (count-places (isMarked marks) (length mark
 
 -- ---- a clean word needs nothing
 
-pub as-is : (marks w : List ℕ) (f : ℕ) (cells values : List ℕ) → length w ≡ length marks → f ≡ countTo (isMarked marks) (length marks) → f ≤ 5 → Cells gf256 w → Clean gf256 w
+pub as-is : (marks w : List ℕ) (f : ℕ) (cells values : List ℕ) → length w ≡ length marks → f ≡ countTo (isMarked marks) (length marks) → f ≤ 5
+    → Cells gf256 w → Clean gf256 w
     → length cells ≡ 5 → length values ≡ 5 → Mends marks w (record { count = 0; cells = cells; values = values })
 as-is marks w f cells values en ef h cw kw lc lv = record {
   listed = record { few = omega arith; room = lc; values-room = lv; below = tt; distinct = tt };
@@ -60,78 +65,104 @@ as-is marks w f cells values en ef h cw kw lc lv = record {
 -- ---- the entry
 
 module _ (n : ℕ) (marks : List ℕ) where
-  pub enters-1 : (Within 6 255 n → ⊥) → EntersAs n marks (record { code = 1; marked = 0 })
-  enters-1 h = record { first = inl (h, refl); count = λ e. absurd (omega arith) }
+  none : (c : ℕ) → c ≢ 0 → First (enteringWord wordMost n (length marks) marks) c → WordEntersAs n marks (record { code = c; marked = 0 })
+  none c k f = record { first = f; count = λ z. absurd (k z) }
 
-  pub enters-2 : 6 ≤ n → n ≤ 255 → (length marks ≡ n → ⊥) → EntersAs n marks (record { code = 2; marked = 0 })
-  enters-2 a b h = record { first = inr (record { from = a; to = b }, inl (h, refl)); count = λ e. absurd (omega arith) }
+  pub enters-1 : (Within 6 wordMost n → ⊥) → WordEntersAs n marks (record { code = 1; marked = 0 })
+  enters-1 h = none 1 (λ z. omega (arith, z)) (stops 0 (enteringWord wordMost n (length marks) marks) 1 (h, refl))
 
-  pub enters-3 : 6 ≤ n → n ≤ 255 → length marks ≡ n → (GoodMarks marks → ⊥) → EntersAs n marks (record { code = 3; marked = 0 })
-  enters-3 a b c h = record { first = inr (record { from = a; to = b }, inr (c, inl (h, refl))); count = λ e. absurd (omega arith) }
+  module _ (low : 6 ≤ n) (high : n ≤ wordMost) where
+    within : Within 6 wordMost n
+    within = record { from = low; to = high }
 
-  pub enters : (f : ℕ) → 6 ≤ n → n ≤ 255 → length marks ≡ n → GoodMarks marks → f ≡ countTo (isMarked marks) (length marks) → EntersAs n marks (record { code = 0; marked = f })
-  enters f a b c g e = record { first = inr (record { from = a; to = b }, inr (c, inr (g, refl))); count = λ _. e }
+    pub enters-2 : (length marks ≡ n → ⊥) → WordEntersAs n marks (record { code = 2; marked = 0 })
+    enters-2 h = none 2 (λ z. omega (arith, z)) (stops 1 (enteringWord wordMost n (length marks) marks) 2 (within, (h, refl)))
 
--- what is known once no refusal of the entry applies
-pub record Entry (marks r : List ℕ) : Type 0 where
-  pub legal : Within 6 255 (length r)
-  pub matched : length marks ≡ length r
-  pub good : GoodMarks marks
+    pub enters-3 : length marks ≡ n → (GoodMarks marks → ⊥) → WordEntersAs n marks (record { code = 3; marked = 0 })
+    enters-3 e h = none 3 (λ z. omega (arith, z)) (stops 2 (enteringWord wordMost n (length marks) marks) 3 (within, (e, (h, refl))))
 
-pub entry-of : (marks r : List ℕ) (c : ℕ) → First (entering (length r) marks) c → c ≡ 0 → Entry marks r
-entry-of marks r c (inl a) e = absurd (omega (arith, a .1))
-entry-of marks r c (inr (w, inl a)) e = absurd (omega (arith, a .1))
-entry-of marks r c (inr (w, inr (m, inl a))) e = absurd (omega (arith, a .1))
-entry-of marks r c (inr (w, inr (m, inr (g, z)))) e = record { legal = w; matched = m; good = g }
+    pub enters : (f : ℕ) → length marks ≡ n → GoodMarks marks → f ≡ countTo (isMarked marks) (length marks)
+        → WordEntersAs n marks (record { code = 0; marked = f })
+    enters f e g c = record { first = hold-first (enteringWord wordMost n (length marks) marks) (within, (e, (g, tt))); count = λ _. c }
+
+-- a word that is entered: its rules hold
+abbrev pub Entry : List ℕ → List ℕ → Type 0
+Entry marks r = Hold (enteringWord wordMost (length r) (length marks) marks)
+
+pub entry-of : (marks r : List ℕ) (e : Entered) → WordEntersAs (length r) marks e → e .code ≡ 0 → Entry marks r
+entry-of marks r e E z = all-hold 3 (enteringWord wordMost (length r) (length marks) marks) (e .code) tt (E .first) z
 
 -- ---- repair
 
--- a refusal of the entry
-pub repair-refused : (marks r : List ℕ) (c : ℕ) → First (entering (length r) marks) c → (c ≡ 0 → ⊥) → RepairsAs marks r r (repaired.Refused c)
-repair-refused marks r c f n = record {
-  code = go f;
-  clean = λ e. absurd (n e);
-  reach = λ e. absurd (n e);
-  value = λ e. absurd (n e);
-  kept = λ _. refl;
-}
-  where
-    go : First (entering (length r) marks) c → First (repairing 255 (length r) (length marks) marks r) c
-    go (inl a) = inl a
-    go (inr (w, inl a)) = inr (w, inl a)
-    go (inr (w, inr (m, inl a))) = inr (w, inr (m, inl a))
-    go (inr (w, inr (m, inr (g, z)))) = absurd (n z)
-
-pub repair-beyond : (marks r : List ℕ) → Entry marks r → Beyond marks r → RepairsAs marks r r (repaired.Refused 6)
-repair-beyond marks r E B = record {
-  code = inr (E .legal, inr (E .matched, inr (E .good, inl ((λ R. B (R .word) (R .cells) (R .clean) (R .reach)), refl))));
-  clean = λ e. absurd (omega arith);
-  reach = λ e. absurd (omega arith);
-  value = λ e. absurd (omega arith);
+-- what is refused is kept
+pub refuses : (O : Ops) (most n m : ℕ) (marks r : List ℕ) (c : ℕ) → c ≢ 0 → First (repairing O most n m marks r) c
+    → Repairs O most n m marks r r (repaired.Refused c)
+refuses O most n m marks r c k f = record {
+  told = k;
+  code = f;
+  cells = λ z. absurd (k z);
+  clean = λ z. absurd (k z);
+  reach = λ z. absurd (k z);
+  mended = λ z. absurd (k z);
   kept = λ _. refl;
 }
 
--- six marks are beyond reach
-pub too-many : (marks r : List ℕ) (f : ℕ) → Entry marks r → f ≡ countTo (isMarked marks) (length marks) → 5 < f → Beyond marks r
-too-many marks r f E ef h w cw kw hw = omega (arith, hw .few, ef, ap (countTo (isMarked marks)) (E .matched))
-
-pub repair-mends : (marks r w : List ℕ) (e : Errata) (m : ℕ) → Entry marks r → Mends marks r e → Applied gf256 (cellsOf e) (valuesOf e) r w
-    → m ≡ countedOf marks (cellsOf e) (valuesOf e) → RepairsAs marks r w (repaired.Mended m)
-repair-mends marks r w e m E K A em = record {
-  code = inr (E .legal, inr (E .matched, inr (E .good, inr (record { word = w; cells = mended .2; clean = mended .0; reach = mended .1 }, refl))));
-  clean = λ _. mended .0;
-  reach = λ _. mended .1;
-  value = λ _. em ∙ count-is marks (cellsOf e) (valuesOf e) r w long (K .listed .below) (K .listed .distinct) A;
-  kept = λ n. absurd (n refl);
+-- rules exchanged for others that say the same
+pub repairs-alike : (O : Ops) (most most' n n' m m' : ℕ) (marks r w : List ℕ) (a : Repaired)
+    → Alike (repairing O most n m marks r) (repairing O most' n' m' marks r)
+    → Repairs O most n m marks r w a → Repairs O most' n' m' marks r w a
+repairs-alike O most most' n n' m m' marks r w a e A = record {
+  told = A .told;
+  code = first-alike (repairing O most n m marks r) (repairing O most' n' m' marks r) (repairedNumbers a .code) e (A .code);
+  cells = A .cells;
+  clean = A .clean;
+  reach = A .reach;
+  mended = A .mended;
+  kept = A .kept;
 }
-  where
-    mended : Clean gf256 w × Reach marks r w × Cells gf256 w
-    mended = K .mends w A
 
-    long : length (valuesOf e) ≡ length (cellsOf e)
-    long =
-        length-take-le (e .count) (e .values) (omega (arith, K .listed .few, K .listed .values-room))
-        ∙ sym (length-take-le (e .count) (e .cells) (omega (arith, K .listed .few, K .listed .room)))
+module _ (marks r : List ℕ) where
+  -- the rule of reach comes after those of the entry
+  abbrev last : List Rule
+  last = unless 6 (Reachable gf256 marks r) ∷ []
+
+  abbrev entry : List Rule
+  entry = enteringWord wordMost (length r) (length marks) marks
+
+  pub repair-refused : (e : Entered) → WordEntersAs (length r) marks e → e .code ≢ 0 → RepairsAs gf256 wordMost marks r r (repaired.Refused (e .code))
+  repair-refused e E k = refuses gf256 wordMost (length r) (length marks) marks r (e .code) k (before entry last (e .code) k (E .first))
+
+  pub repair-beyond : Entry marks r → Beyond marks r → RepairsAs gf256 wordMost marks r r (repaired.Refused 6)
+  repair-beyond E B =
+      refuses gf256 wordMost (length r) (length marks) marks r 6 (λ z. omega (arith, z))
+      (after entry last 6 E (stops 0 last 6 ((λ R. B (R .word) (R .cells) (R .clean) (R .reach)), refl)))
+
+  -- six marks are beyond reach
+  pub too-many : (f : ℕ) → Entry marks r → f ≡ countTo (isMarked marks) (length marks) → 5 < f → Beyond marks r
+  too-many f E ef h w cw kw hw = omega (arith, hw .few, ef, ap (countTo (isMarked marks)) (E .1 .0))
+
+  pub searchable : (f : ℕ) → Entry marks r → f ≡ countTo (isMarked marks) (length marks) → f ≤ 5 → Searchable (length r) marks f
+  searchable f E ef h = record { matched = sym (E .1 .0); short = omega (arith, E .1 .0, E .0 .to); count = ef; few = h }
+
+  pub repair-mends : (w : List ℕ) (e : Errata) (m : ℕ) → Entry marks r → Mends marks r e → Applied gf256 (cellsOf e) (valuesOf e) r w
+      → m ≡ countedOf marks (cellsOf e) (valuesOf e) → RepairsAs gf256 wordMost marks r w (repaired.Mended m)
+  repair-mends w e m E K A em = record {
+    told = tt;
+    code = after entry last 0 E (hold-first last (record { word = w; cells = mended .2; clean = mended .0; reach = mended .1 }, tt));
+    cells = λ _. mended .2;
+    clean = λ _. mended .0;
+    reach = λ _. mended .1;
+    mended = λ _. em ∙ count-is marks (cellsOf e) (valuesOf e) r w long (K .listed .below) (K .listed .distinct) A;
+    kept = λ n. absurd (n refl);
+  }
+    where
+      mended : Clean gf256 w × Reach marks r w × Cells gf256 w
+      mended = K .mends w A
+
+      long : length (valuesOf e) ≡ length (cellsOf e)
+      long =
+          length-take-le (e .count) (e .values) (omega (arith, K .listed .few, K .listed .values-room))
+          ∙ sym (length-take-le (e .count) (e .cells) (omega (arith, K .listed .few, K .listed .room)))
 
 pub searched : (b : Bool) (marks r : List ℕ) (e : Errata) → b ≡ true → SearchedAs b marks r e → Mends marks r e
 searched b marks r e q s = subst (λ (x : Bool). SearchedAs x marks r e) q s

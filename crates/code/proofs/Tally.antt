@@ -10,8 +10,8 @@ use lib.Bits.{bitOr, or-lt, or-add-and, and-le-l, and-le-r}
 use lib.Dec.{eqb}
 use lib.ListN.{length, getD}
 use Rattle.account.specs.Reach.{countTo, isMarked, oneIf, GoodMarks}
-use Rattle.code.specs.declared.repair.Marked.{Marked}
-use Rattle.code.specs.Repair.{Tallied}
+use Rattle.code.specs.declared.marks.Marked.{Marked}
+use Rattle.code.specs.Marks.{Tallied}
 
 -- the first i marks
 pub record Tallying (marks : List ℕ) (any sum i : ℕ) : Type 0 where

@@ -1,6 +1,6 @@
 -- A word written: data in front, then five check bytes.
 use mathlib.Core.Path.{_≡_, refl, sym, ap, ap₂, _∙_, subst}
-use mathlib.Core.Logic.{inl, inr}
+use mathlib.Core.Logic.{_≢_}
 use mathlib.Core.List.{List, [], _∷_, _++_, append-nil}
 use Prim.Native.Nat.{ℕ, zero, suc, _+_, _-_, _/_, _%_, _≤_, _<_}
 use native.Mathlib.Numerals.{add-one}
@@ -13,8 +13,9 @@ use Rattle.remainder.specs.Remainder.{Checks, unpacked}
 use Rattle.code.specs.declared.word.Written.the-variants as written
 use Rattle.code.specs.declared.word.Tested.{Tested}
 use Rattle.code.specs.declared.word.Tested.the-variants as tested
-use Rattle.rules.specs.Refusal.{Within}
-use Rattle.code.specs.Word.{WritesAs, TestsAs}
+use Rattle.rules.specs.Refusal.{First, Within}
+use Rattle.rules.proofs.Laws.{stops, hold-first}
+use Rattle.code.specs.Word.{wordMost, dataMost, writing, testing, WritesAs, TestsAs}
 
 -- ---- the check bytes
 
@@ -45,15 +46,18 @@ whole d w x e =
     len : length (d ++ drop (length d) w) ≡ length d + 5
     len = length-append d (drop (length d) w) ∙ ap (λ (k : ℕ). length d + k) (length-drop (length d) w) ∙ omega arith
 
+pub word-of : (d w : List ℕ) (x : ℕ) → Checks d x → w ≡ d ++ unpacked x → WordOf gf256 d w
+word-of d w x C is = record {
+  size = ap length is ∙ length-append d (unpacked x);
+  front = ap (take (length d)) is ∙ take-append-seam d (unpacked x);
+  clean = subst (Clean gf256) (sym is) (C .clean);
+}
+
 pub wrote : (d old mid new : List ℕ) (x : ℕ) → 1 ≤ length d → length d ≤ 250 → length old ≡ length d + 5 → Checks d x → mid ≡ d ++ drop (length d) old
     → new ≡ sets mid (length d) (unpacked x) → WritesAs d old new (written.Length (length d + 5))
 wrote d old mid new x l h e C em en = record {
-  code = inr (record { from = l; to = h }, inr (e, refl));
-  word = λ _. record {
-    size = ap length is ∙ length-append d (unpacked x);
-    front = ap (take (length d)) is ∙ take-append-seam d (unpacked x);
-    clean = subst (Clean gf256) (sym is) (C .clean);
-  };
+  code = hold-first (writing d old) (record { from = l; to = h }, (e, tt));
+  word = λ _. word-of d new x C is;
   value = λ _. sym (ap length is ∙ length-append d (unpacked x));
   kept = λ n. absurd (n refl);
 }
@@ -61,24 +65,33 @@ wrote d old mid new x l h e C em en = record {
     is : new ≡ d ++ unpacked x
     is = en ∙ ap (λ (m : List ℕ). sets m (length d) (unpacked x)) em ∙ whole d old x e
 
-pub refused-1 : (d old : List ℕ) → (Within 1 250 (length d) → ⊥) → WritesAs d old old (written.Refused 1)
-refused-1 d old n = record { code = inl (n, refl); word = λ e. absurd (omega arith); value = λ e. absurd (omega arith); kept = λ _. refl }
+module _ (d old : List ℕ) where
+  none : (c : ℕ) → c ≢ 0 → First (writing d old) c → WritesAs d old old (written.Refused c)
+  none c k f = record { code = f; word = λ z. absurd (k z); value = λ z. absurd (k z); kept = λ _. refl }
 
-pub refused-4 : (d old : List ℕ) → 1 ≤ length d → length d ≤ 250 → (length old ≡ length d + 5 → ⊥) → WritesAs d old old (written.Refused 4)
-refused-4 d old l h n = record {
-  code = inr (record { from = l; to = h }, inl (n, refl));
-  word = λ e. absurd (omega arith);
-  value = λ e. absurd (omega arith);
-  kept = λ _. refl;
-}
+  pub refused-1 : (Within 1 dataMost (length d) → ⊥) → WritesAs d old old (written.Refused 1)
+  refused-1 h = none 1 (λ z. omega (arith, z)) (stops 0 (writing d old) 1 (h, refl))
+
+  pub refused-4 : 1 ≤ length d → length d ≤ 250 → length old ≢ length d + 5 → WritesAs d old old (written.Refused 4)
+  refused-4 low high h = none 4 (λ z. omega (arith, z)) (stops 1 (writing d old) 4 (record { from = low; to = high }, (h, refl)))
 
 -- ---- the test
 
-pub test-refused : (w : List ℕ) → (Within 6 255 (length w) → ⊥) → TestsAs w (tested.Refused 1)
-test-refused w n = record { code = inl (n, refl); only = λ e. absurd (omega arith); always = λ e. absurd (omega arith) }
+module _ (w : List ℕ) where
+  pub test-refused : (Within 6 wordMost (length w) → ⊥) → TestsAs w (tested.Refused 1)
+  test-refused h = record {
+    told = λ z. omega (arith, z);
+    code = stops 0 (testing w) 1 (h, refl);
+    only = λ e. absurd (omega (arith, e));
+    always = λ e. absurd (omega (arith, e));
+  }
 
-pub test-clean : (w : List ℕ) → 6 ≤ length w → length w ≤ 255 → Clean gf256 w → TestsAs w tested.Clean
-test-clean w l h c = record { code = inr (record { from = l; to = h }, refl); only = λ _. c; always = λ _ _. refl }
+  module _ (low : 6 ≤ length w) (high : length w ≤ wordMost) where
+    entered : First (testing w) 0
+    entered = hold-first (testing w) (record { from = low; to = high }, tt)
 
-pub test-damaged : (w : List ℕ) → 6 ≤ length w → length w ≤ 255 → (Clean gf256 w → ⊥) → TestsAs w tested.Damaged
-test-damaged w l h n = record { code = inr (record { from = l; to = h }, refl); only = λ e. absurd (omega arith); always = λ _ c. absurd (n c) }
+    pub test-clean : Clean gf256 w → TestsAs w tested.Clean
+    test-clean c = record { told = tt; code = entered; only = λ _. c; always = λ _ _. refl }
+
+    pub test-damaged : (Clean gf256 w → ⊥) → TestsAs w tested.Damaged
+    test-damaged n = record { told = tt; code = entered; only = λ e. absurd (omega (arith, e)); always = λ _ c. absurd (n c) }

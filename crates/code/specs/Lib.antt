@@ -1,4 +1,6 @@
 pub mod Word
+pub mod Marks
 pub mod Repair
 pub mod Lane
+pub mod Lanes
 pub mod Cells

@@ -1,52 +1,69 @@
 -- Repair of a word.
 use mathlib.Core.Path.{_≡_}
+use mathlib.Core.Logic.{_≢_}
 use mathlib.Core.Bool.{not}
-use mathlib.Core.List.{List, [], _∷_}
+use mathlib.Core.List.{List, [], _∷_, _++_}
 use Prim.Native.Nat.{ℕ, _+_, _≤_, _<_}
 use lib.Dec.{eqb}
-use lib.ListN.{length, getD}
+use lib.ListN.{length}
+use Rattle.account.specs.Field.{Ops}
 use Rattle.account.specs.Code.{Cells, Clean}
 use Rattle.account.specs.Reach.{countTo, isMarked, oneIf, and, differing, Reach, GoodMarks, Reachable}
-use Rattle.gf256.specs.Gf256.{gf256}
-use Rattle.rules.specs.Refusal.{Rule, unless, First, Numbers, done, refused, Within}
+use Rattle.rules.specs.Refusal.{Rule, unless, First, Within}
+use Rattle.code.specs.Word.{wordMost}
 use Rattle.code.specs.declared.repair.Repaired.{Repaired}
 use Rattle.code.specs.declared.repair.Repaired.the-variants as repaired
-use Rattle.code.specs.declared.repair.Marked.{Marked}
 use Rattle.code.specs.declared.repair.Entered.{Entered}
 
--- mended is returned
-abbrev pub repairedNumbers : Repaired → Numbers
-repairedNumbers (repaired.Mended e) = done e
-repairedNumbers (repaired.Refused c) = refused c
+-- the numbers of an answer: its refusal, 0 for none, and how many unmarked cells were mended, 0 with a refusal
+pub record RepairNumbers : Type 0 where
+  pub code : ℕ
+  pub mended : ℕ
 
--- r has n bytes and m marks. 1: "word not 6–255" (most is 255; 96 for a lane); 2: "marks differ in length"; 3: "a mark above 1";
--- 6: "no clean word within reach"
-abbrev pub repairing : ℕ → ℕ → ℕ → List ℕ → List ℕ → List Rule
-repairing most n m marks r = unless 1 (Within 6 most n) ∷ unless 2 (m ≡ n) ∷ unless 3 (GoodMarks marks) ∷ unless 6 (Reachable gf256 marks r) ∷ []
+abbrev pub repairedNumbers : Repaired → RepairNumbers
+repairedNumbers (repaired.Mended e) = record { code = 0; mended = e }
+repairedNumbers (repaired.Refused c) = record { code = c; mended = 0 }
 
--- "If one is, the word becomes it and e is returned as mended. Otherwise refusal 6."
-pub record RepairsAs (marks old new : List ℕ) (a : Repaired) : Type 0 where
-  pub code : First (repairing 255 (length old) (length marks) marks old) (repairedNumbers a .code)
-  pub clean : repairedNumbers a .code ≡ 0 → Clean gf256 new
+-- a refusal has a number
+abbrev pub RepairTold : Repaired → Type 0
+RepairTold (repaired.Mended e) = Unit {0}
+RepairTold (repaired.Refused c) = c ≢ 0
+
+-- A word of n bytes with m marks is entered. 1: its length is not legal, 6 to the most; 2: the marks differ from it in length; 3: a mark is above 1.
+abbrev pub enteringWord : ℕ → ℕ → ℕ → List ℕ → List Rule
+enteringWord most n m marks = unless 1 (Within 6 most n) ∷ unless 2 (m ≡ n) ∷ unless 3 (GoodMarks marks) ∷ []
+
+-- and repaired. 6: no clean word is within reach.
+abbrev pub repairing : Ops → ℕ → ℕ → ℕ → List ℕ → List ℕ → List Rule
+repairing O most n m marks r = enteringWord most n m marks ++ unless 6 (Reachable O marks r) ∷ []
+
+-- The word `old`, said to have n bytes and m marks, becomes `new`, the clean word within reach, and what differs is told. With a refusal it is kept.
+pub record Repairs (O : Ops) (most n m : ℕ) (marks old new : List ℕ) (a : Repaired) : Type 0 where
+  pub told : RepairTold a
+  pub code : First (repairing O most n m marks old) (repairedNumbers a .code)
+  pub cells : repairedNumbers a .code ≡ 0 → Cells O new
+  pub clean : repairedNumbers a .code ≡ 0 → Clean O new
   pub reach : repairedNumbers a .code ≡ 0 → Reach marks old new
-  pub value : repairedNumbers a .code ≡ 0 → repairedNumbers a .value ≡ differing marks old new
-  pub kept : (repairedNumbers a .code ≡ 0 → ⊥) → new ≡ old
+  pub mended : repairedNumbers a .code ≡ 0 → repairedNumbers a .mended ≡ differing marks old new
+  pub kept : repairedNumbers a .code ≢ 0 → new ≡ old
+
+-- the repair of a word of at most so many bytes, in place
+abbrev pub RepairsAs : Ops → ℕ → List ℕ → List ℕ → List ℕ → Repaired → Type 0
+RepairsAs O most marks old new a = Repairs O most (length old) (length marks) marks old new a
 
 -- ---- parts
 
--- or-ed together the marks are at most 1 just where each is, and then their sum counts the marked cells
-pub record Tallied (marks : List ℕ) (t : Marked) : Type 0 where
-  pub good : t .any ≤ 1 → GoodMarks marks
-  pub bad : (t .any ≤ 1 → ⊥) → GoodMarks marks → ⊥
-  pub count : t .any ≤ 1 → t .sum ≡ countTo (isMarked marks) (length marks)
-
--- refusals 1 to 3 of a word of n
-abbrev pub entering : ℕ → List ℕ → List Rule
-entering n marks = unless 1 (Within 6 255 n) ∷ unless 2 (length marks ≡ n) ∷ unless 3 (GoodMarks marks) ∷ []
-
-pub record EntersAs (n : ℕ) (marks : List ℕ) (e : Entered) : Type 0 where
-  pub first : First (entering n marks) (e .code)
+-- refusals 1 to 3 of a word of n, and how many of its cells are marked
+pub record WordEntersAs (n : ℕ) (marks : List ℕ) (e : Entered) : Type 0 where
+  pub first : First (enteringWord wordMost n (length marks) marks) (e .code)
   pub count : e .code ≡ 0 → e .marked ≡ countTo (isMarked marks) (length marks)
+
+-- what the search goes on with: a word of n with its marks, f of them set
+pub record Searchable (n : ℕ) (marks : List ℕ) (f : ℕ) : Type 0 where
+  pub matched : n ≡ length marks
+  pub short : length marks ≤ wordMost
+  pub count : f ≡ countTo (isMarked marks) (length marks)
+  pub few : f ≤ 5
 
 -- how many of the errata are at an unmarked cell and change it
 abbrev pub countedOf : List ℕ → List ℕ → List ℕ → ℕ

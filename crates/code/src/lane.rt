@@ -1,10 +1,13 @@
-// A lane of a strip by value: at most 96 bytes with their length.
+// A lane of a strip by value: one record of the program, so that no buffer is lent.
 ghost use Rattle.code.specs.Lane.{LaneRepairsAs};
 use super::repair::Repaired;
 
-// "A lane of at most 96 bytes travels with its length as one record of the program."
+// How many bytes a lane has at most.
+pub const LANE_MOST: usize = 96;
+
+// A lane, or its marks, with its length.
 pub struct Lane {
-    pub bytes: [u8; 96],
+    pub bytes: [u8; LANE_MOST],
     pub len: usize,
 }
 
@@ -19,7 +22,7 @@ pub fn repair_lane(lane: Lane, marks: Lane) -> LaneRepair
     ensures { λ r. ⌜ LaneRepairsAs lane marks r ⌝ }
 {
     let n = lane.len;
-    if 96 < n {
+    if LANE_MOST < n {
         return LaneRepair {
             lane,
             answer: Repaired::Refused(1),

@@ -11,7 +11,9 @@ ghost use Rattle.account.proofs.Decode.{Applied};
 ghost use Rattle.gf256.specs.Gf256.{gf256};
 ghost use Rattle.remainder.specs.Remainder.{Remains};
 ghost use Rattle.errata.specs.Errata.{cellsOf, valuesOf, ErrataFor, SearchedAs};
-ghost use Rattle.code.specs.Repair.{Tallied, EntersAs, countedOf, RepairsAs};
+ghost use Rattle.code.specs.Word.{wordMost};
+ghost use Rattle.code.specs.Repair.{WordEntersAs, Searchable, countedOf, RepairsAs};
+use super::word::WORD_MOST;
 
 // What repairing a word answers: how many unmarked cells were mended, or a refusal's number.
 pub enum Repaired {
@@ -19,47 +21,25 @@ pub enum Repaired {
     Refused(u8),
 }
 
-// All marks or-ed together, and their sum.
-pub struct Marked {
-    pub any: u8,
-    pub sum: usize,
-}
-
-// One pass with no branch, so that it can run wide. The bound, more than a strip has, keeps the sum from overflowing.
-pub fn tally(marks: &[u8]) -> Marked
-    requires { ⌜ length (now marks) ≤ 4096 ⌝ }
-    ensures { λ r. ⌜ Tallied (now (marks .entry)) r ⌝ }
-{
-    let mut any: u8 = 0;
-    let mut sum: usize = 0;
-    let mut i = 0;
-    while i < marks.len() {
-        any = any | marks[i];
-        sum += marks[i] as usize;
-        i += 1;
-    }
-    Marked { any, sum }
-}
-
 // Refusals 1 to 3, and how many cells are marked.
-pub struct Entered {
-    pub code: u8,
-    pub marked: usize,
+struct Entered {
+    code: u8,
+    marked: usize,
 }
 
 fn enter(n: usize, marks: &[u8]) -> Entered
-    ensures { λ r. ⌜ EntersAs n (now (marks .entry)) r ⌝ }
+    ensures { λ r. ⌜ WordEntersAs n (now (marks .entry)) r ⌝ }
 {
     if n < 6 {
         return Entered { code: 1, marked: 0 };
     }
-    if 255 < n {
+    if WORD_MOST < n {
         return Entered { code: 1, marked: 0 };
     }
     if marks.len() != n {
         return Entered { code: 2, marked: 0 };
     }
-    let t = tally(marks);
+    let t = super::marks::tally(marks);
     let any = t.any;
     if 1 < any {
         return Entered { code: 3, marked: 0 };
@@ -81,8 +61,8 @@ fn errata_of(r: u64, marks: &[u8], f: usize) -> errata::Found
 }
 
 // The errata of a word of which f cells are marked. A clean word costs no more than its test.
-pub fn search(word: &[u8], marks: &[u8], f: usize) -> errata::Found
-    requires { ⌜ (length (now word) ≡ length (now marks)) × (length (now marks) ≤ 255) × (f ≡ countTo (isMarked (now marks)) (length (now marks))) × (f ≤ 5) ⌝ }
+fn search(word: &[u8], marks: &[u8], f: usize) -> errata::Found
+    requires { ⌜ Searchable (length (now word)) (now marks) f ⌝ }
     ensures { λ x. ⌜ SearchedAs (x .good) (now (marks .entry)) (now (word .entry)) (x .errata) ⌝ }
 {
     let r = remainder::remainder_of(word);
@@ -114,7 +94,7 @@ fn changes(marks: &[u8], p: usize, v: u8) -> usize
 }
 
 // How many unmarked cells the errata change.
-pub fn count(e: errata::Errata, marks: &[u8]) -> usize
+fn count(e: errata::Errata, marks: &[u8]) -> usize
     requires { ⌜ ErrataFor (length (now marks)) e ⌝ }
     ensures { λ r. ⌜ r ≡ countedOf (now (marks .entry)) (cellsOf e) (valuesOf e) ⌝ }
 {
@@ -130,7 +110,7 @@ pub fn count(e: errata::Errata, marks: &[u8]) -> usize
 }
 
 // The errata, added to the word.
-pub fn apply(e: errata::Errata, word: &mut [u8])
+fn apply(e: errata::Errata, word: &mut [u8])
     requires { ⌜ ErrataFor (length (now word)) e ⌝ }
     ensures { λ _. ⌜ Applied gf256 (cellsOf e) (valuesOf e) (now (word .entry)) (now (word .exit)) ⌝ }
 {
@@ -146,7 +126,7 @@ pub fn apply(e: errata::Errata, word: &mut [u8])
 
 // The word becomes the clean word within reach, if there is one.
 pub fn repair(word: &mut [u8], marks: &[u8]) -> Repaired
-    ensures { λ r. ⌜ RepairsAs (now (marks .entry)) (now (word .entry)) (now (word .exit)) r ⌝ }
+    ensures { λ r. ⌜ RepairsAs gf256 wordMost (now (marks .entry)) (now (word .entry)) (now (word .exit)) r ⌝ }
 {
     let entered = enter(word.len(), marks);
     let code = entered.code;

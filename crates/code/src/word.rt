@@ -9,6 +9,12 @@ ghost use Rattle.gf256.specs.Gf256.{gf256};
 ghost use Rattle.remainder.specs.Remainder.{unpacked};
 ghost use Rattle.code.specs.Word.{WritesAs, TestsAs};
 
+// How many bytes a word has at most.
+pub const WORD_MOST: usize = 255;
+
+// How many data bytes.
+const DATA_MOST: usize = 250;
+
 // What writing a word answers: the length written, or a refusal's number.
 pub enum Written {
     Length(usize),
@@ -42,7 +48,7 @@ pub fn write(data: &[u8], word: &mut [u8]) -> Written
     if m < 1 {
         return Written::Refused(1);
     }
-    if 250 < m {
+    if DATA_MOST < m {
         return Written::Refused(1);
     }
     if word.len() != m + 5 {
@@ -62,7 +68,7 @@ pub fn test(word: &[u8]) -> Tested
     if n < 6 {
         return Tested::Refused(1);
     }
-    if 255 < n {
+    if WORD_MOST < n {
         return Tested::Refused(1);
     }
     if remainder::remainder_of(word) == 0 {

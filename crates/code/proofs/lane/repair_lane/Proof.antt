@@ -3,9 +3,11 @@ use mathlib.Core.List.{List, _++_}
 use Prim.Native.Nat.{ℕ, _-_}
 use native.Mathlib.Omega.{arith}
 use lib.ListN.{length, take, drop}
+use Rattle.gf256.specs.Gf256.{gf256}
+use Rattle.code.specs.Word.{wordMost}
 use Rattle.code.specs.Lane.{LaneRepairsAs}
 use Rattle.code.specs.Repair.{RepairsAs}
-use Rattle.code.proofs.Lanes.{lane-1, lane-2, lane-repaired}
+use Rattle.code.proofs.LaneRepairs.{lane-1, lane-2, lane-repaired}
 use borrow.Author.Needs.{needs}
 use Rattle.code.proofs.lane.repair_lane.Statement.{statement}
 use Rattle.code.proofs.lane.repair_lane.Tie as tie
@@ -17,7 +19,9 @@ returns-2 : tie.Need-returns-2
 returns-2 c = lane-1 (c .before .before .args .lane) (c .before .before .args .marks) (λ w. omega (arith, w .from, c .if2 .taken))
 
 returns-3 : tie.Need-returns-3
-returns-3 c = lane-2 (c .before .before .before .before .args .lane) (c .before .before .before .before .args .marks) (search needs) (search needs) (c .if3 .taken)
+returns-3 c =
+    let a = c .before .before .before .before .args in
+    lane-2 (a .lane) (a .marks) (search needs) (search needs) (c .if3 .taken)
 
 sub-repair : tie.Need-sub-repair
 sub-repair c = search needs
@@ -49,9 +53,12 @@ returns-4 c =
     let a = c .before .before .before .before .before .before .before .before .before .before .before .args in
     let r = c .before .repair in
     let e : a .lane .len - 0 ≡ a .lane .len = omega arith in
-    subst (λ (k : ℕ). LaneRepairsAs (a .lane) (a .marks) (record { lane = record { bytes = r .last .0 ++ drop k (a .lane .bytes); len = a .lane .len }; answer = r .result })) (sym e)
-    (lane-repaired (a .lane) (a .marks) (r .last .0) (r .result) (search needs) (search needs) (c .before .before .before .before .before .before .before .if3 .left) (search needs) (search needs)
-    (subst (λ (k : ℕ). RepairsAs (take k (a .marks .bytes)) (take k (a .lane .bytes)) (r .last .0) (r .result)) e (r .ensures)))
+    let m = c .before .before .before .before .before .before .before .if3 .left in
+    subst
+    (λ (k : ℕ). LaneRepairsAs (a .lane) (a .marks) (record { lane = record { bytes = r .last .0 ++ drop k (a .lane .bytes); len = a .lane .len }; answer = r .result }))
+    (sym e)
+    (lane-repaired (a .lane) (a .marks) (search needs) (search needs) (r .last .0) (r .result) m (search needs) (search needs)
+    (subst (λ (k : ℕ). RepairsAs gf256 wordMost (take k (a .marks .bytes)) (take k (a .lane .bytes)) (r .last .0) (r .result)) e (r .ensures)))
 
 pub repair-lane-spec : {M : Type 1} → statement M
 repair-lane-spec =

@@ -34,7 +34,7 @@ slice-read-word : tie.Need-slice-read-word Inv-loop μ-loop
 slice-read-word c =
     let s = c .before .before .before .before .before in
     let L = c .before .before .loop in
-    omega (arith, L .inv .1 .same-length, erratum-below (length (s .args .word .now)) (s .args .e .count) (s .args .e .cells) (s .pre .few) (s .pre .room) (s .pre .below) (L .i - 1) (omega arith))
+    omega (arith, L .inv .1 .same-length, erratum-below (length (s .args .word .now)) (s .args .e) (s .pre) (L .i - 1) (omega arith))
 
 array-read-word : tie.Need-array-read-word Inv-loop μ-loop
 array-read-word c = omega (arith, c .before .before .before .before .before .pre .few)
@@ -43,7 +43,7 @@ slice-write-word : tie.Need-slice-write-word Inv-loop μ-loop
 slice-write-word c =
     let s = c .before .before .before .before .before in
     let L = c .before .before .loop in
-    omega (arith, L .inv .1 .same-length, erratum-below (length (s .args .word .now)) (s .args .e .count) (s .args .e .cells) (s .pre .few) (s .pre .room) (s .pre .below) (L .i - 1) (omega arith))
+    omega (arith, L .inv .1 .same-length, erratum-below (length (s .args .word .now)) (s .args .e) (s .pre) (L .i - 1) (omega arith))
 
 loop-less : tie.Need-loop-less Inv-loop μ-loop
 loop-less c = search needs
@@ -53,8 +53,9 @@ loop-again c =
     let s = c .before .before .before .before .before in
     let L = c .before .before .loop in (
       omega arith,
-      apply-goes (s .args .e .cells) (s .args .e .values) (s .args .word .now) (L .word) (s .args .e .count) (L .i) (search needs) (L .inv .0) (omega (arith, s .pre .few, s .pre .room)) (omega (arith, s .pre .few, s .pre .values-room))
-          (erratum-below (length (s .args .word .now)) (s .args .e .count) (s .args .e .cells) (s .pre .few) (s .pre .room) (s .pre .below) (L .i - 1) (omega arith)) (L .inv .1),
+      apply-goes (s .args .e .cells) (s .args .e .values) (s .args .word .now) (L .word) (s .args .e .count) (L .i) (search needs) (L .inv .0)
+          (omega (arith, s .pre .few, s .pre .room)) (omega (arith, s .pre .few, s .pre .values-room))
+          (erratum-below (length (s .args .word .now)) (s .args .e) (s .pre) (L .i - 1) (omega arith)) (L .inv .1),
     )
 
 same-length : tie.Need-same-length Inv-loop μ-loop
@@ -64,8 +65,9 @@ returns : tie.Need-returns Inv-loop μ-loop
 returns c =
     let s = c .before .before .before .before in
     let L = c .before .loop in
-    let e : L .i ≡ 0 = omega arith in
-    subst (λ (j : ℕ). Applied gf256 (slice j (s .args .e .count) (s .args .e .cells)) (slice j (s .args .e .count) (s .args .e .values)) (s .args .word .now) (L .word)) e (L .inv .1)
+    let e = s .args .e in
+    let z : L .i ≡ 0 = omega arith in
+    subst (λ (j : ℕ). Applied gf256 (slice j (e .count) (e .cells)) (slice j (e .count) (e .values)) (s .args .word .now) (L .word)) z (L .inv .1)
 
 pub apply-spec : {M : Type 1} → statement M
 apply-spec =

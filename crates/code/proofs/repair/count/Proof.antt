@@ -1,15 +1,11 @@
 use mathlib.Core.Path.{_≡_, sym, ap, _∙_, subst}
-use mathlib.Core.Bool.{not}
 use Prim.Native.Nat.{ℕ, _+_, _-_, _≤_, _<_}
 use native.Mathlib.Omega.{arith}
 use borrow.Author.Needs.{needs}
-use lib.Dec.{eqb}
 use lib.ListN.{length, getD}
 use lib.Seq.{slice}
-use Rattle.account.specs.Reach.{isMarked, oneIf, and}
-use Rattle.account.proofs.Cells.{one-most}
 use Rattle.code.specs.Repair.{countedOf}
-use Rattle.code.proofs.Applying.{count-starts, count-goes, erratum-below}
+use Rattle.code.proofs.Applying.{count-starts, count-goes, counts-one, erratum-below}
 use Rattle.code.proofs.repair.count.Statement.{statement}
 use Rattle.code.proofs.repair.count.Tie as tie
 
@@ -40,13 +36,13 @@ changes-requires : tie.Need-changes-requires Inv-loop μ-loop
 changes-requires c κs =
     let s = c .before .before .before .before .before in
     let L = c .before .loop in
-    erratum-below (length (s .args .marks .now)) (s .args .e .count) (s .args .e .cells) (s .pre .few) (s .pre .room) (s .pre .below) (L .i - 1) (omega arith)
+    erratum-below (length (s .args .marks .now)) (s .args .e) (s .pre) (L .i - 1) (omega arith)
 
 add-c : tie.Need-add-c Inv-loop μ-loop
 add-c c =
     let s = c .before .before .before .before .before .before in
-    let L = c .before .before .loop in
-    omega (arith, s .pre .few, c .changes .ensures, one-most (and (not (isMarked (s .args .marks .now) (getD (s .args .e .cells) (L .i - 1) 0))) (not (eqb (getD (s .args .e .values) (L .i - 1) 0) 0))))
+    let i = c .before .before .loop .i - 1 in
+    omega (arith, s .pre .few, counts-one (s .args .marks .now) (getD (s .args .e .cells) i 0) (getD (s .args .e .values) i 0) (c .changes .result) (c .changes .ensures))
 
 loop-less : tie.Need-loop-less Inv-loop μ-loop
 loop-less c = search needs
@@ -54,19 +50,21 @@ loop-less c = search needs
 loop-again : tie.Need-loop-again Inv-loop μ-loop
 loop-again c =
     let s = c .before .before .before .before .before .before in
+    let e = s .args .e in
     let L = c .before .before .loop in (
       omega arith,
-      omega (arith, c .changes .ensures, one-most (and (not (isMarked (s .args .marks .now) (getD (s .args .e .cells) (L .i - 1) 0))) (not (eqb (getD (s .args .e .values) (L .i - 1) 0) 0)))),
-      count-goes (s .args .marks .now) (s .args .e .cells) (s .args .e .values) (s .args .e .count) (L .i) (L .c) (c .changes .result) (search needs) (L .inv .0) (omega (arith, s .pre .few, s .pre .room)) (omega (arith, s .pre .few, s .pre .values-room))
-          (L .inv .2) (c .changes .ensures),
+      omega (arith, counts-one (s .args .marks .now) (getD (e .cells) (L .i - 1) 0) (getD (e .values) (L .i - 1) 0) (c .changes .result) (c .changes .ensures)),
+      count-goes (s .args .marks .now) (e .cells) (e .values) (e .count) (L .i) (L .c) (c .changes .result) (search needs) (L .inv .0)
+          (omega (arith, s .pre .few, s .pre .room)) (omega (arith, s .pre .few, s .pre .values-room)) (L .inv .2) (c .changes .ensures),
     )
 
 returns : tie.Need-returns Inv-loop μ-loop
 returns c =
     let s = c .before .before .before .before .before in
+    let e = s .args .e in
     let L = c .before .loop in
-    let e : L .i ≡ 0 = omega arith in
-    subst (λ (j : ℕ). L .c ≡ countedOf (s .args .marks .now) (slice j (s .args .e .count) (s .args .e .cells)) (slice j (s .args .e .count) (s .args .e .values))) e (L .inv .2)
+    let z : L .i ≡ 0 = omega arith in
+    subst (λ (j : ℕ). L .c ≡ countedOf (s .args .marks .now) (slice j (e .count) (e .cells)) (slice j (e .count) (e .values))) z (L .inv .2)
 
 pub count-spec : {M : Type 1} → statement M
 count-spec =

@@ -11,16 +11,24 @@ returns-2 : tie.Need-returns-2
 returns-2 c = enters-1 (c .before .before .before .args .n) (c .before .before .before .args .marks .now) (λ w. omega (arith, w .to, c .if2 .taken))
 
 returns-3 : tie.Need-returns-3
-returns-3 c = enters-2 (c .before .before .before .before .args .n) (c .before .before .before .before .args .marks .now) (search needs) (search needs) (c .if3 .taken)
+returns-3 c =
+    let a = c .before .before .before .before .args in
+    enters-2 (a .n) (a .marks .now) (search needs) (search needs) (c .if3 .taken)
 
 tally-requires : tie.Need-tally-requires
 tally-requires c κs = search needs
 
 returns-4 : tie.Need-returns-4
-returns-4 c = enters-3 (c .before .before .before .before .before .before .args .n) (c .before .before .before .before .before .before .args .marks .now) (search needs) (search needs) (c .before .before .if3 .left) (c .before .tally .ensures .bad (λ h. omega (arith, c .if4 .taken)))
+returns-4 c =
+    let a = c .before .before .before .before .before .before .args in
+    enters-3 (a .n) (a .marks .now) (search needs) (search needs) (c .before .before .if3 .left) (c .before .tally .ensures .bad (λ h. omega (arith, c .if4 .taken)))
 
 returns-5 : tie.Need-returns-5
-returns-5 c = enters (c .before .before .before .before .before .before .args .n) (c .before .before .before .before .before .before .args .marks .now) (c .before .tally .result .sum) (search needs) (search needs) (c .before .before .if3 .left) (c .before .tally .ensures .good (search needs)) (c .before .tally .ensures .count (search needs))
+returns-5 c =
+    let a = c .before .before .before .before .before .before .args in
+    let t = c .before .tally in
+    enters (a .n) (a .marks .now) (search needs) (search needs) (t .result .sum) (c .before .before .if3 .left) (t .ensures .good (search needs))
+    (t .ensures .count (search needs))
 
 pub enter-spec : {M : Type 1} → statement M
 enter-spec = tie.close (tie.spec returns returns-2 returns-3 tally-requires returns-4 returns-5)

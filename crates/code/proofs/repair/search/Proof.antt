@@ -12,7 +12,8 @@ returns : tie.Need-returns
 returns c =
     let s = c .before .before .before .before in
     let w = s .args .word .now in
-    as-is (s .args .marks .now) w (s .args .f) _ _ (s .pre .0) (s .pre .2) (s .pre .3) (record { cell = λ j l. omega (arith, c .before .before .before .shared-slice-known .given j) })
+    as-is (s .args .marks .now) w (s .args .f) _ _ (s .pre .matched) (s .pre .count) (s .pre .few)
+    (record { cell = λ j l. omega (arith, c .before .before .before .shared-slice-known .given j) })
     (none-is-clean w (c .before .remainder-of .result) (c .before .remainder-of .ensures) (c .if1 .taken)) (search needs) (search needs)
 
 errata-of-requires : tie.Need-errata-of-requires
@@ -21,7 +22,8 @@ errata-of-requires c κs = search needs
 returns-2 : tie.Need-returns-2
 returns-2 c =
     let s = c .before .before .before .before .before in
-    c .errata-of .ensures (s .args .word .now) (s .pre .0) (record { cell = λ j l. omega (arith, c .before .before .before .before .shared-slice-known .given j) }) (c .before .before .remainder-of .ensures)
+    c .errata-of .ensures (s .args .word .now) (s .pre .matched)
+    (record { cell = λ j l. omega (arith, c .before .before .before .before .shared-slice-known .given j) }) (c .before .before .remainder-of .ensures)
 
 pub search-spec : {M : Type 1} → statement M
 search-spec = tie.close (tie.spec remainder-of-requires returns errata-of-requires returns-2)

@@ -53,8 +53,12 @@ same-length c = search needs
 returns : tie.Need-returns
 returns c =
     let a = c .before .before .before .before .before .before .args in
-    stored (a .word .now) (a .k) (a .x) (c .before .before .before .before .low .result) (c .before .before .before .low2 .result) (c .before .before .low3 .result) (c .before .low4 .result) (c .low5 .result)
-    (c .before .before .before .before .low .ensures) (c .before .before .before .low2 .ensures) (c .before .before .low3 .ensures) (c .before .low4 .ensures) (c .low5 .ensures)
+    let b1 = c .before .before .before .before .low in
+    let b2 = c .before .before .before .low2 in
+    let b3 = c .before .before .low3 in
+    let b4 = c .before .low4 in
+    let b5 = c .low5 in
+    stored (a .word .now) (a .k) (a .x) (b1 .result) (b2 .result) (b3 .result) (b4 .result) (b5 .result) (b1 .ensures) (b2 .ensures) (b3 .ensures) (b4 .ensures) (b5 .ensures)
 
 pub put-checks-spec : {M : Type 1} → statement M
 put-checks-spec =

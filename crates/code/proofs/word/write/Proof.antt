@@ -5,16 +5,22 @@ use Rattle.code.proofs.word.write.Statement.{statement}
 use Rattle.code.proofs.word.write.Tie as tie
 
 returns : tie.Need-returns
-returns c = refused-1 (c .before .before .before .args .«data» .now) (c .before .before .before .args .word .now) (λ w. omega (arith, w .from, c .if1 .taken))
+returns c =
+    let a = c .before .before .before .args in
+    refused-1 (a .«data» .now) (a .word .now) (λ w. omega (arith, w .from, c .if1 .taken))
 
 returns-2 : tie.Need-returns-2
-returns-2 c = refused-1 (c .before .before .before .before .args .«data» .now) (c .before .before .before .before .args .word .now) (λ w. omega (arith, w .to, c .if2 .taken))
+returns-2 c =
+    let a = c .before .before .before .before .args in
+    refused-1 (a .«data» .now) (a .word .now) (λ w. omega (arith, w .to, c .if2 .taken))
 
 add-if3 : tie.Need-add-if3
 add-if3 c = search needs
 
 returns-3 : tie.Need-returns-3
-returns-3 c = refused-4 (c .before .before .before .before .before .args .«data» .now) (c .before .before .before .before .before .args .word .now) (search needs) (search needs) (c .if3 .taken)
+returns-3 c =
+    let a = c .before .before .before .before .before .args in
+    refused-4 (a .«data» .now) (a .word .now) (search needs) (search needs) (c .if3 .taken)
 
 checks-of-requires : tie.Need-checks-of-requires
 checks-of-requires c κs = search needs
@@ -33,9 +39,12 @@ same-length c = search needs
 
 returns-4 : tie.Need-returns-4
 returns-4 c =
-    let s = c .before .before .before .before .before .before .before .before .before .before .before .before .before .before in
-    wrote (s .args .«data» .now) (s .args .word .now) (c .before .before .before .before .before .before .copy .last .1 .0) (c .before .before .put-checks .last .0) (c .before .before .before .before .before .before .before .before .checks-of .result) (search needs) (search needs) (c .before .before .before .before .before .before .before .before .before .if3 .left) (c .before .before .before .before .before .before .before .before .checks-of .ensures)
-    (c .before .before .before .before .before .before .copy .ensures) (c .before .before .put-checks .ensures)
+    let a = c .before .before .before .before .before .before .before .before .before .before .before .before .before .before .args in
+    let q = c .before .before .before .before .before .before .before .before .checks-of in
+    let room = c .before .before .before .before .before .before .before .before .before .if3 .left in
+    let copied = c .before .before .before .before .before .before .copy in
+    let put = c .before .before .put-checks in
+    wrote (a .«data» .now) (a .word .now) (copied .last .1 .0) (put .last .0) (q .result) (search needs) (search needs) room (q .ensures) (copied .ensures) (put .ensures)
 
 pub write-spec : {M : Type 1} → statement M
 write-spec =

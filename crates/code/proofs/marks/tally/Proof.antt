@@ -3,8 +3,8 @@ use native.Mathlib.Omega.{arith}
 use borrow.Author.Needs.{needs}
 use lib.ListN.{length}
 use Rattle.code.proofs.Tally.{Tallying, tally-starts, tally-goes, tally-ends}
-use Rattle.code.proofs.repair.tally.Statement.{statement}
-use Rattle.code.proofs.repair.tally.Tie as tie
+use Rattle.code.proofs.marks.tally.Statement.{statement}
+use Rattle.code.proofs.marks.tally.Tie as tie
 
 abbrev Inv-loop : tie.InvT-loop
 Inv-loop marks any₀ sum₀ i₀ any sum i = Tallying marks any sum i
@@ -25,7 +25,9 @@ cast-sum : tie.Need-cast-sum Inv-loop μ-loop
 cast-sum c = omega (arith, c .shared-slice-known2 .given (c .before .before .before .loop .i))
 
 add-sum : tie.Need-add-sum Inv-loop μ-loop
-add-sum c = omega (arith, c .shared-slice-known2 .given (c .before .before .before .loop .i), c .before .before .before .loop .inv .small, c .before .before .before .before .pre)
+add-sum c =
+    let L = c .before .before .before .loop in
+    omega (arith, c .shared-slice-known2 .given (L .i), L .inv .small, c .before .before .before .before .pre)
 
 add-i : tie.Need-add-i Inv-loop μ-loop
 add-i c = search needs
@@ -36,7 +38,8 @@ loop-less c = search needs
 loop-again : tie.Need-loop-again Inv-loop μ-loop
 loop-again c =
     let L = c .before .before .before .loop in
-    tally-goes (c .before .before .before .before .args .marks .now) (L .any) (L .sum) (L .i) (search needs) (omega (arith, c .shared-slice-known2 .given (L .i))) (L .inv)
+    tally-goes (c .before .before .before .before .args .marks .now) (L .any) (L .sum) (L .i) (search needs)
+    (omega (arith, c .shared-slice-known2 .given (L .i))) (L .inv)
 
 returns : tie.Need-returns Inv-loop μ-loop
 returns c =

@@ -1,0 +1,124 @@
+-- What an answer's promise fixes: its numbers, and the word where none is refused.
+use mathlib.Core.Path.{_≡_, refl, sym, ap, ap₂, _∙_, subst}
+use mathlib.Core.Logic.{_≢_, _⊎_, inl, inr}
+use mathlib.Core.List.{List, [], _∷_, _++_}
+use Prim.Native.Nat.{ℕ, _≤_}
+use lib.ListN.{length, take, drop, take-append-drop}
+use Rattle.account.specs.Reach.{differing, Reach, SameRead, Reachable}
+use Rattle.account.proofs.Theorems as theorems
+use Rattle.gf256.specs.Gf256.{gf256}
+use Rattle.gf256.proofs.Field256.{field256}
+use Rattle.rules.proofs.Laws.{first-fixes, first-alike, all-hold, either, Alike}
+use Rattle.code.specs.declared.word.Written.{Written}
+use Rattle.code.specs.declared.word.Written.the-variants as written
+use Rattle.code.specs.declared.word.Tested.{Tested}
+use Rattle.code.specs.declared.word.Tested.the-variants as tested
+use Rattle.code.specs.declared.repair.Repaired.{Repaired}
+use Rattle.code.specs.declared.repair.Repaired.the-variants as repaired
+use Rattle.code.specs.declared.lane.Lane.{Lane}
+use Rattle.code.specs.declared.lane.LaneRepair.{LaneRepair}
+use Rattle.code.specs.Word.{wordMost, writtenNumbers, testedNumbers}
+use Rattle.code.specs.Repair.{RepairNumbers, repairedNumbers, repairing, Repairs}
+use Rattle.code.specs.Lane.{wordOf, LaneRepairsAs}
+
+-- ---- writing and testing
+
+-- nothing is returned with a refusal
+pub written-zero : (a : Written) → writtenNumbers a .code ≢ 0 → writtenNumbers a .value ≡ 0
+written-zero (written.Length n) h = absurd (h refl)
+written-zero (written.Refused c) h = refl
+
+-- a test answers 1 with no refusal, or 0
+pub tested-bit : (a : Tested) → (testedNumbers a .value ≡ 0) ⊎ ((testedNumbers a .value ≡ 1) × (testedNumbers a .code ≡ 0))
+tested-bit tested.Clean = inr (refl, refl)
+tested-bit tested.Damaged = inl refl
+tested-bit (tested.Refused c) = inl refl
+
+-- ---- repair
+
+-- nothing is mended with a refusal
+pub repaired-zero : (a : Repaired) → repairedNumbers a .code ≢ 0 → repairedNumbers a .mended ≡ 0
+repaired-zero (repaired.Mended e) h = absurd (h refl)
+repaired-zero (repaired.Refused c) h = refl
+
+-- answers agree where their codes do, and what is mended with no refusal
+pub repaired-same : (a b : Repaired) → repairedNumbers a .code ≡ repairedNumbers b .code
+    → (repairedNumbers a .code ≡ 0 → repairedNumbers a .mended ≡ repairedNumbers b .mended) → repairedNumbers a ≡ repairedNumbers b
+repaired-same a b e m =
+    ap₂ (λ (c v : ℕ). made c v) e
+    (either (repairedNumbers a .mended ≡ repairedNumbers b .mended) (repairedNumbers a .code) m
+    (λ n. repaired-zero a n ∙ sym (repaired-zero b (λ z. n (e ∙ z)))))
+  where
+    made : ℕ → ℕ → RepairNumbers
+    made c v = record { code = c; mended = v }
+
+other-side : (marks r s : List ℕ) → SameRead marks r s → SameRead marks s r
+other-side marks r s same = record { same-length = sym (same .same-length); read = λ p e. sym (same .read p e) }
+
+reachable : (marks r s : List ℕ) → SameRead marks r s → Reachable gf256 marks r → Reachable gf256 marks s
+reachable marks r s same R = record { word = R .word; cells = R .cells; clean = R .clean; reach = theorems.same-reach marks r s (R .word) same (R .reach) }
+
+-- two repairs, of words that are the same but for the bytes under marks
+module _ (most n m : ℕ) (marks r s v w : List ℕ) (a b : Repaired) (same : SameRead marks r s) (short : n ≤ most → length r ≤ wordMost)
+    (A : Repairs gf256 most n m marks r v a) (B : Repairs gf256 most n m marks s w b) where
+  alike : Alike (repairing gf256 most n m marks s) (repairing gf256 most n m marks r)
+  alike = (
+    refl,
+    (λ x. x),
+    (λ x. x),
+    (
+      refl,
+      (λ x. x),
+      (λ x. x),
+      (
+        refl,
+        (λ x. x),
+        (λ x. x),
+        (refl, reachable marks s r (other-side marks r s same), reachable marks r s same, tt),
+      ),
+    ),
+  )
+
+  pub one-code : repairedNumbers a .code ≡ repairedNumbers b .code
+  one-code =
+      first-fixes (repairing gf256 most n m marks r) (repairedNumbers a .code) (repairedNumbers b .code) (A .code)
+      (first-alike (repairing gf256 most n m marks s) (repairing gf256 most n m marks r) (repairedNumbers b .code) alike (B .code))
+
+  pub one-word : repairedNumbers a .code ≡ 0 → v ≡ w
+  one-word z =
+      let y : repairedNumbers b .code ≡ 0 = sym one-code ∙ z in
+      theorems.one-in-reach gf256 field256 marks r v w (short (all-hold 6 (repairing gf256 most n m marks r) (repairedNumbers a .code) tt (A .code) z .0 .to))
+      (A .cells z) (B .cells y) (A .clean z) (B .clean y) (A .reach z) (theorems.same-reach marks s r w (other-side marks r s same) (B .reach y))
+
+  pub one-numbers : repairedNumbers a ≡ repairedNumbers b
+  one-numbers =
+      repaired-same a b one-code (λ z.
+      A .mended z ∙ ap (differing marks r) (one-word z) ∙ theorems.same-differing marks r s w same ∙ sym (B .mended (sym one-code ∙ z)))
+
+-- two repairs of one word
+module _ (most n m : ℕ) (marks old v w : List ℕ) (a b : Repaired) (short : n ≤ most → length old ≤ wordMost)
+    (A : Repairs gf256 most n m marks old v a) (B : Repairs gf256 most n m marks old w b) where
+  itself : SameRead marks old old
+  itself = record { same-length = refl; read = λ p e. refl }
+
+  pub one-repair : (v ≡ w) × (repairedNumbers a ≡ repairedNumbers b)
+  one-repair = (
+    either (v ≡ w) (repairedNumbers a .code) (one-word most n m marks old old v w a b itself short A B)
+        (λ k. A .kept k ∙ sym (B .kept (λ z. k (one-code most n m marks old old v w a b itself short A B ∙ z)))),
+    one-numbers most n m marks old old v w a b itself short A B,
+  )
+
+-- ---- a lane
+
+-- a lane is its word and what is past it
+pub lane-is : (lane marks : Lane) (r : LaneRepair) → LaneRepairsAs lane marks r → wordOf (r .lane) ++ drop (lane .len) (lane .bytes) ≡ r .lane .bytes
+lane-is lane marks r A =
+    ap (λ (l : List ℕ). wordOf (r .lane) ++ l) (sym (A .past)) ∙ ap (λ (k : ℕ). take k (r .lane .bytes) ++ drop (lane .len) (r .lane .bytes)) (A .same-len)
+    ∙ take-append-drop (lane .len) (r .lane .bytes)
+
+-- lanes with the same bytes and length are the same
+pub lane-same : (x y : Lane) → x .bytes ≡ y .bytes → x .len ≡ y .len → x ≡ y
+lane-same x y e f = ap₂ (λ (b : List ℕ) (n : ℕ). made b n) e f
+  where
+    made : List ℕ → ℕ → Lane
+    made b n = record { bytes = b; len = n }

@@ -1,4 +1,4 @@
--- Lanes gathered and scattered.
+-- A lane scattered.
 use mathlib.Core.Path.{_≡_, refl, sym, _∙_}
 use mathlib.Core.List.{List}
 use Prim.Native.Nat.{ℕ, _+_, _*_, _≤_, _<_}
@@ -9,19 +9,6 @@ use lib.Seq.{ext-getD, getD-take, getD-set-same, getD-set-other, length-take-le}
 use Rattle.account.specs.Lanes.{lane}
 use Rattle.account.proofs.Lanes.{length-lane, getD-lane}
 use Rattle.lanes.specs.Lanes.{Scattered}
-
--- one more place written, the earlier ones as they were
-pub more : (t s : List ℕ) (l k v : ℕ) → k < length t → v ≡ getD s (4 * k + l) 0 → ((j : ℕ) → j < k → getD t j 0 ≡ getD s (4 * j + l) 0)
-    → (j : ℕ) → j < k + 1 → getD (set t k v) j 0 ≡ getD s (4 * j + l) 0
-more t s l k v h e old = below-more _ k
-    (λ j b. getD-set-other t k j v 0 (λ q. let z : j ≡ k = q in omega arith) ∙ old j b)
-    (getD-set-same t k v 0 h ∙ e)
-
-pub gathered : (t s : List ℕ) (l n : ℕ) → n ≤ length t → length s ≡ 4 * n → ((j : ℕ) → j < n → getD t j 0 ≡ getD s (4 * j + l) 0) → take n t ≡ lane 4 l s
-gathered t s l n h e f =
-    ext-getD 0 (take n t) (lane 4 l s) (length-take-le n t h ∙ omega (arith, length-lane 4 (omega arith) l s)) (λ i k.
-    let j : i < n = omega (arith, length-take-le n t h) in
-    getD-take n t i 0 j ∙ f i j ∙ sym (getD-lane 4 (omega arith) l s i (omega arith)))
 
 -- scattering: lane l of the first k columns is b, the other cells are as they were
 pub record Halfway (l : ℕ) (b o x : List ℕ) (k : ℕ) : Type 0 where
@@ -41,7 +28,7 @@ halfway-more l b o x k h w = record {
   rest = λ p f. getD-set-other x (4 * k + l) p (getD b k 0) 0 (λ q. f k (omega arith) q) ∙ w .rest p (λ j a. f j (omega arith));
 }
 
-pub scattered : (l n : ℕ) (b o x : List ℕ) → l < 4 → n ≤ length b → 4 * n ≤ length o → Halfway l b o x n → Scattered (4 * n) l (take n b) o x
+pub scattered : (l n : ℕ) (b o x : List ℕ) → l < 4 → n ≤ length b → 4 * n ≤ length o → Halfway l b o x n → Scattered 4 (4 * n) l (take n b) o x
 scattered l n b o x hl hb ho w = record {
   own = ext-getD 0 (lane 4 l X) (take n b) (size x x-long l ∙ sym (length-take-le n b hb)) (λ i h.
       let j : i < n = omega (arith, size x x-long l) in

@@ -1,4 +1,4 @@
--- Marks of a lane, counted; and the numbers of a repair, told.
+-- Marks of a lane, counted.
 use mathlib.Core.Path.{_≡_, refl, sym, ap, _∙_, subst}
 use mathlib.Core.Bool.{Bool, true, false, not}
 use mathlib.Core.Logic.{⊎-elim}
@@ -6,30 +6,14 @@ use mathlib.Core.List.{List}
 use Prim.Native.Nat.{ℕ, zero, suc, _+_, _*_, _/_, _≤_, _<_}
 use native.Mathlib.Numerals.{add-one}
 use native.Mathlib.Omega.{arith}
-use native.Mathlib.Decide.{ℕ-discrete}
-use borrow.Author.Tests.{eq-eqb, ne-eqb}
 use lib.Dec.{eqb, T}
 use lib.ListN.{length}
 use Rattle.account.specs.Lanes.{lane}
 use Rattle.account.specs.Reach.{countTo, isMarked, oneIf}
 use Rattle.account.proofs.Cells.{count-none}
 use Rattle.account.proofs.Lanes.{getD-lane}
-use Rattle.rules.specs.Says.{Says}
-use Rattle.code.specs.declared.repair.Repaired.{Repaired}
-use Rattle.code.specs.declared.repair.Repaired.the-variants as repaired
 use Rattle.level.specs.Strip.{markedIn}
-use Rattle.level.proofs.Strips.{lt-or-ge}
-use Rattle.lanes.specs.Lanes.{ToldAs}
-
-says-zero : (x : ℕ) → Says (eqb x 0) (x ≡ 0)
-says-zero x = go (ℕ-discrete x 0)
-  where
-    go : Dec (x ≡ 0) → Says (eqb x 0) (x ≡ 0)
-    go (yes e) = subst (λ (b : Bool). Says b (x ≡ 0)) (sym (eq-eqb x 0 e)) e
-    go (no n) = subst (λ (b : Bool). Says b (x ≡ 0)) (sym (ne-eqb x 0 n)) n
-
-pub refused-told : (a : Repaired) (x : ℕ) → a ≡ repaired.Refused x → ToldAs a (record { good = eqb x 0; mended = 0 })
-refused-told a x e = subst (λ (b : Repaired). ToldAs b (record { good = eqb x 0; mended = 0 })) (sym e) (record { good-is = says-zero x; count = refl })
+use Rattle.level.proofs.Dealing.{lt-or-ge}
 
 -- what is counted nowhere is nowhere
 zero-count : (f : ℕ → Bool) (n : ℕ) → countTo f n ≡ 0 → (i : ℕ) → i < n → T (not (f i))

@@ -14,15 +14,10 @@ use Rattle.account.specs.Code.{Cells}
 use Rattle.account.specs.Reach.{countTo, differsAt, isMarked}
 use Rattle.account.proofs.Lanes.{length-lane, bytes-lane}
 use Rattle.gf256.specs.Gf256.{gf256}
-use Rattle.level.specs.Strip.{wrongIn, mendedOf}
-use Rattle.level.specs.Reading.{Mendable}
+use Rattle.level.specs.Strip.{wrongIn, mendedOf, Mendable}
+use Rattle.level.proofs.Counts.{sum-cong}
 use Rattle.lanes.specs.declared.One.{One}
 use Rattle.lanes.specs.Lanes.{Ready, LaneMended, OneGood, OneAs, MendedAs}
-
-sum-cong : (n : ℕ) (f g : ℕ → ℕ) → ((i : ℕ) → i < n → f i ≡ g i) → sumOf n f ≡ sumOf n g
-unfolding sumOf
-sum-cong zero f g h = refl
-sum-cong (suc n) f g h = ap₂ (λ (x y : ℕ). x + y) (sum-cong n f g (λ i l. h i (omega arith))) (h n (omega arith))
 
 sum-more : (n : ℕ) (f : ℕ → ℕ) → sumOf (n + 1) f ≡ sumOf n f + f n
 unfolding sumOf
@@ -37,7 +32,7 @@ module _ (s marks : List ℕ) where
     pub within : l ≤ 4
     pub long : length x ≡ length o
     pub bytes : Cells gf256 x
-    pub each : (j : ℕ) → j < l → LaneMended marks s (front x) j
+    pub each : (j : ℕ) → j < l → LaneMended 4 marks s (front x) j
     pub later : (j : ℕ) → l ≤ j → j < 4 → lane 4 j (front x) ≡ lane 4 j s
     pub count : e ≡ sumOf l (wrongIn 4 marks s (front x))
     pub small : e ≤ 2 * l
@@ -54,19 +49,19 @@ module _ (s marks : List ℕ) where
     small = omega arith;
   }
 
-  few : (t : List ℕ) (j : ℕ) → LaneMended marks s t j → wrongIn 4 marks s t j ≤ 2
+  few : (t : List ℕ) (j : ℕ) → LaneMended 4 marks s t j → wrongIn 4 marks s t j ≤ 2
   few t j m =
       let h : 2 * countTo (differsAt (lane 4 j marks) (lane 4 j s) (lane 4 j t)) (length s / 4) + countTo (isMarked (lane 4 j marks)) (length s / 4) ≤ 5 =
       rw (length-lane 4 (omega arith) j s) at (m .reach .few) in
       omega arith
 
-  pub told-good : (x x' : List ℕ) (l : ℕ) (r : One) → r .good ≡ true → OneAs (r .good) s marks l x x' r → OneGood s marks l x x' r
-  told-good x x' l r t a = subst (λ (b : Bool). OneAs b s marks l x x' r) t a
+  pub told-good : (x x' : List ℕ) (l : ℕ) (r : One) → r .good ≡ true → OneAs 4 (r .good) s marks l x x' r → OneGood 4 s marks l x x' r
+  told-good x x' l r t a = subst (λ (b : Bool). OneAs 4 b s marks l x x' r) t a
 
-  pub one-few : (x x' : List ℕ) (l : ℕ) (r : One) → OneGood s marks l x x' r → r .mended ≤ 2
+  pub one-few : (x x' : List ℕ) (l : ℕ) (r : One) → OneGood 4 s marks l x x' r → r .mended ≤ 2
   one-few x x' l r g = omega (arith, few (front x') l (g .mended-lane), g .count)
 
-  pub sofar-more : (o x x' : List ℕ) (e l : ℕ) (r : One) → l < 4 → length x' ≡ length x → Cells gf256 x' → Sofar o x e l → OneGood s marks l x x' r
+  pub sofar-more : (o x x' : List ℕ) (e l : ℕ) (r : One) → l < 4 → length x' ≡ length x → Cells gf256 x' → Sofar o x e l → OneGood 4 s marks l x x' r
       → Sofar o x' (e + r .mended) (l + 1)
   sofar-more o x x' e l r h long by w g = record {
     within = omega arith;
@@ -83,7 +78,7 @@ module _ (s marks : List ℕ) where
       other : (j : ℕ) → j < l → lane 4 j (front x') ≡ lane 4 j (front x)
       other j k = g .others j (omega arith) (λ q. omega (arith, q))
 
-      kept : (j : ℕ) → j < l → LaneMended marks s (front x) j → LaneMended marks s (front x') j
+      kept : (j : ℕ) → j < l → LaneMended 4 marks s (front x) j → LaneMended 4 marks s (front x') j
       kept j k m = record { clean = rw (other j k) (m .clean); reach = rw (other j k) (m .reach) }
 
       same : (j : ℕ) → j < l → wrongIn 4 marks s (front x') j ≡ wrongIn 4 marks s (front x) j
@@ -94,12 +89,12 @@ module _ (s marks : List ℕ) where
     cell = λ j l. let k : j < length s = omega (arith, length-take-le (length s) x h) in rw (getD-take (length s) x j 0 k) (b .cell j (omega arith));
   }
 
-  fits : (o x : List ℕ) (e l : ℕ) → Ready s marks (length o) → Sofar o x e l → length s ≤ length x
-  fits o x e l rd w = omega (arith, rd .legal .to, rd .legal .cells, rd .room, w .long)
+  fits : (o x : List ℕ) (e l : ℕ) → Ready 4 s marks (length o) → Sofar o x e l → length s ≤ length x
+  fits o x e l rd w = omega (arith, rd .fits, w .long)
 
   -- a lane that cannot be mended
-  pub lost : (o x x' : List ℕ) (e l : ℕ) (r : One) → Ready s marks (length o) → l < 4 → Sofar o x e l → r .good ≡ false → OneAs (r .good) s marks l x x' r
-      → MendedAs s marks x' (record { beyond = l; mended = 0 })
+  pub lost : (o x x' : List ℕ) (e l : ℕ) (r : One) → Ready 4 s marks (length o) → l < 4 → Sofar o x e l → r .good ≡ false → OneAs 4 (r .good) s marks l x x' r
+      → MendedAs 4 s marks x' (record { beyond = l; mended = 0 })
   lost o x x' e l r rd h w t a = record {
     found = λ k. absurd (omega arith);
     count = λ k. absurd (omega arith);
@@ -117,15 +112,15 @@ module _ (s marks : List ℕ) where
     };
   }
     where
-      no : Mendable 4 marks s l → ⊥
-      no = subst (λ (b : Bool). OneAs b s marks l x x' r) t a
+      no : Mendable gf256 4 marks s l → ⊥
+      no = subst (λ (b : Bool). OneAs 4 b s marks l x x' r) t a
 
   -- all four are
-  pub all-mended : (o x : List ℕ) (e l : ℕ) → Ready s marks (length o) → 4 ≤ l → Sofar o x e l → MendedAs s marks x (record { beyond = 4; mended = e })
+  pub all-mended : (o x : List ℕ) (e l : ℕ) → Ready 4 s marks (length o) → 4 ≤ l → Sofar o x e l → MendedAs 4 s marks x (record { beyond = 4; mended = e })
   unfolding mendedOf
   all-mended o x e l rd h w = record {
     found = λ k. record {
-      bytes = front-bytes x (fits o x e l rd w) (w .bytes);
+      cells = front-bytes x (fits o x e l rd w) (w .bytes);
       clean = λ j a. w .each j (omega arith) .clean;
       reach = record { same-length = length-take-le (length s) x (fits o x e l rd w); each = λ j a. w .each j (omega arith) .reach };
     };

@@ -1,16 +1,18 @@
-// The lanes of a strip: taken out by value, mended by the lower library, and put back. Four lanes; the definitions take any number.
+// The lanes of a strip: mended one by one by the lower library, and put back. Four lanes; the definitions take any number.
 ghost use mathlib.Core.Path.{_≡_};
-ghost use Prim.Native.Nat.{ℕ, _+_, _*_, _≤_, _<_};
+ghost use Prim.Native.Nat.{_*_, _≤_, _<_};
 ghost use mathlib.Core.Bool.{not};
 ghost use lib.Dec.{eqb};
-ghost use lib.ListN.{length, getD, take};
+ghost use lib.ListN.{length, take};
 ghost use Rattle.account.specs.Lanes.{lane};
 ghost use Rattle.account.specs.Reach.{oneIf, countTo, isMarked};
-ghost use Rattle.remainder.specs.Remainder.{Remains};
 ghost use Rattle.rules.specs.Says.{Says};
+ghost use Rattle.account.specs.Code.{Clean};
+ghost use Rattle.gf256.specs.Gf256.{gf256};
 ghost use Rattle.code.specs.Lane.{wordOf};
+ghost use Rattle.code.specs.Lanes.{LanesTested};
 ghost use Rattle.level.specs.Strip.{markedIn};
-ghost use Rattle.lanes.specs.Lanes.{Ready, Scattered, ToldAs, OneAs, MendedAs};
+ghost use Rattle.lanes.specs.Lanes.{Ready, Scattered, OneAs, MendedAs};
 use code::lane::Lane;
 use code::repair::Repaired;
 
@@ -26,27 +28,10 @@ pub struct Mending {
     pub mended: usize,
 }
 
-// Lane l of a strip, or of its marks.
-fn gather(strip: &[u8], l: usize, n: usize) -> Lane
-    requires { ⌜ (l < 4) × (n ≤ 96) × (length (now strip) ≡ 4 * n) ⌝ }
-    ensures { λ r. ⌜ (r .len ≡ n) × (wordOf r ≡ lane 4 l (now (strip .entry))) ⌝ }
-{
-    let mut t = Lane {
-        bytes: [0; 96],
-        len: n,
-    };
-    let mut k: usize = 0;
-    while k < n {
-        t.bytes[k] = strip[4 * k + l];
-        k += 1;
-    }
-    t
-}
-
 // A lane put back among the others.
 fn scatter(lane: Lane, l: usize, x: &mut [u8])
     requires { ⌜ (l < 4) × (lane .len ≤ 96) × (4 * lane .len ≤ length (now x)) ⌝ }
-    ensures { λ _. ⌜ Scattered (4 * lane .len) l (wordOf lane) (now (x .entry)) (now (x .exit)) ⌝ }
+    ensures { λ _. ⌜ Scattered 4 (4 * lane .len) l (wordOf lane) (now (x .entry)) (now (x .exit)) ⌝ }
 {
     let n = lane.len;
     let b = lane.bytes;
@@ -57,42 +42,27 @@ fn scatter(lane: Lane, l: usize, x: &mut [u8])
     }
 }
 
-fn told(a: Repaired) -> One
-    ensures { λ r. ⌜ ToldAs a r ⌝ }
-{
-    match a {
-        Repaired::Mended(e) => One {
-            good: true,
-            mended: e,
-        },
-        Repaired::Refused(c) => One {
-            good: c == 0,
-            mended: 0,
-        },
-    }
-}
-
-// A lane that is not clean, repaired by value and put back.
+// A lane that is not clean, mended by value and put back.
 fn repair_one(strip: &[u8], marks: &[u8], l: usize, x: &mut [u8]) -> One
-    requires { ⌜ (l < 4) × Ready (now strip) (now marks) (length (now x)) ⌝ }
-    ensures { λ r. ⌜ OneAs (r .good) (now (strip .entry)) (now (marks .entry)) l (now (x .entry)) (now (x .exit)) r ⌝ }
+    requires { ⌜ (l < 4) × Ready 4 (now strip) (now marks) (length (now x)) ⌝ }
+    ensures { λ r. ⌜ OneAs 4 (r .good) (now (strip .entry)) (now (marks .entry)) l (now (x .entry)) (now (x .exit)) r ⌝ }
 {
-    let n = strip.len() / 4;
-    let w = gather(strip, l, n);
-    let m = gather(marks, l, n);
-    let r = code::lane::repair_lane(w, m);
+    let r = code::lanes::mend(strip, marks, l);
     let answer = r.answer;
-    let o = told(answer);
-    let good = o.good;
-    if !good {
-        return One {
+    let y = r.lane;
+    match answer {
+        Repaired::Mended(e) => {
+            scatter(y, l, x);
+            One {
+                good: true,
+                mended: e,
+            }
+        }
+        Repaired::Refused(_) => One {
             good: false,
             mended: 0,
-        };
+        },
     }
-    let y = r.lane;
-    scatter(y, l, x);
-    o
 }
 
 fn one_if(mark: u8) -> usize
@@ -132,27 +102,27 @@ fn few_marked(marks: &[u8], f: usize, l: usize, n: usize) -> bool
     true
 }
 
-// Lane l with the remainder r, mended where it stands in x: a clean lane is only asked for its marks.
-fn mend_one(strip: &[u8], marks: &[u8], f: usize, r: u64, l: usize, x: &mut [u8]) -> One
-    requires { ⌜ (l < 4) × Ready (now strip) (now marks) (length (now x)) × (f ≡ countTo (isMarked (now marks)) (length (now marks))) × Remains (lane 4 l (now strip)) r × (lane 4 l (take (length (now strip)) (now x)) ≡ lane 4 l (now strip)) ⌝ }
-    ensures { λ o. ⌜ OneAs (o .good) (now (strip .entry)) (now (marks .entry)) l (now (x .entry)) (now (x .exit)) o ⌝ }
+// Lane l mended where it stands in x: a clean lane is only asked for its marks.
+fn mend_one(strip: &[u8], marks: &[u8], f: usize, clean: bool, l: usize, x: &mut [u8]) -> One
+    requires { ⌜ (l < 4) × Ready 4 (now strip) (now marks) (length (now x)) × (f ≡ countTo (isMarked (now marks)) (length (now marks))) × Says clean (Clean gf256 (lane 4 l (now strip))) × (lane 4 l (take (length (now strip)) (now x)) ≡ lane 4 l (now strip)) ⌝ }
+    ensures { λ o. ⌜ OneAs 4 (o .good) (now (strip .entry)) (now (marks .entry)) l (now (x .entry)) (now (x .exit)) o ⌝ }
 {
-    if r == 0 {
+    if clean {
         let good = few_marked(marks, f, l, strip.len() / 4);
         return One { good, mended: 0 };
     }
     repair_one(strip, marks, l, x)
 }
 
-// Every lane mended into x. The lanes' remainders r tell which are clean; f cells are marked in all.
-pub fn mend(strip: &[u8], marks: &[u8], f: usize, r: [u64; 4], x: &mut [u8]) -> Mending
-    requires { ⌜ Ready (now strip) (now marks) (length (now x)) × (f ≡ countTo (isMarked (now marks)) (length (now marks))) × ((j : ℕ) → j < 4 → Remains (lane 4 j (now strip)) (getD r j 0)) × (take (length (now strip)) (now x) ≡ now strip) ⌝ }
-    ensures { λ m. ⌜ MendedAs (now (strip .entry)) (now (marks .entry)) (now (x .exit)) m ⌝ }
+// Every lane mended into x, where the strip stands already. It is told which lanes are clean; f cells are marked in all.
+pub fn mend(strip: &[u8], marks: &[u8], f: usize, clean: [bool; 4], x: &mut [u8]) -> Mending
+    requires { ⌜ Ready 4 (now strip) (now marks) (length (now x)) × (f ≡ countTo (isMarked (now marks)) (length (now marks))) × LanesTested gf256 4 (now strip) clean × (take (length (now strip)) (now x) ≡ now strip) ⌝ }
+    ensures { λ m. ⌜ MendedAs 4 (now (strip .entry)) (now (marks .entry)) (now (x .exit)) m ⌝ }
 {
     let mut mended: usize = 0;
     let mut l: usize = 0;
     while l < 4 {
-        let o = mend_one(strip, marks, f, r[l], l, x);
+        let o = mend_one(strip, marks, f, clean[l], l, x);
         let good = o.good;
         if !good {
             return Mending {

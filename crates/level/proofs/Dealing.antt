@@ -1,7 +1,7 @@
 -- Cells dealt to lanes, over the field and the lane count: what is dealt can be had, is one, and gives its cells back.
 use mathlib.Core.Path.{_≡_, sym, ap, ap₂, _∙_, subst}
 use Prim.Native.Nat.{ℕ, _+_, _*_, _-_, _/_, _%_, _≤_, _<_}
-use native.Mathlib.Nat.{mul-le-mul-left, div-add-mod, mod-lt, eq-zero-or-pos, mul-add-div, mul-add-mod-self-left, mod-eq-of-lt, div-eq-of-lt, mul-suc, mul-add, mul-comm, div-lt-iff-lt-mul}
+use native.Mathlib.Nat.{mul-le-mul-left, div-add-mod, mod-lt, eq-zero-or-pos, mul-add-div, mul-add-mod-self-left, mod-eq-of-lt, div-eq-of-lt, mul-suc, mul-add, mul-comm, div-lt-iff-lt-mul, le-div-iff-mul-le, div-mul-le-self}
 use native.Mathlib.Omega.{arith}
 use mathlib.Core.List.{List}
 use mathlib.Core.Logic.{_⊎_, inl, inr, ⊎-elim}
@@ -23,6 +23,10 @@ lt-or-ge q n = ⊎-elim (λ e. inr (omega arith)) (λ h. inl (omega arith)) (eq-
 -- cells have their place within their columns
 pub within : (R : ℕ) → 0 < R → (n : ℕ) → n ≤ R * columns R n
 within R some n = omega (arith, div-add-mod (n + (R - 1)) R, mod-lt (n + (R - 1)) some)
+
+-- more cells have as many columns or more
+pub columns-more : (R : ℕ) → 0 < R → (m n : ℕ) → m ≤ n → columns R m ≤ columns R n
+columns-more R some m n h = le-div-iff-mul-le some .1 (omega (arith, div-mul-le-self (m + (R - 1)) R))
 
 -- cell i of lane j is cell R i + j
 module _ (R : ℕ) (some : 0 < R) (i j : ℕ) (h : j < R) where

@@ -1,2 +1,17 @@
-// Levels, records and strips are in specs/, with what is true of them in proofs/. This function only makes it a crate.
+// Levels, records and strips are in specs/, with what is true of them in proofs/. Here are the sizes that specs/Sizes.antt names.
+
+// Tiles of a board.
+pub const TILES_MOST: usize = 961;
+// Bytes of a record.
+pub const RECORD_LEAST: usize = 4;
+
+pub const RECORD_MOST: usize = 364;
+// Cells of a strip.
+pub const STRIP_LEAST: usize = 24;
+
+pub const STRIP_MOST: usize = 384;
+// What the strip reader is lent beside.
+pub const SCRATCH_LEAST: usize = 384;
+
+// A crate has at least one function.
 fn level() {}

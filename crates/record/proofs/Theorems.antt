@@ -16,7 +16,7 @@ use Rattle.rules.specs.Refusal.{Within}
 use Rattle.code.specs.Word.{writtenNumbers}
 use Rattle.code.specs.declared.word.Written.{Written}
 use Rattle.rules.proofs.Laws.{first-fixes, none-first, decided, either}
-use Rattle.code.proofs.Theorems.{written-zero}
+use Rattle.code.proofs.Answers.{written-zero}
 use Rattle.record.specs.declared.read.RecordRead.{RecordRead}
 use Rattle.record.specs.declared.read.RecordRead.the-variants as read
 use Rattle.level.specs.Writing.{writingLevel}

@@ -89,6 +89,16 @@ rest [] qs c h f = f
 rest (r ∷ rs) qs c h (inl p) = absurd (p .0 (h .0))
 rest (r ∷ rs) qs c h (inr p) = rest rs qs c (h .1) (p .1)
 
+-- it is the first that refuses, or it holds and the second decides
+pub parts : (rs qs : List Rule) (c : ℕ) → First (rs ++ qs) c → ((Hold rs → ⊥) × First rs c) ⊎ (Hold rs × First qs c)
+parts [] qs c f = inr (tt, f)
+parts (r ∷ rs) qs c (inl p) = inl ((λ h. p .0 (h .0)), inl p)
+parts (r ∷ rs) qs c (inr p) = go (parts rs qs c (p .1))
+  where
+    go : ((Hold rs → ⊥) × First rs c) ⊎ (Hold rs × First qs c) → ((Hold (r ∷ rs) → ⊥) × First (r ∷ rs) c) ⊎ (Hold (r ∷ rs) × First qs c)
+    go (inl q) = inl ((λ h. q .0 (h .1)), inr (p .0, q .1))
+    go (inr q) = inr ((p .0, q .0), q .1)
+
 -- where no refusal is told, both hold
 pub hold-both : (rs qs : List Rule) → Hold (rs ++ qs) → Hold rs × Hold qs
 hold-both [] qs h = (tt, h)

@@ -2,4 +2,5 @@ pub mod Placing
 pub mod Entering
 pub mod Reader
 pub mod Laid
+pub mod Alike
 pub mod Theorems

@@ -1,266 +1,171 @@
--- Demand 3, and what else is promised of strips, each with its sentence.
+-- What is promised of strips, over the number of lanes R (short: no lane has more than 255 cells). The entries have R = 4.
 use mathlib.Core.Path.{_≡_, refl, sym, ap, ap₂, _∙_, subst}
-use mathlib.Core.Logic.{_≢_, inl, inr, ⊎-elim}
-use mathlib.Core.Bool.{not}
+use mathlib.Core.Logic.{_≢_}
 use mathlib.Core.List.{List, _++_}
-use Prim.Native.Nat.{ℕ, _+_, _*_, _/_, _≤_, _<_}
-use native.Mathlib.Decide.{ℕ-discrete}
+use Prim.Native.Nat.{ℕ, _+_, _*_, _≤_, _<_}
 use native.Mathlib.Omega.{arith}
-use lib.Dec.{T, eqb}
 use lib.ListN.{length, getD, take, drop, take-append-drop}
-use Rattle.account.specs.Lists.{sumOf}
-use Rattle.account.specs.Lanes.{lane}
-use Rattle.account.specs.Reach.{countTo, differsAt, isMarked, Reach, GoodMarks}
-use Rattle.account.proofs.Cells.{count-none, not-differs}
-use Rattle.account.proofs.Lanes.{length-lane, getD-lane}
-use Rattle.rules.specs.Refusal.{First}
+use Rattle.account.specs.Reach.{isMarked, differing, GoodMarks, SameRead}
+use Rattle.gf256.specs.Gf256.{gf256}
+use Rattle.gf256.proofs.Field256.{field256}
+use Rattle.rules.specs.Refusal.{First, Hold}
+use Rattle.rules.proofs.Laws.{first-fixes, all-hold, hold-both, decided, either}
 use Rattle.code.specs.Word.{writtenNumbers}
 use Rattle.code.specs.declared.word.Written.{Written}
-use Rattle.rules.proofs.Laws.{first-fixes, decided, either}
-use Rattle.code.proofs.Theorems.{written-zero}
+use Rattle.code.proofs.Answers.{written-zero}
 use Rattle.level.specs.Level.{Level, IsLevel}
 use Rattle.level.specs.Record.{recordLength}
-use Rattle.level.specs.Strip.{columns, Legal, IsStrip, Reached, wrongIn, markedIn, mendedOf, wearOf}
-use Rattle.level.specs.Reading.{ReadNumbers, returned, readingStrip, Lowest}
-use Rattle.level.proofs.Strips.{lt-or-ge, same-strip}
+use Rattle.level.specs.Strip.{columns, Legal, IsStrip, StripReach, Reached, wrongIn, markedIn, mendedOf, wearOf}
+use Rattle.level.specs.Reading.{ReadNumbers, returned, entering, mending}
+use Rattle.level.specs.Writing.{writingLevel}
+use Rattle.level.proofs.Dealing.{columns-more}
+use Rattle.level.proofs.Strips.{same-strip}
 use Rattle.level.proofs.Theorems as levels
-use Rattle.record.specs.Writing.{lent, writingLevel}
-use Rattle.record.proofs.Answers.{lent-level}
+use Rattle.record.proofs.Answers.{written-level, level-written}
 use Rattle.strip.specs.declared.read.Reading.{Reading}
 use Rattle.strip.specs.Writing.{stripLength, StripWritesAs}
-use Rattle.strip.specs.Reading.{readNumbers, LevelRead, StripReadsAs}
-use Rattle.strip.proofs.Laid.{strip-fits}
+use Rattle.strip.specs.Reading.{stripNumbers, LevelRead, StripReadsAs}
+use Rattle.strip.proofs.Laid.{record-fits}
+use Rattle.strip.proofs.Alike as alike
 use Rattle.strip.proofs.Reader.{zeros}
 
--- ---- reading
+module _ (R : ℕ) (some : 0 < R) (short : columns R 364 + 5 ≤ 255) where
+  -- ---- reading
 
--- "Take any strip of legal length, whatever byte each cell holds and whichever cells are marked unreadable, and buffers long enough."
-module _ (s marks tiles tiles' scratch scratch' : List ℕ) (legal : Legal 4 (length s)) (matched : length marks ≡ length s) (good : GoodMarks marks)
-    (room : 961 ≤ length tiles) (room' : 384 ≤ length scratch) where
-  -- then only the picture itself can be refused
-  late : (c : ℕ) → c ≢ 0 → First (readingStrip 4 s marks (length tiles) (length scratch)) c → 6 ≤ c
-  late c n (inl a) = absurd (a .0 legal)
-  late c n (inr (a, inl b)) = absurd (b .0 matched)
-  late c n (inr (a, inr (b, inl d))) = absurd (d .0 good)
-  late c n (inr (a, inr (b, inr (d, inl e)))) = absurd (e .0 room)
-  late c n (inr (a, inr (b, inr (d, inr (e, inl f))))) = absurd (f .0 room')
-  late c n (inr (a, inr (b, inr (d, inr (e, inr (f, inl g)))))) = omega (arith, g .1)
-  late c n (inr (a, inr (b, inr (d, inr (e, inr (f, inr (g, inl i))))))) = omega (arith, i .1)
-  late c n (inr (a, inr (b, inr (d, inr (e, inr (f, inr (g, inr (i, inl k)))))))) = omega (arith, k .1)
-  late c n (inr (a, inr (b, inr (d, inr (e, inr (f, inr (g, inr (i, inr (k, inl m))))))))) = omega (arith, m .1)
-  late c n (inr (a, inr (b, inr (d, inr (e, inr (f, inr (g, inr (i, inr (k, inr (m, inl o)))))))))) = omega (arith, o .1)
-  late c n (inr (a, inr (b, inr (d, inr (e, inr (f, inr (g, inr (i, inr (k, inr (m, inr (o, z))))))))))) = absurd (n z)
+  -- Any strip of legal length, whatever its cells hold and whichever are marked, with buffers long enough:
+  module _ (s marks tiles tiles' scratch scratch' : List ℕ) (h : Hold (entering R s marks (length tiles) (length scratch)))
+      (a : Reading) (A : StripReadsAs R s marks tiles tiles' scratch scratch' a) where
+    -- where a level has a strip of that length within reach, one is returned;
+    pub read-when-reached : (l : Level) (t : List ℕ) → Reached gf256 R marks s l t → stripNumbers a .code ≡ 0
+    read-when-reached l t q = either (stripNumbers a .code ≡ 0) (stripNumbers a .code) (λ z. z) (λ n. absurd (A .no-level h n l t q))
 
-  module _ (a : Reading) (A : StripReadsAs s marks tiles tiles' scratch scratch' a) where
-    -- "A level is returned exactly when some level exists whose strip, laid out as published and of the same length, comes within reach ..
-    -- otherwise the picture is refused."
-    pub read-when-reached : (l : Level) (t : List ℕ) → Reached 4 marks s l t → readNumbers a .code ≡ 0
-    read-when-reached l t q =
-        either (readNumbers a .code ≡ 0) (readNumbers a .code) (λ z. z) (λ n. absurd (A .no-level (late (readNumbers a .code) n (A .code)) l t q))
-
-    -- "The level returned is such a level, and no other level has a strip of that length within reach." With it: mended, wear, the other tile bytes
-    pub reached-when-read : readNumbers a .code ≡ 0 → LevelRead s marks tiles tiles' (readNumbers a)
+    -- and one is returned only then: it is such a level, and no other is. With it: mended, wear, the other tile bytes.
+    pub reached-when-read : stripNumbers a .code ≡ 0 → LevelRead gf256 R s marks tiles tiles' (stripNumbers a)
     reached-when-read = A .level
 
-    -- "Whenever the sum .. counted against some strip of that length that we wrote, is 6 in at least one lane, the picture is refused."
-    pub refused-at-six : (w h par : ℕ) (lent-tiles old new : List ℕ) (b : Written) → StripWritesAs w h par lent-tiles old new b → writtenNumbers b .code ≡ 0
-        → stripLength w h ≡ length s → (j : ℕ) → j < 4 → 2 * wrongIn 4 marks s (take (stripLength w h) new) j + markedIn 4 marks j ≡ 6 → readNumbers a .code ≢ 0
-    refused-at-six w h par lent-tiles old new b W zb e j hj six z =
-        levels.six-refused 4 (omega arith) marks s (omega (arith, legal .to, legal .cells)) (lent w h par lent-tiles) (returned (readNumbers a) tiles') (take (stripLength w h) new)
-        (A .level z .strip) j matched (W .strip zb) (W .strip zb .size ∙ e) hj six (A .level z .reached)
+    -- Where 2e + f, counted against a strip of that length that was written, is 6 in a lane, the strip is refused.
+    pub refused-at-six : (l : Level) (old new : List ℕ) (b : Written) → StripWritesAs R l old new b → writtenNumbers b .code ≡ 0
+        → stripLength R l ≡ length s → (j : ℕ) → j < R → 2 * wrongIn R marks s (take (stripLength R l) new) j + markedIn R marks j ≡ 6 → stripNumbers a .code ≢ 0
+    refused-at-six l old new b W zb e j hj six z =
+        levels.six-refused gf256 field256 R some marks s (h .0 .k + 5) (h .0 .cells) (omega (arith, h .0 .to, short)) l (returned (stripNumbers a) tiles') (take (stripLength R l) new)
+        (A .level z .strip) j (h .1 .0) (W .strip zb) (alike.written-size R some l new (W .strip zb) ∙ e) hj six (A .level z .reached)
 
--- The promise of the reader fixes every number, and every byte but those of the scratch.
-module _ (s marks tiles t1 t2 scratch s1 s2 : List ℕ) (a b : Reading) (A : StripReadsAs s marks tiles t1 scratch s1 a) (B : StripReadsAs s marks tiles t2 scratch s2 b) where
-  codes : readNumbers a .code ≡ readNumbers b .code
-  codes = first-fixes (readingStrip 4 s marks (length tiles) (length scratch)) (readNumbers a .code) (readNumbers b .code) (A .code) (B .code)
+  -- Wear is at most 33, and mended at most twice the lanes.
+  module _ (s marks tiles tiles' scratch scratch' : List ℕ) (a : Reading) (A : StripReadsAs R s marks tiles tiles' scratch scratch' a) where
+    entered-when-read : stripNumbers a .code ≡ 0 → Hold (entering R s marks (length tiles) (length scratch))
+    entered-when-read z =
+        hold-both (entering R s marks (length tiles) (length scratch)) (mending gf256 R s marks)
+        (all-hold 10 (entering R s marks (length tiles) (length scratch) ++ mending gf256 R s marks) (stripNumbers a .code) tt (A .code) z) .0
 
-  abbrev numbers : ℕ → ℕ → ℕ → ℕ → ℕ → ℕ → ℕ → ReadNumbers
-  numbers c l w h p m v = record { code = c; lane = l; width = w; height = h; par = p; mended = m; wear = v }
+    pub mended-most : stripNumbers a .mended ≤ 2 * R
+    mended-most =
+        either (stripNumbers a .mended ≤ 2 * R) (stripNumbers a .code)
+        (λ z. rw (A .level z .mended-is) (levels.mended-most R some marks s (A .level z .strip) (A .level z .reached .reach))) (λ n. omega (arith, zeros a n .3))
 
-  same-numbers : (x y : ReadNumbers) → x .code ≡ y .code → x .lane ≡ y .lane → x .width ≡ y .width → x .height ≡ y .height → x .par ≡ y .par
-      → x .mended ≡ y .mended → x .wear ≡ y .wear → x ≡ y
-  same-numbers x y c l w h p m v =
-      ap₂ (λ (i j : ℕ). numbers i j (x .width) (x .height) (x .par) (x .mended) (x .wear)) c l
-      ∙ ap₂ (λ (i j : ℕ). numbers (y .code) (y .lane) i j (x .par) (x .mended) (x .wear)) w h
-      ∙ ap₂ (λ (i j : ℕ). numbers (y .code) (y .lane) (y .width) (y .height) i j (x .wear)) p m
-      ∙ ap (λ (i : ℕ). numbers (y .code) (y .lane) (y .width) (y .height) (y .par) (y .mended) i) v
+    pub wear-most : stripNumbers a .wear ≤ 33
+    wear-most =
+        either (stripNumbers a .wear ≤ 33) (stripNumbers a .code)
+        (λ z. rw (A .level z .wear-is, A .level z .mended-is) (levels.wear-most R some marks s (A .level z .strip) (entered-when-read z .0) (A .level z .reached .reach)))
+        (λ n. omega (arith, zeros a n .4))
 
-  -- the lowest lane is one
-  lowest : (i j : ℕ) → Lowest 4 marks s i → Lowest 4 marks s j → i ≡ j
-  lowest i j p q =
-      ⊎-elim (λ l. absurd (p .beyond (q .below i l))) (λ g. ⊎-elim (λ l. absurd (q .beyond (p .below j l))) (λ k. omega arith) (lt-or-ge j i)) (lt-or-ge i j)
+  -- The reader's promise fixes every number and every tile byte; neither the scratch's old bytes nor the bytes under marks have an influence.
+  pub strip-reads-fixed : (s marks tiles t1 t2 u u' v v' : List ℕ) (a b : Reading) → length u ≡ length v → StripReadsAs R s marks tiles t1 u u' a
+      → StripReadsAs R s marks tiles t2 v v' b → (t1 ≡ t2) × (stripNumbers a ≡ stripNumbers b)
+  strip-reads-fixed s marks tiles t1 t2 u u' v v' a b eu A B =
+      alike.read-alike R some short s s marks tiles t1 t2 u u' v v' (record { same-length = refl; read = λ p e. refl }) eu a b A B
 
-  lanes : readNumbers a .lane ≡ readNumbers b .lane
-  lanes = go (ℕ-discrete (readNumbers a .code) 6)
-    where
-      go : Dec (readNumbers a .code ≡ 6) → readNumbers a .lane ≡ readNumbers b .lane
-      go (yes z) = lowest (readNumbers a .lane) (readNumbers b .lane) (A .lane z) (B .lane (sym codes ∙ z))
-      go (no n) = A .other-lane n ∙ sym (B .other-lane (λ z. n (codes ∙ z)))
+  pub under-marks : (r s marks tiles t1 t2 u u' v v' : List ℕ) (a b : Reading) → SameRead marks r s → length u ≡ length v → StripReadsAs R r marks tiles t1 u u' a
+      → StripReadsAs R s marks tiles t2 v v' b → (t1 ≡ t2) × (stripNumbers a ≡ stripNumbers b)
+  under-marks r s marks tiles t1 t2 u u' v v' a b same eu A B = alike.read-alike R some short r s marks tiles t1 t2 u u' v v' same eu a b A B
 
-  module _ (z : readNumbers a .code ≡ 0) where
-    za : LevelRead s marks tiles t1 (readNumbers a)
-    za = A .level z
+  -- ---- writing
 
-    zb : LevelRead s marks tiles t2 (readNumbers b)
-    zb = B .level (sym codes ∙ z)
-
-    level : returned (readNumbers a) t1 ≡ returned (readNumbers b) t2
-    level = zb .only (returned (readNumbers a) t1) (za .strip) (za .reached)
-
-    short : length s / 4 ≤ 255
-    short = go (A .code)
-      where
-        go : First (readingStrip 4 s marks (length tiles) (length scratch)) (readNumbers a .code) → length s / 4 ≤ 255
-        go (inl p) = absurd (omega (arith, p .1, z))
-        go (inr p) = omega (arith, p .0 .to, p .0 .cells)
-
-    strips : za .strip ≡ zb .strip
-    strips = same-strip 4 (omega arith) marks s short (returned (readNumbers a) t1) (returned (readNumbers b) t2) (za .strip) (zb .strip) (za .reached) (zb .reached)
-
-    mendeds : readNumbers a .mended ≡ readNumbers b .mended
-    mendeds = za .mended-is ∙ ap (mendedOf 4 marks s) strips ∙ sym (zb .mended-is)
-
-    wides : readNumbers a .width ≡ readNumbers b .width
-    wides = ap (λ (l : Level). l .width) level
-
-    highs : readNumbers a .height ≡ readNumbers b .height
-    highs = ap (λ (l : Level). l .height) level
-
-    read-numbers : readNumbers a ≡ readNumbers b
-    read-numbers =
-        same-numbers (readNumbers a) (readNumbers b) codes lanes wides highs (ap (λ (l : Level). l .par) level) mendeds
-        (za .wear-is ∙ ap (λ (m : ℕ). wearOf m (length s)) mendeds ∙ sym (zb .wear-is))
-
-    read-tiles : t1 ≡ t2
-    read-tiles =
-        sym (take-append-drop (readNumbers a .width * readNumbers a .height) t1)
-        ∙ ap₂ (λ (x y : List ℕ). x ++ y) (ap (λ (l : Level). l .tiles) level)
-        (za .rest ∙ ap (λ (n : ℕ). drop n tiles) area ∙ sym (zb .rest))
-        ∙ take-append-drop (readNumbers b .width * readNumbers b .height) t2
-      where
-        area : readNumbers a .width * readNumbers a .height ≡ readNumbers b .width * readNumbers b .height
-        area = ap₂ (λ (x y : ℕ). x * y) wides highs
-
-  pub strip-reads-fixed : (t1 ≡ t2) × (readNumbers a ≡ readNumbers b)
-  strip-reads-fixed = (
-    either (t1 ≡ t2) (readNumbers a .code) read-tiles (λ n. A .tiles-kept n ∙ sym (B .tiles-kept (λ z. n (codes ∙ z)))),
-    either (readNumbers a ≡ readNumbers b) (readNumbers a .code) read-numbers (λ n.
-        let x = zeros a n in
-        let y = zeros b (λ z. n (codes ∙ z)) in
-        same-numbers (readNumbers a) (readNumbers b) codes lanes (x .0 ∙ sym (y .0)) (x .1 ∙ sym (y .1)) (x .2 ∙ sym (y .2)) (x .3 ∙ sym (y .3)) (x .4 ∙ sym (y .4))),
+  -- The writer's promise fixes every number and byte.
+  pub strip-writes-fixed : (l : Level) (old u v : List ℕ) (a b : Written) → StripWritesAs R l old u a → StripWritesAs R l old v b
+      → (u ≡ v) × (writtenNumbers a ≡ writtenNumbers b)
+  strip-writes-fixed l old u v a b A B = (
+    either (u ≡ v) (writtenNumbers a .code) same (λ n. A .kept n ∙ sym (B .kept (λ z. n (codes ∙ z)))),
+    decided (writtenNumbers a) (writtenNumbers b) (written-zero a) (written-zero b) codes (λ z. A .value z ∙ sym (B .value (sym codes ∙ z))),
   )
+    where
+      codes : writtenNumbers a .code ≡ writtenNumbers b .code
+      codes = first-fixes (writingLevel 384 l (length old)) (writtenNumbers a .code) (writtenNumbers b .code) (A .code) (B .code)
 
--- ---- writing
+      same : writtenNumbers a .code ≡ 0 → u ≡ v
+      same z =
+          let il = written-level l 384 (length old) (writtenNumbers a .code) z (A .code) .1 in
+          sym (take-append-drop (stripLength R l) u)
+          ∙ ap₂ (λ (x y : List ℕ). x ++ y)
+          (levels.one-strip gf256 field256 R some l (take (stripLength R l) u) (take (stripLength R l) v) il
+          (omega (arith, short, columns-more R some (recordLength (l .width) (l .height)) 364 (record-fits l il .1))) (A .strip z) (B .strip (sym codes ∙ z)))
+          (A .past z ∙ sym (B .past (sym codes ∙ z)))
+          ∙ take-append-drop (stripLength R l) v
 
--- The promise of the writer fixes every number and byte.
-pub strip-writes-fixed : (w h par : ℕ) (tiles old u v : List ℕ) (a b : Written) → StripWritesAs w h par tiles old u a → StripWritesAs w h par tiles old v b
-    → (u ≡ v) × (writtenNumbers a ≡ writtenNumbers b)
-strip-writes-fixed w h par tiles old u v a b A B = (
-  either (u ≡ v) (writtenNumbers a .code) same (λ n. A .kept n ∙ sym (B .kept (λ z. n (codes' ∙ z)))),
-  decided (writtenNumbers a) (writtenNumbers b) (written-zero a) (written-zero b) codes' (λ z. A .value z ∙ sym (B .value (sym codes' ∙ z))),
-)
-  where
-    codes' : writtenNumbers a .code ≡ writtenNumbers b .code
-    codes' = first-fixes (writingLevel 384 w h par tiles (length old)) (writtenNumbers a .code) (writtenNumbers b .code) (A .code) (B .code)
+  -- Each level is written, and nothing else is.
+  pub level-strip-written : (l : Level) (old new : List ℕ) (a : Written) → IsLevel l → 384 ≤ length old → StripWritesAs R l old new a → writtenNumbers a .code ≡ 0
+  level-strip-written l old new a il room A =
+      first-fixes (writingLevel 384 l (length old)) (writtenNumbers a .code) 0 (A .code) (level-written l 384 (length old) room il)
 
-    is-level : writtenNumbers a .code ≡ 0 → IsLevel (lent w h par tiles)
-    is-level z = go (A .code)
-      where
-        go : First (writingLevel 384 w h par tiles (length old)) (writtenNumbers a .code) → IsLevel (lent w h par tiles)
-        go (inl p) = absurd (omega (arith, z, p .1))
-        go (inr p) = lent-level w h par tiles (writtenNumbers a .code) z (p .1)
+  pub written-strip-level : (l : Level) (old new : List ℕ) (a : Written) → StripWritesAs R l old new a → writtenNumbers a .code ≡ 0 → IsLevel l
+  written-strip-level l old new a A z = written-level l 384 (length old) (writtenNumbers a .code) z (A .code) .1
 
-    same : writtenNumbers a .code ≡ 0 → u ≡ v
-    same z =
-        sym (take-append-drop (stripLength w h) u)
-        ∙ ap₂ (λ (x y : List ℕ). x ++ y)
-        (levels.one-strip 4 (omega arith) (lent w h par tiles) (take (stripLength w h) u) (take (stripLength w h) v) (is-level z) (A .strip z) (B .strip (sym codes' ∙ z))
-        (omega (arith, strip-fits (lent w h par tiles) (is-level z))))
-        (A .past z ∙ sym (B .past (sym codes' ∙ z)))
-        ∙ take-append-drop (stripLength w h) v
+  -- ---- read back
 
--- "each width, height, par and tiles within the ranges that make a level are written"
-pub level-strip-written : (l : Level) (old new : List ℕ) (a : Written) → IsLevel l → 384 ≤ length old → StripWritesAs (l .width) (l .height) (l .par) (l .tiles) old new a
-    → (writtenNumbers a .code ≡ 0) × IsStrip 4 l (take (stripLength (l .width) (l .height)) new)
-level-strip-written l old new a il room A = (z, A .strip z)
-  where
-    z : writtenNumbers a .code ≡ 0
-    z =
-        first-fixes (writingLevel 384 (l .width) (l .height) (l .par) (l .tiles) (length old)) (writtenNumbers a .code) 0 (A .code)
-        (inr (room, inr (record { sized = il .sized; par-small = il .par-small }, inr (il .count, inr (il .codes, inr (il .playable, refl))))))
-
--- and nothing else is
-pub written-strip-level : (w h par : ℕ) (tiles old new : List ℕ) (a : Written) → StripWritesAs w h par tiles old new a → writtenNumbers a .code ≡ 0 → IsLevel (lent w h par tiles)
-written-strip-level w h par tiles old new a A z = go (A .code)
-  where
-    go : First (writingLevel 384 w h par tiles (length old)) (writtenNumbers a .code) → IsLevel (lent w h par tiles)
-    go (inl p) = absurd (omega (arith, z, p .1))
-    go (inr p) = lent-level w h par tiles (writtenNumbers a .code) z (p .1)
-
--- ---- read back
-
--- a strip with no marks is within reach of itself, and nothing in it is mended
-module _ (marks s : List ℕ) (none : (p : ℕ) → p < length marks → getD marks p 0 ≡ 0) (matched : length marks ≡ length s) where
-  unmarked : (j i : ℕ) → j < 4 → i < length s / 4 → T (not (isMarked (lane 4 j marks) i))
-  unmarked j i h k =
-      subst (λ (m : ℕ). T (not (not (eqb m 0)))) (sym (getD-lane 4 (omega arith) j marks i (omega (arith, matched)) ∙ none (4 * i + j) (omega (arith, matched)))) tt
-
-  alike : (j n : ℕ) → countTo (differsAt (lane 4 j marks) (lane 4 j s) (lane 4 j s)) n ≡ 0
-  alike j n = count-none (differsAt (lane 4 j marks) (lane 4 j s) (lane 4 j s)) n (λ p l. not-differs (lane 4 j marks) (lane 4 j s) (lane 4 j s) p refl)
-
-  at-home : (j : ℕ) → j < 4 → Reach (lane 4 j marks) (lane 4 j s) (lane 4 j s)
-  at-home j h = record {
-    same-length = refl;
-    few = omega (
-      arith,
-      alike j (length (lane 4 j s)),
-      count-none (isMarked (lane 4 j marks)) (length (lane 4 j s)) (λ i l. unmarked j i h (omega (arith, length-lane 4 (omega arith) j s))),
-    );
-  }
-
-  nothing-mended : mendedOf 4 marks s s ≡ 0
-  unfolding mendedOf sumOf
-  nothing-mended = omega (arith, alike 0 (length s / 4), alike 1 (length s / 4), alike 2 (length s / 4), alike 3 (length s / 4))
-
--- Reading what was written gives the level back.
-pub strip-read-back : (w h par : ℕ) (lent-tiles old new : List ℕ) (b : Written) → StripWritesAs w h par lent-tiles old new b → writtenNumbers b .code ≡ 0
-    → (marks tiles tiles' scratch scratch' : List ℕ) (a : Reading) → StripReadsAs (take (stripLength w h) new) marks tiles tiles' scratch scratch' a
-    → length marks ≡ stripLength w h → ((p : ℕ) → p < length marks → getD marks p 0 ≡ 0) → 961 ≤ length tiles → 384 ≤ length scratch
-    → (readNumbers a .code ≡ 0) × (returned (readNumbers a) tiles' ≡ lent w h par lent-tiles) × (readNumbers a .mended ≡ 0)
-strip-read-back w h par lent-tiles old new b W zb marks tiles tiles' scratch scratch' a A em none room room' =
-    (z, sym (A .level z .only l s at), A .level z .mended-is ∙ ap (mendedOf 4 marks s) (sym strips) ∙ nothing-mended marks s none matched)
-  where
-    l : Level
-    l = lent w h par lent-tiles
-
-    s : List ℕ
-    s = take (stripLength w h) new
+  -- A strip that was written, with damage within reach in every lane, gives its level; mended is the number of unmarked cells that changed.
+  module _ (l : Level) (old new : List ℕ) (b : Written) (W : StripWritesAs R l old new b) (zb : writtenNumbers b .code ≡ 0)
+      (s marks tiles tiles' scratch scratch' : List ℕ) (a : Reading) (A : StripReadsAs R s marks tiles tiles' scratch scratch' a)
+      (matched : length marks ≡ length s) (good : GoodMarks marks) (room : 961 ≤ length tiles) (room' : 384 ≤ length scratch)
+      (reach : StripReach R marks s (take (stripLength R l) new)) where
+    written : List ℕ
+    written = take (stripLength R l) new
 
     il : IsLevel l
-    il = written-strip-level w h par lent-tiles old new b W zb
+    il = written-strip-level l old new b W zb
 
-    long : length (take (stripLength w h) new) ≡ stripLength w h
-    long = W .strip zb .size
+    size : length (take (stripLength R l) new) ≡ stripLength R l
+    size = alike.written-size R some l new (W .strip zb)
 
-    matched : length marks ≡ length (take (stripLength w h) new)
-    matched = em ∙ sym long
+    full : length s ≡ R * (columns R (recordLength (l .width) (l .height)) + 5)
+    full = sym (reach .same-length) ∙ size
 
-    fits : (recordLength w h ≤ 364) × (columns 4 (recordLength w h) ≤ 91)
-    fits = strip-fits (lent w h par lent-tiles) il
+    fits : (columns R 4 ≤ columns R (recordLength (l .width) (l .height))) × (columns R (recordLength (l .width) (l .height)) ≤ columns R 364)
+    fits =
+        let f = record-fits l il in
+        (columns-more R some 4 (recordLength (l .width) (l .height)) (f .0), columns-more R some (recordLength (l .width) (l .height)) 364 (f .1))
 
-    legal : Legal 4 (length (take (stripLength w h) new))
-    legal = record { k = columns 4 (recordLength w h); from = omega arith; to = omega (arith, fits); cells = long }
+    legal : Legal R (length s)
+    legal = record { k = columns R (recordLength (l .width) (l .height)); from = fits .0; to = fits .1; cells = full }
 
-    at : Reached 4 marks (take (stripLength w h) new) (lent w h par lent-tiles) (take (stripLength w h) new)
-    at = record { is-level = il; is-strip = W .strip zb; reach = record { same-length = refl; each = at-home marks (take (stripLength w h) new) none matched } }
+    entered : Hold (entering R s marks (length tiles) (length scratch))
+    entered = (legal, (matched, (good, (room, (room', tt)))))
 
-    good : GoodMarks marks
-    good p k = omega (arith, none p k)
+    at : Reached gf256 R marks s l (take (stripLength R l) new)
+    at = record { is-level = il; is-strip = W .strip zb; reach = reach }
 
-    z : readNumbers a .code ≡ 0
-    z = read-when-reached (take (stripLength w h) new) marks tiles tiles' scratch scratch' legal matched good room room' a A (lent w h par lent-tiles) (take (stripLength w h) new) at
+    z : stripNumbers a .code ≡ 0
+    z = read-when-reached s marks tiles tiles' scratch scratch' entered a A l (take (stripLength R l) new) at
 
-    strips : take (stripLength w h) new ≡ A .level z .strip
+    strips : A .level z .strip ≡ take (stripLength R l) new
     strips =
-        same-strip 4 (omega arith) marks (take (stripLength w h) new) (omega (arith, long, fits)) (lent w h par lent-tiles) (returned (readNumbers a) tiles') (take (stripLength w h) new)
-        (A .level z .strip) at (A .level z .reached)
+        same-strip gf256 field256 R some marks s (columns R (recordLength (l .width) (l .height)) + 5) full (omega (arith, fits, short)) (returned (stripNumbers a) tiles') l
+        (A .level z .strip) (take (stripLength R l) new) (A .level z .reached) at
+
+    pub damaged-read-back : (stripNumbers a .code ≡ 0) × (returned (stripNumbers a) tiles' ≡ l) × (stripNumbers a .mended ≡ differing marks s (take (stripLength R l) new))
+    damaged-read-back = (
+      z,
+      sym (A .level z .only l (take (stripLength R l) new) at),
+      A .level z .mended-is ∙ ap (mendedOf R marks s) strips
+          ∙ levels.mended-differing R some marks s (take (stripLength R l) new) (columns R (recordLength (l .width) (l .height)) + 5) full matched (reach .same-length),
+    )
+
+  -- Reading what was written, with no marks, gives the level back; nothing is mended.
+  pub strip-read-back : (l : Level) (old new : List ℕ) (b : Written) → StripWritesAs R l old new b → writtenNumbers b .code ≡ 0
+      → (marks tiles tiles' scratch scratch' : List ℕ) (a : Reading) → StripReadsAs R (take (stripLength R l) new) marks tiles tiles' scratch scratch' a
+      → length marks ≡ stripLength R l → ((p : ℕ) → getD marks p 0 ≡ 0) → 961 ≤ length tiles → 384 ≤ length scratch
+      → (stripNumbers a .code ≡ 0) × (returned (stripNumbers a) tiles' ≡ l) × (stripNumbers a .mended ≡ 0)
+  strip-read-back l old new b W zb marks tiles tiles' scratch scratch' a A em none room room' =
+      let s = take (stripLength R l) new in
+      let e = alike.written-size R some l new (W .strip zb) in
+      let d = damaged-read-back l old new b W zb s marks tiles tiles' scratch scratch' a A (em ∙ sym e) (λ p k. omega (arith, none p)) room room'
+      (alike.at-home R some marks s none) in
+      (d .0, d .1, d .2 ∙ alike.nothing-differs marks s)

@@ -6,8 +6,11 @@ ghost use Rattle.account.specs.Reach.{countTo, isMarked};
 ghost use Rattle.rules.specs.Says.{Says};
 ghost use Rattle.level.specs.Strip.{Legal, wearOf};
 ghost use Rattle.lanes.specs.Lanes.{Ready, MendedAs};
-ghost use Rattle.strip.specs.Reading.{readNumbers, EntersAs, FinishedAs, StripReadsAs};
-use code::repair::Entered;
+ghost use Rattle.strip.specs.Reading.{stripNumbers, StripEntersAs, FinishedAs, StripReadsAs};
+use level::SCRATCH_LEAST;
+use level::STRIP_LEAST;
+use level::STRIP_MOST;
+use level::TILES_MOST;
 
 // What reading answers: the level's numbers with what was mended, or a refusal's number and lane.
 pub enum Reading {
@@ -28,10 +31,10 @@ pub enum Reading {
 fn legal(n: usize) -> bool
     ensures { λ r. ⌜ Says r (Legal 4 n) ⌝ }
 {
-    if n < 24 {
+    if n < STRIP_LEAST {
         return false;
     }
-    if 384 < n {
+    if STRIP_MOST < n {
         return false;
     }
     if n % 4 != 0 {
@@ -41,8 +44,13 @@ fn legal(n: usize) -> bool
 }
 
 // Refusals 1 to 5, and how many cells are marked.
+pub struct Entered {
+    pub code: u8,
+    pub marked: usize,
+}
+
 fn enter(strip: &[u8], marks: &[u8], tiles: usize, scratch: usize) -> Entered
-    ensures { λ r. ⌜ EntersAs (now (strip .entry)) (now (marks .entry)) tiles scratch r ⌝ }
+    ensures { λ r. ⌜ StripEntersAs 4 (now (strip .entry)) (now (marks .entry)) tiles scratch r ⌝ }
 {
     if !legal(strip.len()) {
         return Entered { code: 1, marked: 0 };
@@ -50,15 +58,15 @@ fn enter(strip: &[u8], marks: &[u8], tiles: usize, scratch: usize) -> Entered
     if marks.len() != strip.len() {
         return Entered { code: 2, marked: 0 };
     }
-    let t = code::repair::tally(marks);
+    let t = code::marks::tally(marks);
     let any = t.any;
     if 1 < any {
         return Entered { code: 3, marked: 0 };
     }
-    if tiles < 961 {
+    if tiles < TILES_MOST {
         return Entered { code: 4, marked: 0 };
     }
-    if scratch < 384 {
+    if scratch < SCRATCH_LEAST {
         return Entered { code: 5, marked: 0 };
     }
     let marked = t.sum;
@@ -75,18 +83,18 @@ fn wear(mended: usize, n: usize) -> usize
 
 // The strip mended in the scratch. All lanes are tested in one pass first.
 fn mend(strip: &[u8], marks: &[u8], f: usize, scratch: &mut [u8]) -> lanes::Mending
-    requires { ⌜ Ready (now strip) (now marks) (length (now scratch)) × (f ≡ countTo (isMarked (now marks)) (length (now marks))) ⌝ }
-    ensures { λ r. ⌜ MendedAs (now (strip .entry)) (now (marks .entry)) (now (scratch .exit)) r ⌝ }
+    requires { ⌜ Ready 4 (now strip) (now marks) (length (now scratch)) × (f ≡ countTo (isMarked (now marks)) (length (now marks))) ⌝ }
+    ensures { λ r. ⌜ MendedAs 4 (now (strip .entry)) (now (marks .entry)) (now (scratch .exit)) r ⌝ }
 {
-    let r = remainder::remainders_of(strip);
+    let clean = code::lanes::test(strip);
     rules::copy(strip, scratch);
-    lanes::mend(strip, marks, f, r, scratch)
+    lanes::mend(strip, marks, f, clean, scratch)
 }
 
 // The record in the data cells of a strip of n cells of which so many were mended.
 fn finish(bs: &[u8], n: usize, mended: usize, tiles: &mut [u8]) -> Reading
     requires { ⌜ (4 ≤ length (now bs)) × (length (now bs) ≤ 364) × (961 ≤ length (now tiles)) × (mended ≤ 8) × (24 ≤ n) × (n ≤ 384) ⌝ }
-    ensures { λ r. ⌜ FinishedAs (now (bs .entry)) n mended (now (tiles .entry)) (now (tiles .exit)) (readNumbers r) ⌝ }
+    ensures { λ r. ⌜ FinishedAs 4 (now (bs .entry)) n mended (now (tiles .entry)) (now (tiles .exit)) (stripNumbers r) ⌝ }
 {
     let j = record::read::accept(bs, 4, tiles);
     let code = j.code;
@@ -104,7 +112,7 @@ fn finish(bs: &[u8], n: usize, mended: usize, tiles: &mut [u8]) -> Reading
 
 // Reads a strip: the level within reach, or a refusal. The strip and its marks are not written to.
 pub fn read(strip: &[u8], marks: &[u8], tiles: &mut [u8], scratch: &mut [u8]) -> Reading
-    ensures { λ r. ⌜ StripReadsAs (now (strip .entry)) (now (marks .entry)) (now (tiles .entry)) (now (tiles .exit)) (now (scratch .entry)) (now (scratch .exit)) r ⌝ }
+    ensures { λ r. ⌜ StripReadsAs 4 (now (strip .entry)) (now (marks .entry)) (now (tiles .entry)) (now (tiles .exit)) (now (scratch .entry)) (now (scratch .exit)) r ⌝ }
 {
     let entered = enter(strip, marks, tiles.len(), scratch.len());
     let code = entered.code;

@@ -7,18 +7,15 @@ use Rattle.lanes.proofs.mend.Statement.{statement}
 use Rattle.lanes.proofs.mend.Tie as tie
 
 abbrev Inv-loop : tie.InvT-loop
-Inv-loop strip marks f x₀ r mended₀ l₀ x mended l = Sofar strip marks x₀ x mended l
+Inv-loop strip marks f x₀ clean mended₀ l₀ x mended l = Sofar strip marks x₀ x mended l
 
 abbrev μ-loop : tie.MeasureT-loop
-μ-loop strip marks f x₀ r mended₀ l₀ x mended l = 4 - l
+μ-loop strip marks f x₀ clean mended₀ l₀ x mended l = 4 - l
 
 loop-holds : tie.Need-loop-holds Inv-loop μ-loop
 loop-holds c =
     let a = c .before .before .before .args in
     sofar-0 (a .strip .now) (a .marks .now) (a .x .now) (record { cell = λ j h. omega (arith, c .slice-known .given j) }) (c .before .before .before .pre .3)
-
-mul-mend-one : tie.Need-mul-mend-one Inv-loop μ-loop
-mul-mend-one c = search needs
 
 array-read-mend-one : tie.Need-array-read-mend-one Inv-loop μ-loop
 array-read-mend-one c = search needs
@@ -27,7 +24,7 @@ mend-one-requires : tie.Need-mend-one-requires Inv-loop μ-loop
 mend-one-requires c κs =
     let l = c .before .before .loop in
     let p = c .before .before .before .before .before .before .pre in
-    (omega arith, record { legal = p .0 .legal; matched = p .0 .matched; good = p .0 .good; room = omega (arith, p .0 .room, l .inv .long) }, p .1, p .2 (l .l) (omega arith), l .inv .later (l .l) (omega arith) (omega arith))
+    (omega arith, record { legal = p .0 .legal; matched = p .0 .matched; good = p .0 .good; fits = omega (arith, p .0 .fits, l .inv .long) }, p .1, p .2 (l .l) (omega arith), l .inv .later (l .l) (omega arith) (omega arith))
 
 same-length : tie.Need-same-length Inv-loop μ-loop
 same-length c = search needs
@@ -76,7 +73,6 @@ mend-spec =
     Inv-loop
     μ-loop
     loop-holds
-    mul-mend-one
     array-read-mend-one
     mend-one-requires
     same-length

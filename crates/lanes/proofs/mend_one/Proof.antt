@@ -1,5 +1,7 @@
 use Rattle.account.specs.Lanes.{lane}
-use Rattle.remainder.proofs.Whole.{none-is-clean}
+use Rattle.account.specs.Code.{Clean}
+use Rattle.gf256.specs.Gf256.{gf256}
+use Rattle.rules.proofs.Tests.{said}
 use Rattle.lanes.proofs.Repairs.{clean-lane}
 use borrow.Author.Needs.{needs}
 use Rattle.lanes.proofs.mend_one.Statement.{statement}
@@ -12,7 +14,7 @@ returns : tie.Need-returns
 returns c =
     let a = c .before .before .before .before .before .args in
     let p = c .before .before .before .before .before .pre in
-    clean-lane (a .strip .now) (a .marks .now) (a .l) (a .x .now) (p .4) (none-is-clean (lane 4 (a .l) (a .strip .now)) (a .r) (p .3) (c .before .if1 .taken)) (p .1 .matched) (c .few-marked .result) (c .few-marked .ensures)
+    clean-lane (a .strip .now) (a .marks .now) (a .l) (a .x .now) (p .4) (said (Clean gf256 (lane 4 (a .l) (a .strip .now))) (a .clean) (c .before .if1 .taken) (p .3)) (p .1 .matched) (c .few-marked .result) (c .few-marked .ensures)
 
 repair-one-requires : tie.Need-repair-one-requires
 repair-one-requires c κs = search needs

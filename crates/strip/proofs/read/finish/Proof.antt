@@ -13,7 +13,7 @@ returns : tie.Need-returns
 returns c =
     let a = c .before .before .before .before .before .before .before .args in
     let j = c .before .before .before .accept in
-    finish-refused (a .bs .now) (a .tiles .now) _ (a .n) (a .mended) (j .result) (j .ensures) (c .if1 .taken)
+    finish-refused 4 (a .bs .now) (a .tiles .now) _ (a .n) (a .mended) (j .result) (j .ensures) (c .if1 .taken)
 
 wear-requires : tie.Need-wear-requires
 wear-requires c κs = search needs
@@ -25,7 +25,7 @@ returns-2 : tie.Need-returns-2
 returns-2 c =
     let a = c .before .before .before .before .before .before .before .before .args in
     let j = c .before .before .before .before .accept in
-    finish-read (a .bs .now) (a .tiles .now) _ (a .n) (a .mended) (j .result) (j .ensures) (c .wear .result) (c .before .if1 .left) (c .wear .ensures)
+    finish-read 4 (a .bs .now) (a .tiles .now) _ (a .n) (a .mended) (j .result) (j .ensures) (c .wear .result) (c .before .if1 .left) (c .wear .ensures)
 
 pub finish-spec : {M : Type 1} → statement M
 finish-spec =

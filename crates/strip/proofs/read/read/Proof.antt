@@ -4,8 +4,8 @@ use Prim.Native.Nat.{ℕ, _-_, _≤_}
 use mathlib.Core.Path.{_≡_, sym, subst, _∙_}
 use mathlib.Core.List.{List}
 use native.Mathlib.Omega.{arith}
-use Rattle.strip.specs.Reading.{FinishedAs, readNumbers}
-use Rattle.strip.proofs.Entering.{ready}
+use Rattle.strip.specs.Reading.{FinishedAs, stripNumbers}
+use Rattle.strip.proofs.Entering.{entered, ready}
 use Rattle.strip.proofs.Reader.{early-as, lane-as, finished-as, data-lent}
 use borrow.Author.Needs.{needs}
 use Rattle.strip.proofs.read.read.Statement.{statement}
@@ -17,14 +17,14 @@ enter-requires c κs = search needs
 returns : tie.Need-returns
 returns c =
     let a = c .before .before .before .before .before .before .args in
-    early-as (a .strip .now) (a .marks .now) (a .tiles .now) (a .scratch .now) (c .before .enter .result .code) (c .if1 .taken) (c .before .enter .ensures .first)
+    early-as 4 (a .strip .now) (a .marks .now) (a .tiles .now) (a .scratch .now) (c .before .enter .result .code) (c .if1 .taken) (c .before .enter .ensures .first)
 
 mend-requires : tie.Need-mend-requires
 mend-requires c κs =
     let a = c .before .before .before .before .before .before .before .args in
     let g = c .before .before .enter in
     let z = c .before .if1 .left in
-    (ready (a .strip .now) (a .marks .now) (length (a .tiles .now)) (length (a .scratch .now)) (g .result .code) z (g .ensures .first) .0, g .ensures .count z)
+    (ready (a .strip .now) (a .marks .now) (length (a .tiles .now)) (length (a .scratch .now)) (entered (a .strip .now) (a .marks .now) (length (a .tiles .now)) (length (a .scratch .now)) (g .result .code) z (g .ensures .first)), g .ensures .count z)
 
 same-length : tie.Need-same-length
 same-length c = search needs
@@ -34,15 +34,17 @@ returns-2 c =
     let a = c .before .before .before .before .before .before .before .before .before .before .before .args in
     let g = c .before .before .before .before .before .before .enter in
     let z = c .before .before .before .before .before .if1 .left in
-    let r = ready (a .strip .now) (a .marks .now) (length (a .tiles .now)) (length (a .scratch .now)) (g .result .code) z (g .ensures .first) in
-    lane-as (a .strip .now) (a .marks .now) (a .tiles .now) (a .scratch .now) (r .0) (r .1) _ (c .before .before .before .mend .result .beyond) (c .before .before .before .mend .ensures .lost (omega arith))
+    let h = entered (a .strip .now) (a .marks .now) (length (a .tiles .now)) (length (a .scratch .now)) (g .result .code) z (g .ensures .first) in
+    let r = ready (a .strip .now) (a .marks .now) (length (a .tiles .now)) (length (a .scratch .now)) h in
+    lane-as 4 (a .strip .now) (a .marks .now) (a .tiles .now) (a .scratch .now) (omega arith) (omega arith) _ h (c .before .before .before .mend .result .beyond) (c .before .before .before .mend .ensures .lost (omega arith))
 
 sub-finish : tie.Need-sub-finish
 sub-finish c =
     let a = c .before .before .before .before .before .before .before .before .before .before .before .args in
     let g = c .before .before .before .before .before .before .enter in
-    let r = ready (a .strip .now) (a .marks .now) (length (a .tiles .now)) (length (a .scratch .now)) (g .result .code) (c .before .before .before .before .before .if1 .left) (g .ensures .first) in
-    omega (arith, r .0 .legal .from, r .0 .legal .cells)
+    let h = entered (a .strip .now) (a .marks .now) (length (a .tiles .now)) (length (a .scratch .now)) (g .result .code) (c .before .before .before .before .before .if1 .left) (g .ensures .first) in
+    let r = ready (a .strip .now) (a .marks .now) (length (a .tiles .now)) (length (a .scratch .now)) h in
+    omega (arith, r .legal .from, r .legal .cells)
 
 sub-finish-2 : tie.Need-sub-finish-2
 sub-finish-2 c = search needs
@@ -54,19 +56,21 @@ part-finish-end : tie.Need-part-finish-end
 part-finish-end c =
     let a = c .before .before .before .before .before .before .before .before .before .before .before .before .args in
     let g = c .before .before .before .before .before .before .before .enter in
-    let r = ready (a .strip .now) (a .marks .now) (length (a .tiles .now)) (length (a .scratch .now)) (g .result .code) (c .before .before .before .before .before .before .if1 .left) (g .ensures .first) in
+    let h = entered (a .strip .now) (a .marks .now) (length (a .tiles .now)) (length (a .scratch .now)) (g .result .code) (c .before .before .before .before .before .before .if1 .left) (g .ensures .first) in
+    let r = ready (a .strip .now) (a .marks .now) (length (a .tiles .now)) (length (a .scratch .now)) h in
     let e : length (c .before .before .before .before .mend .last .1 .1 .1 .0) ≡ length (a .scratch .now) = search needs in
-    omega (arith, r .0 .legal .to, r .0 .legal .cells, r .0 .room)
+    omega (arith, r .legal .to, r .legal .cells, h .1 .1 .1 .1 .0)
 
 finish-requires : tie.Need-finish-requires
 finish-requires c κs =
     let a = c .before .before .before .before .before .before .before .before .before .before .before .before .before .before .args in
     let g = c .before .before .before .before .before .before .before .before .before .enter in
-    let r = ready (a .strip .now) (a .marks .now) (length (a .tiles .now)) (length (a .scratch .now)) (g .result .code) (c .before .before .before .before .before .before .before .before .if1 .left) (g .ensures .first) in
+    let h = entered (a .strip .now) (a .marks .now) (length (a .tiles .now)) (length (a .scratch .now)) (g .result .code) (c .before .before .before .before .before .before .before .before .if1 .left) (g .ensures .first) in
+    let r = ready (a .strip .now) (a .marks .now) (length (a .tiles .now)) (length (a .scratch .now)) h in
     let x = c .before .before .before .before .before .before .mend .last .1 .1 .1 .0 in
     let e : length x ≡ length (a .scratch .now) = search needs in
-    let l : length (take (length (a .strip .now) - 20 - 0) x) ≡ length (a .strip .now) - 20 = length-take-le (length (a .strip .now) - 20 - 0) x (omega (arith, r .0 .legal .to, r .0 .legal .cells, r .0 .room, e)) ∙ omega arith in
-    (omega (arith, l, r .0 .legal .from, r .0 .legal .cells), omega (arith, l, r .0 .legal .to, r .0 .legal .cells), r .1, c .before .before .before .before .before .before .mend .ensures .small, omega (arith, r .0 .legal .from, r .0 .legal .cells), omega (arith, r .0 .legal .to, r .0 .legal .cells))
+    let l : length (take (length (a .strip .now) - 20 - 0) x) ≡ length (a .strip .now) - 20 = length-take-le (length (a .strip .now) - 20 - 0) x (omega (arith, r .legal .to, r .legal .cells, h .1 .1 .1 .1 .0, e)) ∙ omega arith in
+    (omega (arith, l, r .legal .from, r .legal .cells), omega (arith, l, r .legal .to, r .legal .cells), h .1 .1 .1 .0, c .before .before .before .before .before .before .mend .ensures .small, omega (arith, r .legal .from, r .legal .cells), omega (arith, r .legal .to, r .legal .cells))
 
 same-length-2 : tie.Need-same-length-2
 same-length-2 c = search needs
@@ -78,16 +82,17 @@ returns-3 : tie.Need-returns-3
 returns-3 c =
     let a = c .before .before .before .before .before .before .before .before .before .before .before .before .before .before .before .before .before .args in
     let g = c .before .before .before .before .before .before .before .before .before .before .before .before .enter in
-    let r = ready (a .strip .now) (a .marks .now) (length (a .tiles .now)) (length (a .scratch .now)) (g .result .code) (c .before .before .before .before .before .before .before .before .before .before .before .if1 .left) (g .ensures .first) in
+    let h = entered (a .strip .now) (a .marks .now) (length (a .tiles .now)) (length (a .scratch .now)) (g .result .code) (c .before .before .before .before .before .before .before .before .before .before .before .if1 .left) (g .ensures .first) in
+    let r = ready (a .strip .now) (a .marks .now) (length (a .tiles .now)) (length (a .scratch .now)) h in
     let m = c .before .before .before .before .before .before .before .before .before .mend in
     let x = m .last .1 .1 .1 .0 in
     let f = c .before .before .finish in
     let four : 4 ≤ m .result .beyond = omega arith in
     let e : length x ≡ length (a .scratch .now) = search needs in
-    let d = data-lent (length (a .strip .now)) x (omega (arith, e, r .0 .legal .to, r .0 .legal .cells, r .0 .room)) in
-    finished-as (a .strip .now) (a .marks .now) (a .tiles .now) (a .scratch .now) (r .0) (r .1) x (take (length (a .strip .now)) x) (m .ensures .found four) (m .result .mended) (m .ensures .count four)
+    let d = data-lent (length (a .strip .now)) x (omega (arith, e, r .legal .to, r .legal .cells, h .1 .1 .1 .1 .0)) in
+    finished-as 4 (a .strip .now) (a .marks .now) (a .tiles .now) (a .scratch .now) (omega arith) (omega arith) x h (take (length (a .strip .now)) x) (m .ensures .found four) (m .result .mended) (m .ensures .count four)
     (f .last .1 .1 .1 .0) (f .result)
-    (subst (λ (bs : List ℕ). FinishedAs bs (length (a .strip .now)) (m .result .mended) (a .tiles .now) (f .last .1 .1 .1 .0) (readNumbers (f .result))) (sym d) (f .ensures))
+    (subst (λ (bs : List ℕ). FinishedAs 4 bs (length (a .strip .now)) (m .result .mended) (a .tiles .now) (f .last .1 .1 .1 .0) (stripNumbers (f .result))) (sym d) (f .ensures))
 
 pub read-spec : {M : Type 1} → statement M
 read-spec =

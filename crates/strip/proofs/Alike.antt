@@ -1,0 +1,217 @@
+-- Two readings of strips that are the same but for the bytes under marks; a strip beside itself.
+use mathlib.Core.Path.{_≡_, refl, sym, ap, ap₂, _∙_, subst}
+use mathlib.Core.Logic.{_≢_, _⊎_, inl, inr, ⊎-elim}
+use mathlib.Core.Bool.{not}
+use mathlib.Core.List.{List, _++_}
+use Prim.Native.Nat.{ℕ, _+_, _*_, _/_, _≤_, _<_}
+use native.Mathlib.Decide.{ℕ-discrete}
+use native.Mathlib.Omega.{arith}
+use lib.Dec.{T, eqb}
+use lib.ListN.{length, getD, take, drop, take-append-drop}
+use Rattle.account.specs.Lanes.{lane}
+use Rattle.account.specs.Reach.{countTo, differsAt, differing, isMarked, Reach, SameRead}
+use Rattle.account.proofs.Cells.{count-none, not-differs}
+use Rattle.account.proofs.Lanes.{length-lane, getD-lane, getD-past}
+use Rattle.gf256.specs.Gf256.{gf256}
+use Rattle.gf256.proofs.Field256.{field256}
+use Rattle.rules.specs.Refusal.{First, Hold, asked}
+use Rattle.rules.proofs.Laws.{first-fixes, all-hold, hold-both, parts, before, after, first-alike, asked-alike, Alike, at-most, either}
+use Rattle.level.specs.Level.{Level}
+use Rattle.level.specs.Strip.{columns, Legal, IsStrip, StripReach, Reached, Lowest, Mends, Mendable, mendedOf, wearOf}
+use Rattle.level.specs.Reading.{ReadNumbers, returned, entering, mending, judging, OfMended}
+use Rattle.level.proofs.Dealing.{lt-or-ge}
+use Rattle.level.proofs.Strips.{strip-size, same-strip}
+use Rattle.level.proofs.Unread.{same-reached, same-mends, same-mendable, same-mended, turned}
+use Rattle.strip.specs.declared.read.Reading.{Reading}
+use Rattle.strip.specs.Writing.{stripLength}
+use Rattle.strip.specs.Reading.{stripNumbers, LevelRead, StripReadsAs}
+use Rattle.strip.proofs.Reader.{zeros}
+
+-- ---- a strip beside itself
+
+pub written-size : (R : ℕ) → 0 < R → (l : Level) (new : List ℕ) → IsStrip gf256 R l (take (stripLength R l) new) → length (take (stripLength R l) new) ≡ stripLength R l
+written-size R some l new st = strip-size gf256 field256 R some l (take (stripLength R l) new) st
+
+pub nothing-differs : (marks s : List ℕ) → differing marks s s ≡ 0
+nothing-differs marks s = count-none (differsAt marks s s) (length s) (λ p l. not-differs marks s s p refl)
+
+pub at-home : (R : ℕ) → 0 < R → (marks s : List ℕ) → ((p : ℕ) → getD marks p 0 ≡ 0) → StripReach R marks s s
+at-home R some marks s none = record { same-length = refl; each = λ j h. each j }
+  where
+    unmarked : (j i : ℕ) → T (not (isMarked (lane R j marks) i))
+    unmarked j i =
+        subst (λ (m : ℕ). T (not (not (eqb m 0))))
+        (sym (⊎-elim (λ h. getD-lane R some j marks i h ∙ none (R * i + j)) (λ h. getD-past (lane R j marks) i (omega (arith, length-lane R some j marks))) (lt-or-ge i (length marks / R)))) tt
+
+    each : (j : ℕ) → Reach (lane R j marks) (lane R j s) (lane R j s)
+    each j = record {
+      same-length = refl;
+      few = omega (arith, nothing-differs (lane R j marks) (lane R j s), count-none (isMarked (lane R j marks)) (length (lane R j s)) (λ i l. unmarked j i));
+    }
+
+-- ---- the numbers of an answer
+
+abbrev numbers : ℕ → ℕ → ℕ → ℕ → ℕ → ℕ → ℕ → ReadNumbers
+numbers c l w h p m v = record { code = c; lane = l; width = w; height = h; par = p; mended = m; wear = v }
+
+same-numbers : (x y : ReadNumbers) → x .code ≡ y .code → x .lane ≡ y .lane → x .width ≡ y .width → x .height ≡ y .height → x .par ≡ y .par
+    → x .mended ≡ y .mended → x .wear ≡ y .wear → x ≡ y
+same-numbers x y c l w h p m v =
+    ap₂ (λ (i j : ℕ). numbers i j (x .width) (x .height) (x .par) (x .mended) (x .wear)) c l
+    ∙ ap₂ (λ (i j : ℕ). numbers (y .code) (y .lane) i j (x .par) (x .mended) (x .wear)) w h
+    ∙ ap₂ (λ (i j : ℕ). numbers (y .code) (y .lane) (y .width) (y .height) i j (x .wear)) p m
+    ∙ ap (λ (i : ℕ). numbers (y .code) (y .lane) (y .width) (y .height) (y .par) (y .mended) i) v
+
+-- ---- two readings
+
+module _ (R : ℕ) (some : 0 < R) (short : columns R 364 + 5 ≤ 255) (r s marks tiles t1 t2 u u' v v' : List ℕ) (same : SameRead marks r s) (eu : length u ≡ length v)
+    (a b : Reading) (A : StripReadsAs R r marks tiles t1 u u' a) (B : StripReadsAs R s marks tiles t2 v v' b) where
+  -- the same is asked before the pictures are looked at
+  enter-alike : Alike (entering R r marks (length tiles) (length u)) (entering R s marks (length tiles) (length v))
+  enter-alike = (
+    refl,
+    subst (Legal R) (same .same-length),
+    subst (Legal R) (sym (same .same-length)),
+    (
+      refl,
+      (λ e. e ∙ same .same-length),
+      (λ e. e ∙ sym (same .same-length)),
+      (
+        refl,
+        (λ g. g),
+        (λ g. g),
+        (refl, (λ g. g), (λ g. g), (refl, (λ g. omega (arith, eu)), (λ g. omega (arith, eu)), tt)),
+      ),
+    ),
+  )
+
+  -- and of the pictures
+  module _ (h : Hold (entering R r marks (length tiles) (length u))) where
+    full : length r ≡ R * (h .0 .k + 5)
+    full = h .0 .cells
+
+    full' : length s ≡ R * (h .0 .k + 5)
+    full' = sym (same .same-length) ∙ full
+
+    matched : length marks ≡ length r
+    matched = h .1 .0
+
+    matched' : length marks ≡ length s
+    matched' = h .1 .0 ∙ same .same-length
+
+    back : SameRead marks s r
+    back = turned marks r s same
+
+    mend-alike : Alike (mending gf256 R r marks) (mending gf256 R s marks)
+    mend-alike = (
+      refl,
+      (λ f j l. same-mendable R some marks r s (h .0 .k + 5) full matched same gf256 j (f j l)),
+      (λ f j l. same-mendable R some marks s r (h .0 .k + 5) full' matched' back gf256 j (f j l)),
+      asked-alike (OfMended gf256 R marks r) (OfMended gf256 R marks s) (judging R)
+          (λ ask f t M. f t (same-mends R some marks s r (h .0 .k + 5) full' matched' back gf256 t M))
+          (λ ask f t M. f t (same-mends R some marks r s (h .0 .k + 5) full matched same gf256 t M)),
+    )
+
+  entered : stripNumbers a .code ≡ 0 → Hold (entering R r marks (length tiles) (length u))
+  entered z =
+      hold-both (entering R r marks (length tiles) (length u)) (mending gf256 R r marks)
+      (all-hold 10 (entering R r marks (length tiles) (length u) ++ mending gf256 R r marks) (stripNumbers a .code) tt (A .code) z) .0
+
+  moved : First (entering R s marks (length tiles) (length v) ++ mending gf256 R s marks) (stripNumbers a .code)
+  moved = go (parts (entering R r marks (length tiles) (length u)) (mending gf256 R r marks) (stripNumbers a .code) (A .code))
+    where
+      go : ((Hold (entering R r marks (length tiles) (length u)) → ⊥) × First (entering R r marks (length tiles) (length u)) (stripNumbers a .code))
+          ⊎ (Hold (entering R r marks (length tiles) (length u)) × First (mending gf256 R r marks) (stripNumbers a .code))
+          → First (entering R s marks (length tiles) (length v) ++ mending gf256 R s marks) (stripNumbers a .code)
+      go (inl q) =
+          before (entering R s marks (length tiles) (length v)) (mending gf256 R s marks) (stripNumbers a .code) (λ z. q .0 (entered z))
+          (first-alike (entering R r marks (length tiles) (length u)) (entering R s marks (length tiles) (length v)) (stripNumbers a .code) enter-alike (q .1))
+      go (inr q) =
+          after (entering R s marks (length tiles) (length v)) (mending gf256 R s marks) (stripNumbers a .code)
+          (subst (Legal R) (same .same-length) (q .0 .0), (q .0 .1 .0 ∙ same .same-length, (q .0 .1 .1 .0, (q .0 .1 .1 .1 .0, (omega (arith, eu, q .0 .1 .1 .1 .1 .0), tt)))))
+          (first-alike (mending gf256 R r marks) (mending gf256 R s marks) (stripNumbers a .code) (mend-alike (q .0)) (q .1))
+
+  codes : stripNumbers a .code ≡ stripNumbers b .code
+  codes = first-fixes (entering R s marks (length tiles) (length v) ++ mending gf256 R s marks) (stripNumbers a .code) (stripNumbers b .code) moved (B .code)
+
+  -- the lowest lane is one
+  lowest : Hold (entering R r marks (length tiles) (length u)) → (i j : ℕ) → Lowest gf256 R marks r i → Lowest gf256 R marks s j → i ≡ j
+  lowest h i j p q =
+      ⊎-elim (λ l. absurd (p .beyond (to-r i (q .below i l)))) (λ g. ⊎-elim (λ l. absurd (q .beyond (to-s j (p .below j l)))) (λ k. omega arith) (lt-or-ge j i)) (lt-or-ge i j)
+    where
+      to-r : (n : ℕ) → Mendable gf256 R marks s n → Mendable gf256 R marks r n
+      to-r n = same-mendable R some marks s r (h .0 .k + 5) (full' h) (matched' h) (back h) gf256 n
+
+      to-s : (n : ℕ) → Mendable gf256 R marks r n → Mendable gf256 R marks s n
+      to-s n = same-mendable R some marks r s (h .0 .k + 5) (full h) (matched h) same gf256 n
+
+  -- 6 is told of a picture, not before
+  looked-at : stripNumbers a .code ≡ 6 → Hold (entering R r marks (length tiles) (length u))
+  looked-at e = go (parts (entering R r marks (length tiles) (length u)) (mending gf256 R r marks) (stripNumbers a .code) (A .code))
+    where
+      go : ((Hold (entering R r marks (length tiles) (length u)) → ⊥) × First (entering R r marks (length tiles) (length u)) (stripNumbers a .code))
+          ⊎ (Hold (entering R r marks (length tiles) (length u)) × First (mending gf256 R r marks) (stripNumbers a .code))
+          → Hold (entering R r marks (length tiles) (length u))
+      go (inl q) = absurd (omega (arith, e, at-most 5 (entering R r marks (length tiles) (length u)) (stripNumbers a .code) tt (q .1)))
+      go (inr q) = q .0
+
+  lanes : stripNumbers a .lane ≡ stripNumbers b .lane
+  lanes = go (ℕ-discrete (stripNumbers a .code) 6)
+    where
+      go : Dec (stripNumbers a .code ≡ 6) → stripNumbers a .lane ≡ stripNumbers b .lane
+      go (yes z) = lowest (looked-at z) (stripNumbers a .lane) (stripNumbers b .lane) (A .lane z) (B .lane (sym codes ∙ z))
+      go (no n) = A .other-lane n ∙ sym (B .other-lane (λ z. n (codes ∙ z)))
+
+  module _ (z : stripNumbers a .code ≡ 0) where
+    za : LevelRead gf256 R r marks tiles t1 (stripNumbers a)
+    za = A .level z
+
+    zb : LevelRead gf256 R s marks tiles t2 (stripNumbers b)
+    zb = B .level (sym codes ∙ z)
+
+    h : Hold (entering R r marks (length tiles) (length u))
+    h = entered z
+
+    reached : Reached gf256 R marks s (returned (stripNumbers a) t1) (za .strip)
+    reached = same-reached R some marks r s (h .0 .k + 5) (full h) (matched h) same gf256 (returned (stripNumbers a) t1) (za .strip) (za .reached)
+
+    level : returned (stripNumbers a) t1 ≡ returned (stripNumbers b) t2
+    level = zb .only (returned (stripNumbers a) t1) (za .strip) reached
+
+    strips : za .strip ≡ zb .strip
+    strips =
+        same-strip gf256 field256 R some marks s (h .0 .k + 5) (full' h) (omega (arith, h .0 .to, short)) (returned (stripNumbers a) t1) (returned (stripNumbers b) t2) (za .strip) (zb .strip)
+        reached (zb .reached)
+
+    mendeds : stripNumbers a .mended ≡ stripNumbers b .mended
+    mendeds = za .mended-is ∙ same-mended R some marks r s (h .0 .k + 5) (full h) (matched h) same (za .strip) ∙ ap (mendedOf R marks s) strips ∙ sym (zb .mended-is)
+
+    wides : stripNumbers a .width ≡ stripNumbers b .width
+    wides = ap (λ (l : Level). l .width) level
+
+    highs : stripNumbers a .height ≡ stripNumbers b .height
+    highs = ap (λ (l : Level). l .height) level
+
+    read-numbers : stripNumbers a ≡ stripNumbers b
+    read-numbers =
+        same-numbers (stripNumbers a) (stripNumbers b) codes lanes wides highs (ap (λ (l : Level). l .par) level) mendeds
+        (za .wear-is ∙ ap₂ (λ (m n : ℕ). wearOf m n) mendeds (same .same-length) ∙ sym (zb .wear-is))
+
+    read-tiles : t1 ≡ t2
+    read-tiles =
+        sym (take-append-drop (stripNumbers a .width * stripNumbers a .height) t1)
+        ∙ ap₂ (λ (x y : List ℕ). x ++ y) (ap (λ (l : Level). l .tiles) level)
+        (za .rest ∙ ap (λ (n : ℕ). drop n tiles) area ∙ sym (zb .rest))
+        ∙ take-append-drop (stripNumbers b .width * stripNumbers b .height) t2
+      where
+        area : stripNumbers a .width * stripNumbers a .height ≡ stripNumbers b .width * stripNumbers b .height
+        area = ap₂ (λ (x y : ℕ). x * y) wides highs
+
+  pub read-alike : (t1 ≡ t2) × (stripNumbers a ≡ stripNumbers b)
+  read-alike = (
+    either (t1 ≡ t2) (stripNumbers a .code) read-tiles (λ n. A .tiles-kept n ∙ sym (B .tiles-kept (λ z. n (codes ∙ z)))),
+    either (stripNumbers a ≡ stripNumbers b) (stripNumbers a .code) read-numbers (λ n.
+        let x = zeros a n in
+        let y = zeros b (λ z. n (codes ∙ z)) in
+        same-numbers (stripNumbers a) (stripNumbers b) codes lanes (x .0 ∙ sym (y .0)) (x .1 ∙ sym (y .1)) (x .2 ∙ sym (y .2)) (x .3 ∙ sym (y .3)) (x .4 ∙ sym (y .4))),
+  )

@@ -6,6 +6,12 @@
 
 const char letters[] = " #$.*@+";
 
+bool wants_help(int argc, char **argv)
+{
+    return argc == 2 && (strcmp(argv[1], "--help") == 0 ||
+                         strcmp(argv[1], "-h") == 0);
+}
+
 bool take_cells(struct cells *c, FILE *file)
 {
     c->len = fread(c->bytes, 1, sizeof c->bytes, file);

@@ -12,6 +12,9 @@
 /* How a tool ends. */
 enum { FINE = 0, REFUSED = 1, NOT_RUN = 2 };
 
+/* Whether help is all that is asked for: --help or -h. */
+bool wants_help(int argc, char **argv);
+
 /* By tile code: floor, wall, crate, goal, crate on goal, player, and player
  * on goal. */
 extern const char letters[];

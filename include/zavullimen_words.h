@@ -9,8 +9,8 @@
  * where the length is 0. The buffers of one call must not overlap. A refused
  * call writes to no buffer.
  *
- * docs/FORMAT.md says exactly what each function does, and its section 9
- * which refusals it gives, when, and in which order.
+ * FORMAT.md says exactly what each function does, and its section 9 which
+ * refusals it gives, when, and in which order.
  */
 #ifndef ZAVULLIMEN_WORDS_H
 #define ZAVULLIMEN_WORDS_H

@@ -1,5 +1,5 @@
 #!/bin/bash
-# Build the libraries and install them under a prefix, with the headers, a pkg-config file and the tools.
+# Build the libraries and install them under a prefix, with the headers, a pkg-config file, the tools and what to read.
 #
 # Usage: ./install.sh PREFIX [PATH_TO_STATIC_LIB]
 # Needs gcc, and the Rattle kit's command rt unless a static library that is ready is given. DESTDIR, if set, is put
@@ -108,6 +108,19 @@ copy_beside() { # NAME
     cp -P --preserve=mode "$stage/$1" "$destination/$1$new" || fail "cannot write to $(dirname "$destination/$1")"
 }
 
+# What a newcomer has to tell the compiler and the program, where the prefix is on no search path.
+say_how_to_use() {
+    local lib
+
+    lib=$(printf '%q' "$prefix/lib")
+    cat <<WORDS
+If your system does not look there by itself, compile a program that uses the library like this:
+    gcc game.c \$(PKG_CONFIG_PATH=$lib/pkgconfig pkg-config --cflags --libs zavullimen) -Wl,-rpath,$lib -o game
+A program that was linked without -Wl,-rpath has to be told where the shared library is:
+    LD_LIBRARY_PATH=$lib ./game
+WORDS
+}
+
 # Programs and the shared library may be run; all may be read, whatever the umask.
 set_mode() { # NAME
     case $1 in
@@ -120,15 +133,17 @@ set_mode() { # NAME
 command -v gcc >/dev/null 2>&1 || fail "gcc is not on the PATH"
 version=$(number MAJOR).$(number MINOR).$(number PATCH)
 soname=libzavullimen.so.$(number MAJOR)
-mkdir -p "$stage/lib/pkgconfig" "$stage/include" "$stage/bin"
+mkdir -p "$stage/lib/pkgconfig" "$stage/include" "$stage/bin" "$stage/share/doc/zavullimen"
 get_static
 link_shared
 write_pkgconfig
 cp include/zavullimen*.h "$stage/include" || fail "the headers cannot be copied"
+cp docs/FORMAT.md docs/C-INTERFACE.md LICENSE "$stage/share/doc/zavullimen" || fail "the documents cannot be copied"
 tools/build "$stage/lib/libzavullimen.a" "$stage/bin" || fail "the tools cannot be built"
 
 cd "$stage" || fail "cannot enter $stage"
-names=(include/* lib/libzavullimen.a "lib/$soname" lib/libzavullimen.so lib/pkgconfig/zavullimen.pc bin/*)
+names=(include/* lib/libzavullimen.a "lib/$soname" lib/libzavullimen.so lib/pkgconfig/zavullimen.pc bin/*
+    share/doc/zavullimen/*)
 for name in "${names[@]}"; do
     set_mode "$name"
     copy_beside "$name"
@@ -138,3 +153,4 @@ for name in "${names[@]}"; do
 done
 made_folders=()
 cd / && echo "zavullimen $version is installed under $destination"
+if [ -z "${DESTDIR:-}" ]; then say_how_to_use; fi

@@ -1,8 +1,10 @@
 /*
  * zavullimen.h - the whole library: strips, records, words and lanes.
  *
- * Games need zav_strip_write and zav_strip_read; docs/C-INTERFACE.md has all
- * functions, the packed results and the refusals.
+ * Games need zav_strip_write and zav_strip_read. C-INTERFACE.md has all
+ * functions, the buffers and the packed results, FORMAT.md what each function
+ * does and which refusals it gives. They are in docs/, and installed under
+ * share/doc/zavullimen.
  */
 #ifndef ZAVULLIMEN_H
 #define ZAVULLIMEN_H

@@ -7,7 +7,7 @@
  * least one crate, and as many crates as goals. Its record is the level,
  * bit-packed: 4 to 364 bytes.
  *
- * Buffers and packed results are those of zavullimen_words.h.
+ * Buffers, packed results and refusals are those of zavullimen_words.h.
  */
 #ifndef ZAVULLIMEN_RECORDS_H
 #define ZAVULLIMEN_RECORDS_H
@@ -43,11 +43,9 @@ static inline unsigned zav_par(uint64_t result)
 
 /*
  * Write the level's record to the front of the buffer, and return the length
- * written; what is past it keeps its value. Nothing is written when refused
- * (4: record_len under 364, 7: width, height or par out of range,
- * 8: tiles_len not width times height, 9: a tile code above 6, 10: not one
- * player, no crate, or crates and goals unequal), and the tiles never are.
- * Tiles and record must not overlap.
+ * written; what is past it keeps its value. tiles_len must be width times
+ * height, and record_len at least ZAV_RECORD_MAX. Nothing is written when
+ * refused, and the tiles never are. Tiles and record must not overlap.
  */
 uint64_t zav_record_write(size_t width, size_t height, size_t par,
                           const uint8_t *tiles, size_t tiles_len,
@@ -56,11 +54,9 @@ uint64_t zav_record_write(size_t width, size_t height, size_t par,
 /*
  * Read a level from its record: its tiles, one byte each, are put in front of
  * the tile buffer, and width, height and par are returned; tile bytes past
- * the level keep their value. Nothing is written when refused (1: record not
- * 4 to 364 bytes, 4: tiles_len under 961, 7: version not 1, or width or
- * height 0, 8: record_len not that of the size, or a filling bit set, 9: a
- * tile code 7, 10: not one player, no crate, or crates and goals unequal),
- * and the record never is. Record and tiles must not overlap.
+ * the level keep their value. tiles_len must be at least ZAV_TILES_MAX.
+ * Nothing is written when refused, and the record never is. Record and tiles
+ * must not overlap.
  */
 uint64_t zav_record_read(const uint8_t *record, size_t record_len,
                          uint8_t *tiles, size_t tiles_len);

@@ -8,6 +8,9 @@
  * Every buffer is a pointer followed by its length in bytes. NULL is allowed
  * where the length is 0. The buffers of one call must not overlap. A refused
  * call writes to no buffer.
+ *
+ * FORMAT.md says exactly what each function does, and its section 9 which
+ * refusals it gives, when, and in which order.
  */
 #ifndef ZAVULLIMEN_WORDS_H
 #define ZAVULLIMEN_WORDS_H
@@ -26,19 +29,19 @@ extern "C" {
 #define ZAV_WORD_MAX 255
 #define ZAV_LANE_MAX 96     /* cells in a lane; at least ZAV_WORD_MIN */
 
-/* The code of a result. Where several refusals apply, the lowest is given. */
+/* The code of a result: ZAV_DONE, or the number of the refusal. */
 enum zav_result_code {
     ZAV_DONE = 0,
-    ZAV_BAD_LENGTH = 1,        /* of the data, word, lane, record or strip */
-    ZAV_BAD_MARKS_LENGTH = 2,  /* not one mark per cell */
-    ZAV_BAD_MARK = 3,          /* a mark above 1 */
-    ZAV_BAD_BUFFER_LENGTH = 4, /* word buffer not data + 5; others too short */
-    ZAV_SHORT_SCRATCH = 5,     /* scratch too short */
-    ZAV_BEYOND_REACH = 6,      /* no clean word within reach */
-    ZAV_OUT_OF_RANGE = 7,      /* a record's version, width, height or par */
-    ZAV_BAD_SIZE = 8,          /* length and size disagree, or filling set */
-    ZAV_BAD_TILE = 9,          /* a tile code above 6 */
-    ZAV_NOT_PLAYABLE = 10      /* not one player, or crates and goals amiss */
+    ZAV_BAD_LENGTH = 1,
+    ZAV_BAD_MARKS_LENGTH = 2,
+    ZAV_BAD_MARK = 3,
+    ZAV_BAD_BUFFER_LENGTH = 4,
+    ZAV_SHORT_SCRATCH = 5,
+    ZAV_BEYOND_REACH = 6,
+    ZAV_OUT_OF_RANGE = 7,
+    ZAV_BAD_SIZE = 8,
+    ZAV_BAD_TILE = 9,
+    ZAV_NOT_PLAYABLE = 10
 };
 
 /* What a code says, for people; the text may change, the code does not. */
@@ -94,37 +97,33 @@ static inline unsigned zav_length(uint64_t result)
 }
 
 /*
- * Write the data and its five check bytes to the word, and return the length
- * written; nothing is written when refused (1: data not 1 to 250 bytes,
- * 4: word_len not data_len + 5), and the data never is. Data and word must
- * not overlap.
+ * Write the data and its five check bytes to the word, whose length must be
+ * data_len + 5, and return the length written. Nothing is written when
+ * refused, and the data never is. Data and word must not overlap.
  */
 uint64_t zav_word_write(const uint8_t *data, size_t data_len,
                         uint8_t *word, size_t word_len);
 
 /*
- * Return length 1 if the word is clean and 0 if it is not; refused is
- * 1: word not 6 to 255 bytes. Nothing is ever written, and there is no second
- * buffer to overlap.
+ * Return length 1 if the word is clean and 0 if it is not. Nothing is ever
+ * written, and there is no second buffer to overlap.
  */
 uint64_t zav_word_test(const uint8_t *word, size_t len);
 
 /*
  * Replace the word by the clean word within reach, and return the number of
- * unmarked cells changed as mended; nothing is written when refused (1: word
- * not 6 to 255 bytes, 2: marks_len not len, 3: a mark above 1, 6: no clean
- * word within reach), and the marks never are. A mark is 0 for a cell that
- * was read and 1 for one that was not; the byte under a mark has no influence.
- * Word and marks must not overlap.
+ * unmarked cells changed as mended. Nothing is written when refused, and the
+ * marks never are. There is one mark for each cell: 0 if it was read, 1 if it
+ * was not; the byte under a mark has no influence. Word and marks must not
+ * overlap.
  */
 uint64_t zav_word_repair(uint8_t *word, size_t len,
                          const uint8_t *marks, size_t marks_len);
 
 /*
  * The same repair for a lane of 6 to 96 cells: the lane is replaced, and
- * mended returned; nothing is written when refused (1: lane not 6 to 96
- * cells; 2, 3 and 6 as above), and the marks never are. Lane and marks must
- * not overlap.
+ * mended returned. Nothing is written when refused, and the marks never are.
+ * Lane and marks must not overlap.
  */
 uint64_t zav_lane_repair(uint8_t *lane, size_t len,
                          const uint8_t *marks, size_t marks_len);

@@ -6,6 +6,12 @@
 
 const char letters[] = " #$.*@+";
 
+bool wants_help(int argc, char **argv)
+{
+    return argc == 2 && (strcmp(argv[1], "--help") == 0 ||
+                         strcmp(argv[1], "-h") == 0);
+}
+
 bool take_cells(struct cells *c, FILE *file)
 {
     c->len = fread(c->bytes, 1, sizeof c->bytes, file);
@@ -52,12 +58,53 @@ void print_refusal(FILE *out, uint64_t result)
             zav_lane(result), refusal_words(zav_code(result)));
 }
 
+/* The character in front of a text in UTF-8; its length is returned, or 0 if
+ * the bytes there spell none. */
+static size_t first_character(const char *text, unsigned long *character)
+{
+    static const unsigned long least[] = {0, 0, 0x80, 0x800, 0x10000};
+    const unsigned char *byte = (const unsigned char *)text;
+    const size_t len = byte[0] < 0x80 ? 1 : byte[0] < 0xC0 ? 0 :
+                       byte[0] < 0xE0 ? 2 : byte[0] < 0xF0 ? 3 :
+                       byte[0] < 0xF8 ? 4 : 0;
+    unsigned long c = len == 1 ? byte[0] : byte[0] & (0x7Fu >> len);
+
+    for (size_t i = 1; i < len; i++) {
+        if ((byte[i] & 0xC0) != 0x80)
+            return 0;
+        c = c << 6 | (byte[i] & 0x3F);
+    }
+    *character = c;
+    return c < least[len] || c > 0x10FFFF || (c >= 0xD800 && c <= 0xDFFF)
+               ? 0 : len;
+}
+
+/* Whether a terminal just shows it. */
+static bool is_plain(unsigned long character)
+{
+    static const unsigned long other[][2] = {
+        {0, 0x1F}, {0x7F, 0x9F},              /* controls */
+        {0x2028, 0x2029},                     /* ends of line */
+        {0x61C, 0x61C}, {0x200E, 0x200F},     /* directions */
+        {0x202A, 0x202E}, {0x2066, 0x2069}};
+
+    for (size_t i = 0; i < sizeof other / sizeof *other; i++)
+        if (other[i][0] <= character && character <= other[i][1])
+            return false;
+    return true;
+}
+
 void print_name(FILE *out, const char *name)
 {
-    for (; *name != '\0'; name++) {
-        const unsigned char byte = (unsigned char)*name;
+    while (*name != '\0') {
+        unsigned long character;
+        const size_t len = first_character(name, &character);
 
-        putc(byte < 0x20 || byte == 0x7F ? '?' : byte, out);
+        if (len > 0 && is_plain(character))
+            fwrite(name, 1, len, out);
+        else
+            putc('?', out);
+        name += len > 0 ? len : 1;
     }
 }
 

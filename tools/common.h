@@ -12,6 +12,9 @@
 /* How a tool ends. */
 enum { FINE = 0, REFUSED = 1, NOT_RUN = 2 };
 
+/* Whether help is all that is asked for: --help or -h. */
+bool wants_help(int argc, char **argv);
+
 /* By tile code: floor, wall, crate, goal, crate on goal, player, and player
  * on goal. */
 extern const char letters[];
@@ -42,7 +45,8 @@ const char *refusal_words(unsigned code);
 /* "refused 6 lane 2: words", and the end of the line. */
 void print_refusal(FILE *out, uint64_t result);
 
-/* A name from outside, with what could move the cursor turned into '?'. */
+/* A name from outside. Control characters, those that turn the direction of a
+ * line, and bytes that are no UTF-8 become '?'. */
 void print_name(FILE *out, const char *name);
 
 /* "tool: name: why" on standard error; returns NOT_RUN. */

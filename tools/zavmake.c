@@ -4,9 +4,8 @@
  * zavmake WIDTH HEIGHT PAR TILES-FILE writes the level's strip followed by as
  * many zero marks to standard output: what zavshow reads. The file has HEIGHT
  * rows of WIDTH letters: space floor, # wall, $ crate, . goal, * crate on
- * goal, @ player, + player on goal. The exit status is 0 if a strip was
- * written, 1 if this is no level, and 2 if there was nothing to read or no way
- * to write it; nothing is written but whole strips.
+ * goal, @ player, + player on goal. Nothing is written but whole strips. The
+ * help below says how it ends.
  */
 #include <ctype.h>
 #include <errno.h>
@@ -16,6 +15,17 @@
 #include "common.h"
 
 static const char tool[] = "zavmake";
+
+static const char help[] =
+    "usage: zavmake WIDTH HEIGHT PAR TILES-FILE > CELLS\n"
+    "Writes the strip of a level, followed by as many zero marks. The file "
+    "has HEIGHT rows\n"
+    "of WIDTH letters: ' #$.*@+' are floor, wall, crate, goal, crate on goal, "
+    "player,\n"
+    "player on goal.\n"
+    "Exit status: 0 a strip was written; 1 the drawing is no level; 2 the "
+    "file could not be\n"
+    "read, the output not be written, or the command makes no sense.\n";
 
 /* One tile more than any level has is kept, so that too many are refused. */
 struct drawing {
@@ -123,12 +133,13 @@ int main(int argc, char **argv)
 {
     struct drawing d = {.tiles_len = 0};
 
+    if (wants_help(argc, argv)) {
+        fputs(help, stdout);
+        return finish(tool, FINE);
+    }
     if (argc != 5 || !is_number(argv[1], &d.width) ||
         !is_number(argv[2], &d.height) || !is_number(argv[3], &d.par)) {
-        fprintf(stderr, "usage: zavmake WIDTH HEIGHT PAR TILES-FILE > CELLS\n"
-                        "The file has HEIGHT rows of WIDTH letters: "
-                        "'%s' are floor, wall, crate, goal,\n"
-                        "crate on goal, player, player on goal.\n", letters);
+        fputs(help, stderr);
         return NOT_RUN;
     }
 

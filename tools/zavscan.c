@@ -3,11 +3,10 @@
  *
  * zavscan [-q] PATH... reads every file named and every file in the folders
  * named, each a strip followed by as many marks, in name order. Folders inside
- * folders are passed over and counted. A line is printed for each file that is
- * refused or cannot be read, and a summary at the end; with -q the summary
- * alone. On a terminal, standard error shows how far it is. The exit status is
- * 0 if all were read, 1 if any was refused, and 2 if any could not be read at
- * all or the command makes no sense.
+ * folders are passed over. A line is printed for each file that is refused or
+ * cannot be read and for each folder passed over, and a summary at the end;
+ * with -q the summary alone. On a terminal, standard error shows how far it
+ * is. The help below says how it ends.
  */
 #define _POSIX_C_SOURCE 200809L /* for folders, strdup and isatty */
 #include <dirent.h>
@@ -21,10 +20,33 @@
 
 static const char tool[] = "zavscan";
 
+static const char help[] =
+    "usage: zavscan [-q] FOLDER-OR-FILE...\n"
+    "Checks the files named and the files in the folders named, each a strip "
+    "followed by as\n"
+    "many marks, raw bytes. Folders inside folders are passed over; name them "
+    "to have them\n"
+    "checked. -q: the summary only.\n"
+    "Exit status: 0 every file was read as a level; 1 some were refused; 2 "
+    "some files could\n"
+    "not be read or folders were passed over, the output could not be "
+    "written, or the\n"
+    "command makes no sense.\n";
+
 /* ---- names ---- */
 
+/* What stands under a name: a file, a folder inside a folder, or a folder
+ * whose list could not be had, with errno's number for why. */
+enum kind { PLAIN, INSIDE, UNLISTED };
+
+struct name {
+    char *path;
+    enum kind kind;
+    int why;
+};
+
 struct names {
-    char **at;
+    struct name *at;
     size_t count, room;
 };
 
@@ -37,19 +59,20 @@ static void *or_stop(void *memory)
     return memory;
 }
 
-/* Takes the name over. */
-static void add_name(struct names *n, char *name)
+/* Takes the path over. */
+static void add_name(struct names *n, char *path, enum kind kind, int why)
 {
     if (n->count == n->room) {
         n->room = 2 * n->room + 64;
         n->at = or_stop(realloc(n->at, n->room * sizeof *n->at));
     }
-    n->at[n->count++] = name;
+    n->at[n->count++] = (struct name){path, kind, why};
 }
 
 static int by_name(const void *a, const void *b)
 {
-    return strcmp(*(char *const *)a, *(char *const *)b);
+    return strcmp(((const struct name *)a)->path,
+                  ((const struct name *)b)->path);
 }
 
 static char *join(const char *folder, const char *name)
@@ -69,6 +92,53 @@ static bool is_folder(const char *path)
     return stat(path, &about) == 0 && S_ISDIR(about.st_mode);
 }
 
+/* NULL at the end of the list and where it breaks off; errno is then 0 or
+ * says why. */
+static const char *next_in(DIR *dir)
+{
+    struct dirent *e;
+
+    do {
+        errno = 0;
+        e = readdir(dir);
+    } while (e != NULL &&
+             (strcmp(e->d_name, ".") == 0 || strcmp(e->d_name, "..") == 0));
+    return e == NULL ? NULL : e->d_name;
+}
+
+/* 0, or errno's number where the folder cannot be listed to its end. */
+static int add_folder(struct names *n, const char *folder)
+{
+    DIR *dir = opendir(folder);
+    const char *name;
+
+    if (dir == NULL)
+        return errno;
+    while ((name = next_in(dir)) != NULL) {
+        char *path = join(folder, name);
+
+        add_name(n, path, is_folder(path) ? INSIDE : PLAIN, 0);
+    }
+
+    const int why = errno;
+
+    closedir(dir);
+    return why;
+}
+
+static void add_path(struct names *n, const char *path)
+{
+    if (!is_folder(path)) {
+        add_name(n, or_stop(strdup(path)), PLAIN, 0);
+        return;
+    }
+
+    const int why = add_folder(n, path);
+
+    if (why != 0)
+        add_name(n, or_stop(strdup(path)), UNLISTED, why);
+}
+
 /* ---- counts ---- */
 
 enum { CODES = 32 }; /* as many as the code's bits can say */
@@ -77,37 +147,6 @@ struct counts {
     size_t files, read, mended, unreadable, passed_over;
     size_t refused, refused_by[CODES];
 };
-
-/* False if the folder cannot be listed. */
-static bool add_folder(struct names *n, const char *folder, struct counts *to)
-{
-    DIR *dir = opendir(folder);
-
-    if (dir == NULL)
-        return false;
-    for (struct dirent *e; (e = readdir(dir)) != NULL;) {
-        if (strcmp(e->d_name, ".") == 0 || strcmp(e->d_name, "..") == 0)
-            continue;
-
-        char *path = join(folder, e->d_name);
-
-        if (is_folder(path)) {
-            to->passed_over++;
-            free(path);
-        } else {
-            add_name(n, path);
-        }
-    }
-    closedir(dir);
-    return true;
-}
-
-/* A folder that cannot be listed stays a name, and is found unreadable. */
-static void add_path(struct names *n, const char *path, struct counts *to)
-{
-    if (!is_folder(path) || !add_folder(n, path, to))
-        add_name(n, or_stop(strdup(path)));
-}
 
 /* ---- progress ---- */
 
@@ -144,8 +183,6 @@ static const char *take_file(struct cells *c, const char *path)
 
     if (stat(path, &about) != 0)
         return strerror(errno);
-    if (S_ISDIR(about.st_mode))
-        return "the folder cannot be listed";
     if (!S_ISREG(about.st_mode))
         return "not a plain file";
     return take_cells_of(c, path) ? NULL : strerror(errno);
@@ -194,6 +231,29 @@ static void scan_file(const char *path, bool quiet, struct counts *to)
     }
 }
 
+static void scan_name(const struct name *n, bool quiet, struct counts *to)
+{
+    if (n->kind == PLAIN) {
+        scan_file(n->path, quiet, to);
+        return;
+    }
+    if (n->kind == INSIDE) {
+        to->passed_over++;
+    } else {
+        to->files++;
+        to->unreadable++;
+    }
+    if (quiet)
+        return;
+    begin_line(n->path);
+    if (n->kind == INSIDE)
+        printf("passed over: a folder in a folder; name it to have it "
+               "checked\n");
+    else
+        printf("unreadable: the folder cannot be listed: %s\n",
+               strerror(n->why));
+}
+
 static void scan(struct names *n, bool quiet, struct counts *to)
 {
     if (n->count > 0)
@@ -202,8 +262,8 @@ static void scan(struct names *n, bool quiet, struct counts *to)
     progress.total = n->count;
     for (size_t i = 0; i < n->count; i++) {
         show_progress(i);
-        scan_file(n->at[i], quiet, to);
-        free(n->at[i]);
+        scan_name(&n->at[i], quiet, to);
+        free(n->at[i].path);
     }
     free(n->at);
     hide_progress();
@@ -219,13 +279,13 @@ static void print_summary(const struct counts *of)
             printf("  %zu by refusal %u: %s\n", of->refused_by[code], code,
                    refusal_words(code));
     printf("unreadable %zu\n", of->unreadable);
-    if (of->passed_over > 0)
-        printf("folders passed over %zu\n", of->passed_over);
+    printf("folders passed over %zu\n", of->passed_over);
 }
 
+/* Nothing is fine if something was left unchecked. */
 static int status_of(const struct counts *of)
 {
-    if (of->unreadable > 0)
+    if (of->unreadable > 0 || of->passed_over > 0)
         return NOT_RUN;
     return of->refused > 0 ? REFUSED : FINE;
 }
@@ -237,16 +297,22 @@ int main(int argc, char **argv)
     bool quiet = false;
     int option;
 
+    if (wants_help(argc, argv)) {
+        fputs(help, stdout);
+        return finish(tool, FINE);
+    }
+    opterr = 0; /* getopt would print the letter as it is */
     while ((option = getopt(argc, argv, "q")) == 'q')
         quiet = true;
+    if (option != -1)
+        complain(tool, (char[]){'-', (char)optopt, '\0'},
+                 "there is no such option");
     if (option != -1 || optind == argc) {
-        fprintf(stderr, "usage: zavscan [-q] FOLDER-OR-FILE...\n"
-                        "Each file is a strip followed by as many marks, raw "
-                        "bytes. -q: the summary only.\n");
+        fputs(help, stderr);
         return NOT_RUN;
     }
     for (int i = optind; i < argc; i++)
-        add_path(&n, argv[i], &found);
+        add_path(&n, argv[i]);
     scan(&n, quiet, &found);
     print_summary(&found);
     return finish(tool, status_of(&found));

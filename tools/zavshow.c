@@ -3,8 +3,7 @@
  *
  * zavshow [FILE] reads a strip followed by as many marks, raw bytes, from the
  * file or from standard input. A refusal is given with its number, lane and
- * meaning. The exit status is 0 for a level, 1 for a refusal, and 2 if there
- * was nothing to read or no way to say it.
+ * meaning. The help below says how it ends.
  */
 #include <errno.h>
 #include <string.h>
@@ -12,6 +11,15 @@
 #include "common.h"
 
 static const char tool[] = "zavshow";
+
+static const char help[] =
+    "usage: zavshow [FILE]\n"
+    "Shows the level of a strip. FILE is a strip followed by as many marks, "
+    "raw bytes;\n"
+    "without FILE it comes from standard input.\n"
+    "Exit status: 0 a level was shown; 1 the strip was refused; 2 the input "
+    "could not be\n"
+    "read, the output not be written, or the command makes no sense.\n";
 
 static void print_level(uint64_t result, const uint8_t *tiles)
 {
@@ -43,10 +51,12 @@ int main(int argc, char **argv)
     const bool named = argc == 2;
     struct cells c;
 
+    if (wants_help(argc, argv)) {
+        fputs(help, stdout);
+        return finish(tool, FINE);
+    }
     if (argc > 2 || (named && argv[1][0] == '-')) {
-        fprintf(stderr, "usage: zavshow [FILE]\n"
-                        "A strip followed by as many marks, raw bytes; "
-                        "without FILE from standard input.\n");
+        fputs(help, stderr);
         return NOT_RUN;
     }
     if (!(named ? take_cells_of(&c, argv[1]) : take_cells(&c, stdin)))

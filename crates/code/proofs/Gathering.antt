@@ -1,5 +1,5 @@
 -- Lanes tested; a lane gathered, and what its repair says of the strip.
-use mathlib.Core.Path.{_≡_, refl, sym, ap, _∙_, subst}
+use mathlib.Core.Path.{_≡_, refl, sym, _∙_, subst}
 use mathlib.Core.Bool.{Bool, false}
 use mathlib.Core.List.{List, [], _∷_}
 use Prim.Native.Nat.{ℕ, _+_, _*_, _/_, _≤_, _<_}
@@ -12,7 +12,7 @@ use lib.ListN.{length, getD, take, set}
 use lib.Seq.{ext-getD, getD-take, getD-set-same, getD-set-other, length-take-le}
 use Rattle.account.specs.Code.{Clean}
 use Rattle.account.specs.Lanes.{lane}
-use Rattle.account.specs.Reach.{differing, Reach, GoodMarks, Reachable}
+use Rattle.account.specs.Reach.{GoodMarks, Reachable}
 use Rattle.account.proofs.Lanes.{length-lane, getD-lane}
 use Rattle.gf256.specs.Gf256.{gf256}
 use Rattle.remainder.specs.Remainder.{Remains, LanesRemain}

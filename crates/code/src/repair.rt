@@ -4,7 +4,7 @@ ghost use mathlib.Core.Bool.{not};
 ghost use mathlib.Core.List.{List};
 ghost use Prim.Native.Nat.{ℕ, _+_, _<_, _≤_};
 ghost use lib.Dec.{eqb};
-ghost use lib.ListN.{length, getD};
+ghost use lib.ListN.{length};
 ghost use Rattle.account.specs.Code.{Cells};
 ghost use Rattle.account.specs.Reach.{countTo, isMarked, oneIf, and};
 ghost use Rattle.account.proofs.Decode.{Applied};

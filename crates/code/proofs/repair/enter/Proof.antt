@@ -21,7 +21,8 @@ tally-requires c κs = search needs
 returns-4 : tie.Need-returns-4
 returns-4 c =
     let a = c .before .before .before .before .before .before .args in
-    enters-3 (a .n) (a .marks .now) (search needs) (search needs) (c .before .before .if3 .left) (c .before .tally .ensures .bad (λ h. omega (arith, c .if4 .taken)))
+    enters-3 (a .n) (a .marks .now) (search needs) (search needs) (c .before .before .if3 .left)
+    (c .before .tally .ensures .bad (λ h. omega (arith, c .if4 .taken)))
 
 returns-5 : tie.Need-returns-5
 returns-5 c =

@@ -1,8 +1,6 @@
-use mathlib.Core.Path.{_≡_, sym, _∙_, subst}
+use mathlib.Core.Path.{sym, subst}
 use Prim.Native.Nat.{ℕ}
-use lib.ListN.{length}
 use Rattle.errata.specs.Errata.{ErrataFor}
-use native.Mathlib.Omega.{arith}
 use borrow.Author.Tests.{not-true, not-false}
 use Rattle.code.proofs.Repairing.{entry-of, repair-refused, repair-beyond, too-many, searchable, repair-mends, searched, unsearched}
 use borrow.Author.Needs.{needs}

@@ -44,7 +44,8 @@ returns-4 c =
     let room = c .before .before .before .before .before .before .before .before .before .if3 .left in
     let copied = c .before .before .before .before .before .before .copy in
     let put = c .before .before .put-checks in
-    wrote (a .«data» .now) (a .word .now) (copied .last .1 .0) (put .last .0) (q .result) (search needs) (search needs) room (q .ensures) (copied .ensures) (put .ensures)
+    wrote (a .«data» .now) (a .word .now) (copied .last .1 .0) (put .last .0) (q .result) (search needs) (search needs) room
+    (q .ensures) (copied .ensures) (put .ensures)
 
 pub write-spec : {M : Type 1} → statement M
 write-spec =

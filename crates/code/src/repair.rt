@@ -116,11 +116,11 @@ fn apply(e: errata::Errata, word: &mut [u8])
 {
     let cells = e.cells;
     let values = e.values;
-    let mut i = e.count;
-    while 0 < i {
-        i -= 1;
-        let p = cells[i];
-        word[p] = word[p] ^ values[i];
+    let mut k = e.count;
+    while 0 < k {
+        k -= 1;
+        let p = cells[k];
+        word[p] = word[p] ^ values[k];
     }
 }
 

@@ -21,7 +21,7 @@ returns-2 c = lane-1 (c .before .before .args .lane) (c .before .before .args .m
 returns-3 : tie.Need-returns-3
 returns-3 c =
     let a = c .before .before .before .before .args in
-    lane-2 (a .lane) (a .marks) (search needs) (search needs) (c .if3 .taken)
+    lane-2 (a .lane) (a .marks) (search needs) (search needs) (λ e. omega (arith, e, c .if3 .taken))
 
 sub-repair : tie.Need-sub-repair
 sub-repair c = search needs
@@ -58,7 +58,7 @@ returns-4 c =
     (λ (k : ℕ). LaneRepairsAs (a .lane) (a .marks)
     (record { lane = record { bytes = r .last .0 ++ drop k (a .lane .bytes); len = a .lane .len }; answer = r .result }))
     (sym e)
-    (lane-repaired (a .lane) (a .marks) (search needs) (search needs) (r .last .0) (r .result) m (search needs) (search needs)
+    (lane-repaired (a .lane) (a .marks) (search needs) (search needs) (r .last .0) (r .result) (omega (arith, m)) (search needs) (search needs)
     (subst (λ (k : ℕ). RepairsAs gf256 wordMost (take k (a .marks .bytes)) (take k (a .lane .bytes)) (r .last .0) (r .result)) e (r .ensures)))
 
 pub repair-lane-spec : {M : Type 1} → statement M

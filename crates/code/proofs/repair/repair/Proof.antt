@@ -1,6 +1,7 @@
 use mathlib.Core.Path.{sym, subst}
 use Prim.Native.Nat.{ℕ}
 use Rattle.errata.specs.Errata.{ErrataFor}
+use native.Mathlib.Omega.{arith}
 use borrow.Author.Tests.{not-true, not-false}
 use Rattle.code.proofs.Repairing.{entry-of, repair-refused, repair-beyond, too-many, searchable, repair-mends, searched, unsearched}
 use borrow.Author.Needs.{needs}
@@ -23,7 +24,7 @@ returns-2 c =
     let z = c .before .if1 .left in
     let E = entry-of (s .args .marks .now) (s .args .word .now) (e .result) (e .ensures) z in
     repair-beyond (s .args .marks .now) (s .args .word .now) E
-    (too-many (s .args .marks .now) (s .args .word .now) (e .result .marked) E (e .ensures .count z) (c .if2 .taken))
+    (too-many (s .args .marks .now) (s .args .word .now) (e .result .marked) E (e .ensures .count z) (omega (arith, c .if2 .taken)))
 
 search-requires : tie.Need-search-requires
 search-requires c κs =

@@ -1,10 +1,10 @@
 -- What an answer's promise fixes: its numbers, and the word where none is refused.
-use mathlib.Core.Path.{_≡_, refl, sym, ap, ap₂, _∙_, subst}
+use mathlib.Core.Path.{_≡_, refl, sym, ap, ap₂, _∙_}
 use mathlib.Core.Logic.{_≢_, _⊎_, inl, inr}
-use mathlib.Core.List.{List, [], _∷_, _++_}
+use mathlib.Core.List.{List, _++_}
 use Prim.Native.Nat.{ℕ, _≤_}
 use lib.ListN.{length, take, drop, take-append-drop}
-use Rattle.account.specs.Reach.{differing, Reach, SameRead, Reachable}
+use Rattle.account.specs.Reach.{differing, SameRead, Reachable}
 use Rattle.account.proofs.Theorems as theorems
 use Rattle.gf256.specs.Gf256.{gf256}
 use Rattle.gf256.proofs.Field256.{field256}

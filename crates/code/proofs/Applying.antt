@@ -1,18 +1,17 @@
 -- Errata applied and counted, from the last cell down.
 use mathlib.Core.Path.{_≡_, refl, sym, ap, ap₂, _∙_, subst}
-use mathlib.Core.Logic.{_≢_}
 use mathlib.Core.Bool.{Bool, true, false, not}
 use mathlib.Core.List.{List, [], _∷_}
 use Prim.Native.Nat.{ℕ, zero, suc, _+_, _*_, _-_, _≤_, _<_}
 use native.Mathlib.Decide.{ℕ-discrete}
 use native.Mathlib.Omega.{arith}
 use lib.Bits.{bitXor}
-use lib.Dec.{T, eqb, eqb→eq, eqb-refl}
-use lib.ListN.{length, getD, take, set, length-set}
+use lib.Dec.{T, eqb}
+use lib.ListN.{length, getD, set, length-set}
 use lib.Seq.{slice, slice-empty, getD-take, getD-set-same, getD-set-other, length-take-le}
 use borrow.Author.Tests.{eq-eqb, ne-eqb}
 use Rattle.account.specs.Reach.{countTo, isMarked, oneIf, and, differsAt, differing}
-use Rattle.account.proofs.Cells.{Outside, Below, Distinct, below-at, one-most, less, less-same, count-less, count-cong, count-none}
+use Rattle.account.proofs.Cells.{Below, Distinct, below-at, one-most, less, less-same, count-less, count-cong, count-none}
 use Rattle.account.proofs.Laws as laws
 use Rattle.account.proofs.Solve as solve
 use Rattle.account.proofs.Solve.{added, only, only-here, only-off}

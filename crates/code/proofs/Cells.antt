@@ -1,6 +1,6 @@
--- The worked cells hold.
-use mathlib.Core.Path.{_≡_, refl, sym, ap, ap₂, _∙_, subst}
-use mathlib.Core.Bool.{Bool, true, false, not}
+-- The worked cells, proved.
+use mathlib.Core.Path.{_≡_, refl, sym, ap, ap₂, _∙_}
+use mathlib.Core.Bool.{Bool, true}
 use mathlib.Core.List.{List, [], _∷_}
 use Prim.Native.Nat.{ℕ, zero, suc, _+_, _*_, _≤_, _<_}
 use native.Mathlib.Omega.{arith}
@@ -8,16 +8,16 @@ use lib.Dec.{T, ltb, ltb→lt}
 use lib.ListN.{length, getD}
 use Rattle.account.specs.Field.{power, sumTo}
 use Rattle.account.specs.Product.{product}
-use Rattle.account.specs.Code.{alphaTo, S, Cells, Clean, WordOf}
+use Rattle.account.specs.Code.{alphaTo, S, Cells, Clean}
 use Rattle.account.specs.Reach.{oneIf, countTo, isMarked, differsAt, marked, differing, Reach, Reachable}
-use Rattle.account.proofs.Cells.{count-cong}
 use Rattle.account.proofs.Test.{both, both-left, both-right}
 use Rattle.account.proofs.Laws as laws
 use Rattle.account.proofs.Words as words
 use Rattle.account.proofs.Words.{five}
 use Rattle.account.proofs.Generator as generators
-use Rattle.gf256.specs.Gf256.{gf256, times}
+use Rattle.gf256.specs.Gf256.{gf256}
 use Rattle.gf256.proofs.Field256.{field256}
+use Rattle.code.specs.Word.{wordMost}
 use Rattle.code.specs.Cells.{All, table}
 use Rattle.code.proofs.Theorems.{one-in-reach, none-at-six}
 
@@ -92,7 +92,7 @@ outside R = let z : _≡_ {A = ℕ} 0 1 = ap (λ (l : List ℕ). getD l 0 0) sam
         (reach-cons (0 ∷ 0 ∷ 0 ∷ 0 ∷ 0 ∷ 0 ∷ []) (0x00 ∷ 0x6C ∷ 0xAA ∷ 0x82 ∷ 0x8B ∷ 0xCE ∷ []) (R .word) (R .reach))
         (record { same-length = refl; few = omega arith })
 
--- The P cells of document 01 on products and words, as one statement over their table.
+-- All worked cells hold.
 pub cells : All table
 unfolding product countTo
 cells = (
@@ -110,13 +110,15 @@ cells = (
             (
               (clean0, record { same-length = refl; few = omega arith }, refl),
               (
-                at-six none (0x01 ∷ 0xCE ∷ 0xE6 ∷ 0x00 ∷ 0x00 ∷ 0x00 ∷ []) (0x01 ∷ 0xCE ∷ 0xE6 ∷ 0xE6 ∷ 0xCE ∷ 0x01 ∷ []) (omega arith) (bytes-of (0x01 ∷ 0xCE ∷ 0xE6 ∷ 0xE6 ∷ 0xCE ∷ 0x01 ∷ []) tt) clean1 refl refl,
+                at-six none (0x01 ∷ 0xCE ∷ 0xE6 ∷ 0x00 ∷ 0x00 ∷ 0x00 ∷ []) (0x01 ∷ 0xCE ∷ 0xE6 ∷ 0xE6 ∷ 0xCE ∷ 0x01 ∷ [])
+                    (omega arith) (bytes-of (0x01 ∷ 0xCE ∷ 0xE6 ∷ 0xE6 ∷ 0xCE ∷ 0x01 ∷ []) tt) clean1 refl refl,
                 (
                   (clean1, record { same-length = refl; few = omega arith }, refl),
                   (
                     (clean2, record { same-length = refl; few = omega arith }, refl),
                     (
-                      at-six ones (0x02 ∷ 0 ∷ 0 ∷ 0 ∷ 0 ∷ 0 ∷ []) (0x02 ∷ 0x81 ∷ 0xD1 ∷ 0xD1 ∷ 0x81 ∷ 0x02 ∷ []) (omega arith) (bytes-of (0x02 ∷ 0x81 ∷ 0xD1 ∷ 0xD1 ∷ 0x81 ∷ 0x02 ∷ []) tt) clean2 refl refl,
+                      at-six ones (0x02 ∷ 0 ∷ 0 ∷ 0 ∷ 0 ∷ 0 ∷ []) (0x02 ∷ 0x81 ∷ 0xD1 ∷ 0xD1 ∷ 0x81 ∷ 0x02 ∷ [])
+                          (omega arith) (bytes-of (0x02 ∷ 0x81 ∷ 0xD1 ∷ 0xD1 ∷ 0x81 ∷ 0x02 ∷ []) tt) clean2 refl refl,
                       ((clean3, record { same-length = refl; few = omega arith }, refl), (outside, tt)),
                     ),
                   ),
@@ -137,6 +139,6 @@ cells = (
     ones = 1 ∷ 1 ∷ 1 ∷ 1 ∷ 1 ∷ 1 ∷ []
 
     -- a clean word at exactly six refutes every other
-    at-six : (marks r v : List ℕ) → length r ≤ 255 → Cells gf256 v → Clean gf256 v → length v ≡ length r
+    at-six : (marks r v : List ℕ) → length r ≤ wordMost → Cells gf256 v → Clean gf256 v → length v ≡ length r
         → 2 * differing marks r v + marked marks r ≡ 6 → Reachable gf256 marks r → ⊥
     at-six marks r v short cv kv e six R = none-at-six marks r v (R .word) short cv (R .cells) kv (R .clean) e six (R .reach)

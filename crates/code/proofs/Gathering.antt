@@ -1,5 +1,5 @@
 -- Lanes tested; a lane gathered, and what its repair says of the strip.
-use mathlib.Core.Path.{_≡_, refl, sym, ap, _∙_, subst}
+use mathlib.Core.Path.{_≡_, refl, sym, _∙_, subst}
 use mathlib.Core.Bool.{Bool, false}
 use mathlib.Core.List.{List, [], _∷_}
 use Prim.Native.Nat.{ℕ, _+_, _*_, _/_, _≤_, _<_}
@@ -10,9 +10,10 @@ use borrow.Author.Tests.{eq-eqb, ne-eqb}
 use lib.Dec.{eqb}
 use lib.ListN.{length, getD, take, set}
 use lib.Seq.{ext-getD, getD-take, getD-set-same, getD-set-other, length-take-le}
+use Rattle.account.specs.Field.{Ops}
 use Rattle.account.specs.Code.{Clean}
 use Rattle.account.specs.Lanes.{lane}
-use Rattle.account.specs.Reach.{differing, Reach, GoodMarks, Reachable}
+use Rattle.account.specs.Reach.{GoodMarks, Reachable}
 use Rattle.account.proofs.Lanes.{length-lane, getD-lane}
 use Rattle.gf256.specs.Gf256.{gf256}
 use Rattle.remainder.specs.Remainder.{Remains, LanesRemain}
@@ -28,7 +29,7 @@ use Rattle.code.specs.declared.lane.Lane.{Lane}
 use Rattle.code.specs.declared.lane.LaneRepair.{LaneRepair}
 use Rattle.code.specs.Repair.{enteringWord, Repairs}
 use Rattle.code.specs.Lane.{laneMost, wordOf, LaneRepairsAs}
-use Rattle.code.specs.Lanes.{LanesTested, LaneMendsAs, LaneAsked}
+use Rattle.code.specs.Lanes.{LanesTested, LaneBecomes, LaneLost, LaneMendsAs, LaneAsked}
 
 -- ---- testing
 
@@ -108,3 +109,12 @@ module _ (s marks : List ℕ) (l : ℕ) (Q : LaneAsked 4 l s marks) (w m : Lane)
 
   pub mends-as : (r : LaneRepair) → LaneRepairsAs w m r → LaneMendsAs gf256 4 l marks s (r .lane) (r .answer)
   mends-as r A = mends (r .lane) (r .answer) (A .same-len) (A .repairs)
+
+-- what a caller learns from the answer
+pub lane-becomes : (O : Ops) (R l : ℕ) (marks s : List ℕ) (y : Lane) (a : Repaired) (e : ℕ) → a ≡ repaired.Mended e → LaneMendsAs O R l marks s y a
+    → LaneBecomes O R l marks s y e
+lane-becomes O R l marks s y a e q M = subst (LaneMendsAs O R l marks s y) q M
+
+pub lane-lost : (O : Ops) (R l : ℕ) (marks s : List ℕ) (y : Lane) (a : Repaired) (c : ℕ) → a ≡ repaired.Refused c → LaneMendsAs O R l marks s y a
+    → LaneLost O R l marks s c
+lane-lost O R l marks s y a c q M = subst (LaneMendsAs O R l marks s y) q M

@@ -1,12 +1,11 @@
 -- The answers of a lane's repair.
 use mathlib.Core.Path.{_≡_, refl, sym, ap, _∙_, subst}
 use mathlib.Core.Logic.{_≢_}
-use mathlib.Core.List.{List, [], _∷_, _++_}
+use mathlib.Core.List.{List, _++_}
 use Prim.Native.Nat.{ℕ, _≤_}
 use native.Mathlib.Omega.{arith}
 use lib.ListN.{length, take, drop}
 use lib.Seq.{length-take-le, take-at, drop-at}
-use Rattle.account.specs.Reach.{GoodMarks, Reachable}
 use Rattle.gf256.specs.Gf256.{gf256}
 use Rattle.rules.specs.Refusal.{First, Within}
 use Rattle.rules.proofs.Laws.{stops, either}
@@ -34,7 +33,7 @@ module _ (lane marks : Lane) where
     lane-2 h = none 2 (λ z. omega (arith, z)) (stops 1 (repairing gf256 laneMost (lane .len) (marks .len) (wordOf marks) (wordOf lane)) 2 (within, (h, refl)))
 
     -- the word repaired, in front of what was past it
-    module _ (x : List ℕ) (a : Repaired) (em : marks .len ≡ lane .len) (room : length (lane .bytes) ≡ 96) (mroom : length (marks .bytes) ≡ 96)
+    module _ (x : List ℕ) (a : Repaired) (em : marks .len ≡ lane .len) (room : length (lane .bytes) ≡ laneMost) (mroom : length (marks .bytes) ≡ laneMost)
         (A : RepairsAs gf256 wordMost (take (lane .len) (marks .bytes)) (wordOf lane) x a) where
       long : length (wordOf lane) ≡ lane .len
       long = length-take-le (lane .len) (lane .bytes) (omega arith)
@@ -50,7 +49,8 @@ module _ (lane marks : Lane) where
 
       same : Repairs gf256 laneMost (lane .len) (lane .len) (take (lane .len) (marks .bytes)) (wordOf lane) x a
       same =
-          repairs-alike gf256 wordMost laneMost (length (wordOf lane)) (lane .len) (length (take (lane .len) (marks .bytes))) (lane .len) (take (lane .len) (marks .bytes)) (wordOf lane) x a (
+          repairs-alike gf256 wordMost laneMost (length (wordOf lane)) (lane .len) (length (take (lane .len) (marks .bytes))) (lane .len)
+          (take (lane .len) (marks .bytes)) (wordOf lane) x a (
             refl,
             (λ _. within),
             (λ _. record { from = omega (arith, long); to = omega (arith, long) }),
@@ -61,7 +61,9 @@ module _ (lane marks : Lane) where
       pub lane-repaired : LaneRepairsAs lane marks (record { lane = record { bytes = x ++ drop (lane .len) (lane .bytes); len = lane .len }; answer = a })
       lane-repaired = record {
         repairs =
-            subst (λ (m : ℕ). Repairs gf256 laneMost (lane .len) m (take m (marks .bytes)) (wordOf lane) (take (lane .len) (x ++ drop (lane .len) (lane .bytes))) a) (sym em)
+            subst
+            (λ (m : ℕ). Repairs gf256 laneMost (lane .len) m (take m (marks .bytes)) (wordOf lane) (take (lane .len) (x ++ drop (lane .len) (lane .bytes))) a)
+            (sym em)
             (subst (λ (v : List ℕ). Repairs gf256 laneMost (lane .len) (lane .len) (take (lane .len) (marks .bytes)) (wordOf lane) v a) (sym word-is) same);
         same-len = refl;
         past = drop-at x (drop (lane .len) (lane .bytes)) (lane .len) x-long;

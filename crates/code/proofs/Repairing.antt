@@ -1,15 +1,15 @@
 -- The answers of repair.
-use mathlib.Core.Path.{_≡_, refl, sym, ap, ap₂, _∙_, subst}
+use mathlib.Core.Path.{_≡_, refl, sym, ap, _∙_, subst}
 use mathlib.Core.Logic.{_≢_}
 use mathlib.Core.Bool.{Bool, true, false}
-use mathlib.Core.List.{List, [], _∷_, _++_}
+use mathlib.Core.List.{List, [], _∷_}
 use Prim.Native.Nat.{ℕ, zero, suc, _+_, _*_, _-_, _≤_, _<_}
 use native.Mathlib.Omega.{arith}
-use lib.ListN.{length, getD, take, drop}
+use lib.ListN.{length, getD}
 use lib.Seq.{ext-getD, length-take-le}
 use Rattle.account.specs.Field.{Ops}
 use Rattle.account.specs.Code.{Cells, Clean, syndrome}
-use Rattle.account.specs.Reach.{countTo, isMarked, differsAt, differing, marked, Reach, GoodMarks, Reachable}
+use Rattle.account.specs.Reach.{countTo, isMarked, differsAt, marked, Reach, GoodMarks, Reachable}
 use Rattle.account.proofs.Cells.{count-places, count-none, not-differs}
 use Rattle.account.proofs.Words as words
 use Rattle.account.proofs.Decode.{Applied}

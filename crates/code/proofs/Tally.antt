@@ -1,6 +1,6 @@
 -- Marks, or-ed together and summed.
 use mathlib.Core.Path.{_≡_, refl, sym, ap, ap₂, _∙_, subst}
-use mathlib.Core.Bool.{Bool, true, false, not}
+use mathlib.Core.Bool.{not}
 use mathlib.Core.List.{List}
 use Prim.Native.Nat.{ℕ, zero, suc, _+_, _*_, _-_, _^_, _≤_, _<_}
 use native.Mathlib.Numerals.{add-one}
@@ -9,8 +9,7 @@ use native.Mathlib.Omega.{arith}
 use lib.Bits.{bitOr, or-lt, or-add-and, and-le-l, and-le-r}
 use lib.Dec.{eqb}
 use lib.ListN.{length, getD}
-use Rattle.account.specs.Reach.{countTo, isMarked, oneIf, GoodMarks}
-use Rattle.code.specs.declared.marks.Marked.{Marked}
+use Rattle.account.specs.Reach.{countTo, isMarked, oneIf}
 use Rattle.code.specs.Marks.{Tallied}
 
 -- the first i marks

@@ -1,15 +1,14 @@
 -- What is promised of words of bytes, each with its sentence.
-use mathlib.Core.Path.{_≡_, refl, sym, ap, ap₂, _∙_, subst}
+use mathlib.Core.Path.{_≡_, refl, sym, ap, _∙_, subst}
 use mathlib.Core.Logic.{_≢_, _⊎_, inl, inr}
 use mathlib.Core.List.{List, [], _∷_, _++_}
 use Prim.Native.Nat.{ℕ, zero, suc, _+_, _*_, _≤_, _<_}
-use native.Mathlib.Decide.{ℕ-discrete}
 use native.Mathlib.Omega.{arith}
-use lib.ListN.{length, take, drop, take-append-drop}
+use lib.ListN.{length, drop, take-append-drop}
 use lib.Seq.{length-take-le}
 use Rattle.account.specs.Field.{power}
 use Rattle.account.specs.Code.{alphaTo, Cells, Clean, WordOf}
-use Rattle.account.specs.Reach.{marked, differing, Reach, SameRead, Reachable}
+use Rattle.account.specs.Reach.{marked, differing, Reach, SameRead}
 use Rattle.account.specs.Generator.{generator, times, plus, scale, Multiple}
 use Rattle.account.specs.Product.{product}
 use Rattle.account.proofs.Theorems as theorems
@@ -28,7 +27,7 @@ use Rattle.code.specs.Repair.{Repairs, RepairsAs, repairedNumbers}
 use Rattle.code.specs.Lane.{laneMost, wordOf, LaneRepairsAs}
 use Rattle.code.proofs.Answers.{written-zero, tested-bit, one-repair, one-numbers, one-word, lane-is, lane-same}
 
--- "Its first 255 powers are all different and non-zero"
+-- The first 255 powers of α are different from each other, and none is zero.
 pub powers-differ : (i j : ℕ) → i < 255 → j < 255 → i ≢ j → power gf256 2 i ≢ power gf256 2 j
 powers-differ = powers.pow-apart gf256 field256
 
@@ -36,34 +35,35 @@ pub powers-nonzero : (i : ℕ) → power gf256 2 i ≢ 0
 powers-nonzero = powers.pow-some gf256 field256
 
 -- Two clean words of one length differ in at least six places or nowhere.
-pub six-apart : (v w : List ℕ) → length v ≤ 255 → length w ≡ length v → Cells gf256 v → Cells gf256 w → Clean gf256 v → Clean gf256 w
+pub six-apart : (v w : List ℕ) → length v ≤ wordMost → length w ≡ length v → Cells gf256 v → Cells gf256 w → Clean gf256 v → Clean gf256 w
     → (v ≡ w) ⊎ (6 ≤ differing [] v w)
 six-apart = theorems.six-apart gf256 field256
 
 -- At most one clean word is within reach of a word with its marks.
-pub one-in-reach : (marks r v w : List ℕ) → length r ≤ 255 → Cells gf256 v → Cells gf256 w → Clean gf256 v → Clean gf256 w
+pub one-in-reach : (marks r v w : List ℕ) → length r ≤ wordMost → Cells gf256 v → Cells gf256 w → Clean gf256 v → Clean gf256 w
     → Reach marks r v → Reach marks r w → v ≡ w
 one-in-reach = theorems.one-in-reach gf256 field256
 
 -- A word at 2e + f = 6 from a clean word has none within reach.
-pub none-at-six : (marks r v w : List ℕ) → length r ≤ 255 → Cells gf256 v → Cells gf256 w → Clean gf256 v → Clean gf256 w
+pub none-at-six : (marks r v w : List ℕ) → length r ≤ wordMost → Cells gf256 v → Cells gf256 w → Clean gf256 v → Clean gf256 w
     → length v ≡ length r → 2 * differing marks r v + marked marks r ≡ 6 → Reach marks r w → ⊥
 none-at-six = theorems.none-at-six gf256 field256
 
--- "what we write is the single such word with the given data in front"
-pub one-word-with-data : (d v w : List ℕ) → length d + 5 ≤ 255 → Cells gf256 v → Cells gf256 w → WordOf gf256 d v → WordOf gf256 d w → v ≡ w
+-- At most one clean word has the given data in front.
+pub one-word-with-data : (d v w : List ℕ) → length d + 5 ≤ wordMost → Cells gf256 v → Cells gf256 w → WordOf gf256 d v → WordOf gf256 d w → v ≡ w
 one-word-with-data = theorems.one-with-data gf256 field256
 
-pub some-word-with-data : (d : List ℕ) → length d + 5 ≤ 255 → Cells gf256 d → (w : List ℕ) × WordOf gf256 d w × Cells gf256 w
+-- And there is one.
+pub some-word-with-data : (d : List ℕ) → length d + 5 ≤ wordMost → Cells gf256 d → (w : List ℕ) × WordOf gf256 d w × Cells gf256 w
 some-word-with-data = theorems.some-with-data gf256 field256
 
--- "Highest power first, the generator is 01 CE E6 E6 CE 01."
+-- The generator, with its highest power first.
 pub generator-is : generator gf256 ≡ 0x01 ∷ 0xCE ∷ 0xE6 ∷ 0xE6 ∷ 0xCE ∷ 0x01 ∷ []
 unfolding generator times plus scale alphaTo power product
 generator-is = refl
 
--- "Equivalently the word is a multiple of the generator"
-pub clean-is-multiple : (w : List ℕ) → Cells gf256 w → 5 ≤ length w → length w ≤ 255 → Clean gf256 w → Multiple gf256 w
+-- The clean words are the multiples of the generator.
+pub clean-is-multiple : (w : List ℕ) → Cells gf256 w → 5 ≤ length w → length w ≤ wordMost → Clean gf256 w → Multiple gf256 w
 clean-is-multiple = generators.clean-is-multiple gf256 field256
 
 pub multiple-is-clean : (w : List ℕ) → Multiple gf256 w → Clean gf256 w

@@ -1,17 +1,15 @@
 -- A word written: data in front, then five check bytes.
 use mathlib.Core.Path.{_≡_, refl, sym, ap, ap₂, _∙_, subst}
 use mathlib.Core.Logic.{_≢_}
-use mathlib.Core.List.{List, [], _∷_, _++_, append-nil}
+use mathlib.Core.List.{List, _++_, append-nil}
 use Prim.Native.Nat.{ℕ, zero, suc, _+_, _-_, _/_, _%_, _≤_, _<_}
-use native.Mathlib.Numerals.{add-one}
 use native.Mathlib.Omega.{arith}
-use lib.ListN.{length, getD, take, drop, set, length-append, length-drop}
-use lib.Seq.{paste, paste-zero, paste-suc, length-paste, take-length, sets, sets-eq, take-at, drop-length, drop-at, take-append-seam, length-take-le}
+use lib.ListN.{length, take, drop, set, length-append, length-drop}
+use lib.Seq.{sets, sets-eq, drop-length, take-append-seam}
 use Rattle.account.specs.Code.{Clean, WordOf}
 use Rattle.gf256.specs.Gf256.{gf256}
 use Rattle.remainder.specs.Remainder.{Checks, unpacked}
 use Rattle.code.specs.declared.word.Written.the-variants as written
-use Rattle.code.specs.declared.word.Tested.{Tested}
 use Rattle.code.specs.declared.word.Tested.the-variants as tested
 use Rattle.rules.specs.Refusal.{First, Within}
 use Rattle.rules.proofs.Laws.{stops, hold-first}

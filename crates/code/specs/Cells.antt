@@ -1,4 +1,4 @@
--- The cells of document 01 that are marked P and concern products and words, as a table. Bytes are hexadecimal there.
+-- Worked cells: products, words and repairs that were worked by hand, as a table. Bytes are hexadecimal.
 use mathlib.Core.Path.{_≡_}
 use mathlib.Core.List.{List, [], _∷_}
 use Prim.Native.Nat.{ℕ}

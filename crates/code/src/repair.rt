@@ -4,7 +4,7 @@ ghost use mathlib.Core.Bool.{not};
 ghost use mathlib.Core.List.{List};
 ghost use Prim.Native.Nat.{ℕ, _+_, _<_, _≤_};
 ghost use lib.Dec.{eqb};
-ghost use lib.ListN.{length, getD};
+ghost use lib.ListN.{length};
 ghost use Rattle.account.specs.Code.{Cells};
 ghost use Rattle.account.specs.Reach.{countTo, isMarked, oneIf, and};
 ghost use Rattle.account.proofs.Decode.{Applied};
@@ -116,11 +116,11 @@ fn apply(e: errata::Errata, word: &mut [u8])
 {
     let cells = e.cells;
     let values = e.values;
-    let mut i = e.count;
-    while 0 < i {
-        i -= 1;
-        let p = cells[i];
-        word[p] = word[p] ^ values[i];
+    let mut k = e.count;
+    while 0 < k {
+        k -= 1;
+        let p = cells[k];
+        word[p] = word[p] ^ values[k];
     }
 }
 

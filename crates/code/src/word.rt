@@ -1,8 +1,7 @@
 // Words: n bytes, 6 to 255, of which the last five are check bytes.
 ghost use mathlib.Core.Path.{_≡_};
-ghost use mathlib.Core.List.{_++_};
 ghost use Prim.Native.Nat.{_+_, _≤_};
-ghost use lib.ListN.{length, drop};
+ghost use lib.ListN.{length};
 ghost use lib.Seq.{sets};
 ghost use Rattle.account.specs.Code.{syndrome};
 ghost use Rattle.gf256.specs.Gf256.{gf256};

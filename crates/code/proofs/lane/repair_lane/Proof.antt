@@ -1,11 +1,11 @@
 use mathlib.Core.Path.{_≡_, sym, subst}
-use mathlib.Core.List.{List, _++_}
+use mathlib.Core.List.{_++_}
 use Prim.Native.Nat.{ℕ, _-_}
 use native.Mathlib.Omega.{arith}
 use lib.ListN.{length, take, drop}
 use Rattle.gf256.specs.Gf256.{gf256}
 use Rattle.code.specs.Word.{wordMost}
-use Rattle.code.specs.Lane.{LaneRepairsAs}
+use Rattle.code.specs.Lane.{laneMost, LaneRepairsAs}
 use Rattle.code.specs.Repair.{RepairsAs}
 use Rattle.code.proofs.LaneRepairs.{lane-1, lane-2, lane-repaired}
 use borrow.Author.Needs.{needs}
@@ -21,7 +21,7 @@ returns-2 c = lane-1 (c .before .before .args .lane) (c .before .before .args .m
 returns-3 : tie.Need-returns-3
 returns-3 c =
     let a = c .before .before .before .before .args in
-    lane-2 (a .lane) (a .marks) (search needs) (search needs) (c .if3 .taken)
+    lane-2 (a .lane) (a .marks) (search needs) (search needs) (λ e. omega (arith, e, c .if3 .taken))
 
 sub-repair : tie.Need-sub-repair
 sub-repair c = search needs
@@ -31,7 +31,7 @@ part-bytes-start c = search needs
 
 part-bytes-end : tie.Need-part-bytes-end
 part-bytes-end c =
-    let n : length (c .before .before .before .before .before .before .args .lane .bytes) ≡ 96 = search needs in
+    let n : length (c .before .before .before .before .before .before .args .lane .bytes) ≡ laneMost = search needs in
     omega arith
 
 sub-repair-2 : tie.Need-sub-repair-2
@@ -42,7 +42,7 @@ part-repair-start c = search needs
 
 part-repair-end : tie.Need-part-repair-end
 part-repair-end c =
-    let n : length (c .before .before .before .before .before .before .before .before .args .marks .bytes) ≡ 96 = search needs in
+    let n : length (c .before .before .before .before .before .before .before .before .args .marks .bytes) ≡ laneMost = search needs in
     omega arith
 
 repair-requires : tie.Need-repair-requires
@@ -55,9 +55,10 @@ returns-4 c =
     let e : a .lane .len - 0 ≡ a .lane .len = omega arith in
     let m = c .before .before .before .before .before .before .before .if3 .left in
     subst
-    (λ (k : ℕ). LaneRepairsAs (a .lane) (a .marks) (record { lane = record { bytes = r .last .0 ++ drop k (a .lane .bytes); len = a .lane .len }; answer = r .result }))
+    (λ (k : ℕ). LaneRepairsAs (a .lane) (a .marks)
+    (record { lane = record { bytes = r .last .0 ++ drop k (a .lane .bytes); len = a .lane .len }; answer = r .result }))
     (sym e)
-    (lane-repaired (a .lane) (a .marks) (search needs) (search needs) (r .last .0) (r .result) m (search needs) (search needs)
+    (lane-repaired (a .lane) (a .marks) (search needs) (search needs) (r .last .0) (r .result) (omega (arith, m)) (search needs) (search needs)
     (subst (λ (k : ℕ). RepairsAs gf256 wordMost (take k (a .marks .bytes)) (take k (a .lane .bytes)) (r .last .0) (r .result)) e (r .ensures)))
 
 pub repair-lane-spec : {M : Type 1} → statement M

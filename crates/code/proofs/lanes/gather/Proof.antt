@@ -3,12 +3,13 @@ use Prim.Native.Nat.{ℕ, _+_, _*_, _-_, _≤_, _<_}
 use native.Mathlib.Omega.{arith}
 use lib.ListN.{length, getD, length-set}
 use Rattle.code.proofs.Gathering.{more, gathered}
+use Rattle.code.specs.Lane.{laneMost}
 use borrow.Author.Needs.{needs}
 use Rattle.code.proofs.lanes.gather.Statement.{statement}
 use Rattle.code.proofs.lanes.gather.Tie as tie
 
 abbrev Inv-loop : tie.InvT-loop
-Inv-loop strip l n t₀ k₀ t k = (k ≤ n) × (t .len ≡ n) × (length (t .bytes) ≡ 96) × ((j : ℕ) → j < k → getD (t .bytes) j 0 ≡ getD strip (4 * j + l) 0)
+Inv-loop strip l n t₀ k₀ t k = (k ≤ n) × (t .len ≡ n) × (length (t .bytes) ≡ laneMost) × ((j : ℕ) → j < k → getD (t .bytes) j 0 ≡ getD strip (4 * j + l) 0)
 
 abbrev μ-loop : tie.MeasureT-loop
 μ-loop strip l n t₀ k₀ t k = n - k

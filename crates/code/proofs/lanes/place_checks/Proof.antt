@@ -1,9 +1,7 @@
 use mathlib.Core.Path.{_≡_, refl, subst}
 use Prim.Native.Nat.{ℕ, _+_, _*_, _-_, _/_, _%_, _≤_}
-use lib.ListN.{getD}
 use native.Mathlib.Omega.{arith}
 use borrow.Author.Needs.{needs}
-use Rattle.remainder.specs.Remainder.{unpacked}
 use Rattle.code.specs.Lanes.{Placed, checkCell}
 use Rattle.code.proofs.Placing.{placed-0, placed-more}
 use Rattle.code.proofs.lanes.place_checks.Statement.{statement}

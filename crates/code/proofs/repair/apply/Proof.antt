@@ -1,8 +1,8 @@
-use mathlib.Core.Path.{_≡_, ap, _∙_, subst}
+use mathlib.Core.Path.{_≡_, subst}
 use Prim.Native.Nat.{ℕ, _-_, _≤_, _<_}
 use native.Mathlib.Omega.{arith}
 use borrow.Author.Needs.{needs}
-use lib.ListN.{length, length-set}
+use lib.ListN.{length}
 use lib.Seq.{slice}
 use Rattle.account.proofs.Decode.{Applied}
 use Rattle.gf256.specs.Gf256.{gf256}
@@ -11,18 +11,18 @@ use Rattle.code.proofs.repair.apply.Statement.{statement}
 use Rattle.code.proofs.repair.apply.Tie as tie
 
 abbrev Inv-loop : tie.InvT-loop
-Inv-loop word₀ cells values i₀ word i = (i ≤ i₀) × Applied gf256 (slice i i₀ cells) (slice i i₀ values) word₀ word
+Inv-loop word₀ cells values k₀ word k = (k ≤ k₀) × Applied gf256 (slice k k₀ cells) (slice k k₀ values) word₀ word
 
 abbrev μ-loop : tie.MeasureT-loop
-μ-loop word₀ cells values i₀ word i = i
+μ-loop word₀ cells values k₀ word k = k
 
 loop-holds : tie.Need-loop-holds Inv-loop μ-loop
 loop-holds c =
     let s = c .before .before in
     (search needs, apply-starts (s .args .e .cells) (s .args .e .values) (s .args .word .now) (s .args .e .count))
 
-sub-i : tie.Need-sub-i Inv-loop μ-loop
-sub-i c = search needs
+sub-k : tie.Need-sub-k Inv-loop μ-loop
+sub-k c = search needs
 
 mul-p : tie.Need-mul-p Inv-loop μ-loop
 mul-p c = search needs
@@ -34,7 +34,7 @@ slice-read-word : tie.Need-slice-read-word Inv-loop μ-loop
 slice-read-word c =
     let s = c .before .before .before .before .before in
     let L = c .before .before .loop in
-    omega (arith, L .inv .1 .same-length, erratum-below (length (s .args .word .now)) (s .args .e) (s .pre) (L .i - 1) (omega arith))
+    omega (arith, L .inv .1 .same-length, erratum-below (length (s .args .word .now)) (s .args .e) (s .pre) (L .k - 1) (omega arith))
 
 array-read-word : tie.Need-array-read-word Inv-loop μ-loop
 array-read-word c = omega (arith, c .before .before .before .before .before .pre .few)
@@ -43,7 +43,7 @@ slice-write-word : tie.Need-slice-write-word Inv-loop μ-loop
 slice-write-word c =
     let s = c .before .before .before .before .before in
     let L = c .before .before .loop in
-    omega (arith, L .inv .1 .same-length, erratum-below (length (s .args .word .now)) (s .args .e) (s .pre) (L .i - 1) (omega arith))
+    omega (arith, L .inv .1 .same-length, erratum-below (length (s .args .word .now)) (s .args .e) (s .pre) (L .k - 1) (omega arith))
 
 loop-less : tie.Need-loop-less Inv-loop μ-loop
 loop-less c = search needs
@@ -53,9 +53,9 @@ loop-again c =
     let s = c .before .before .before .before .before in
     let L = c .before .before .loop in (
       omega arith,
-      apply-goes (s .args .e .cells) (s .args .e .values) (s .args .word .now) (L .word) (s .args .e .count) (L .i) (search needs) (L .inv .0)
+      apply-goes (s .args .e .cells) (s .args .e .values) (s .args .word .now) (L .word) (s .args .e .count) (L .k) (search needs) (L .inv .0)
           (omega (arith, s .pre .few, s .pre .room)) (omega (arith, s .pre .few, s .pre .values-room))
-          (erratum-below (length (s .args .word .now)) (s .args .e) (s .pre) (L .i - 1) (omega arith)) (L .inv .1),
+          (erratum-below (length (s .args .word .now)) (s .args .e) (s .pre) (L .k - 1) (omega arith)) (L .inv .1),
     )
 
 same-length : tie.Need-same-length Inv-loop μ-loop
@@ -66,7 +66,7 @@ returns c =
     let s = c .before .before .before .before in
     let L = c .before .loop in
     let e = s .args .e in
-    let z : L .i ≡ 0 = omega arith in
+    let z : L .k ≡ 0 = omega arith in
     subst (λ (j : ℕ). Applied gf256 (slice j (e .count) (e .cells)) (slice j (e .count) (e .values)) (s .args .word .now) (L .word)) z (L .inv .1)
 
 pub apply-spec : {M : Type 1} → statement M
@@ -76,7 +76,7 @@ apply-spec =
     Inv-loop
     μ-loop
     loop-holds
-    sub-i
+    sub-k
     mul-p
     array-read-p
     slice-read-word

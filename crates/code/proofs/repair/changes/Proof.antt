@@ -1,6 +1,8 @@
-use mathlib.Core.Path.{_≡_, refl, sym, ap, ap₂, _∙_}
+use mathlib.Core.Path.{_≡_, refl, sym, ap₂}
+use mathlib.Core.Logic.{_≢_}
 use mathlib.Core.Bool.{Bool, true, false, not}
 use Prim.Native.Nat.{ℕ}
+use native.Mathlib.Omega.{arith}
 use lib.Dec.{eqb}
 use lib.ListN.{getD}
 use borrow.Author.Tests.{eq-eqb, ne-eqb}
@@ -9,27 +11,43 @@ use borrow.Author.Needs.{needs}
 use Rattle.code.proofs.repair.changes.Statement.{statement}
 use Rattle.code.proofs.repair.changes.Tie as tie
 
--- what the two tests come to
-told : (m v : ℕ) (a b : Bool) → eqb m 0 ≡ a → eqb v 0 ≡ b → oneIf (and (not (not a)) (not b)) ≡ oneIf (and (not (not (eqb m 0))) (not (eqb v 0)))
+-- 1 for the mark m and the value v, where the cell is not marked and changes
+abbrev one : ℕ → ℕ → ℕ
+one m v = oneIf (and (not (not (eqb m 0))) (not (eqb v 0)))
+
+told : (m v : ℕ) (a b : Bool) → eqb m 0 ≡ a → eqb v 0 ≡ b → oneIf (and (not (not a)) (not b)) ≡ one m v
 told m v a b ea eb = sym (ap₂ (λ (x y : Bool). oneIf (and (not (not x)) (not y))) ea eb)
+
+marked : (m v : ℕ) → m ≢ 0 → 0 ≡ one m v
+marked m v n = told m v false (eqb v 0) (ne-eqb m 0 n) refl
+
+unchanged : (m v : ℕ) → v ≡ 0 → 0 ≡ one m v
+unchanged m v e = go (eqb m 0) refl
+  where
+    go : (a : Bool) → eqb m 0 ≡ a → 0 ≡ one m v
+    go true ea = told m v true true ea (eq-eqb v 0 e)
+    go false ea = told m v false true ea (eq-eqb v 0 e)
+
+changed : (m v : ℕ) → m ≡ 0 → v ≢ 0 → 1 ≡ one m v
+changed m v e n = told m v true false (eq-eqb m 0 e) (ne-eqb v 0 n)
 
 shared-slice-read-if1 : tie.Need-shared-slice-read-if1
 shared-slice-read-if1 c = search needs
 
 returns : tie.Need-returns
 returns c =
-    let s = c .before .before in
-    told (getD (s .args .marks .now) (s .args .p) 0) (s .args .v) false (eqb (s .args .v) 0) (ne-eqb _ _ (c .if1 .taken)) refl
+    let a = c .before .before .args in
+    marked (getD (a .marks .now) (a .p) 0) (a .v) (λ e. omega (arith, e, c .if1 .taken))
 
 returns-2 : tie.Need-returns-2
 returns-2 c =
-    let s = c .before .before .before in
-    told (getD (s .args .marks .now) (s .args .p) 0) (s .args .v) true true (eq-eqb _ _ (c .before .if1 .left)) (eq-eqb _ _ (c .if2 .taken))
+    let a = c .before .before .before .args in
+    unchanged (getD (a .marks .now) (a .p) 0) (a .v) (omega (arith, c .if2 .taken))
 
 returns-3 : tie.Need-returns-3
 returns-3 c =
-    let s = c .before .before .before in
-    told (getD (s .args .marks .now) (s .args .p) 0) (s .args .v) true false (eq-eqb _ _ (c .before .if1 .left)) (ne-eqb _ _ (c .if2 .left))
+    let a = c .before .before .before .args in
+    changed (getD (a .marks .now) (a .p) 0) (a .v) (omega (arith, c .before .if1 .left)) (λ e. omega (arith, e, c .if2 .left))
 
 pub changes-spec : {M : Type 1} → statement M
 changes-spec = tie.close (tie.spec shared-slice-read-if1 returns returns-2 returns-3)

@@ -1,4 +1,4 @@
-use mathlib.Core.Path.{_≡_, sym, ap, _∙_, subst}
+use mathlib.Core.Path.{_≡_, sym, subst}
 use Prim.Native.Nat.{ℕ, _+_, _-_, _≤_, _<_}
 use native.Mathlib.Omega.{arith}
 use borrow.Author.Needs.{needs}
@@ -42,7 +42,11 @@ add-c : tie.Need-add-c Inv-loop μ-loop
 add-c c =
     let s = c .before .before .before .before .before .before in
     let i = c .before .before .loop .i - 1 in
-    omega (arith, s .pre .few, counts-one (s .args .marks .now) (getD (s .args .e .cells) i 0) (getD (s .args .e .values) i 0) (c .changes .result) (c .changes .ensures))
+    omega (
+      arith,
+      s .pre .few,
+      counts-one (s .args .marks .now) (getD (s .args .e .cells) i 0) (getD (s .args .e .values) i 0) (c .changes .result) (c .changes .ensures),
+    )
 
 loop-less : tie.Need-loop-less Inv-loop μ-loop
 loop-less c = search needs

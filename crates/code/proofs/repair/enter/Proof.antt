@@ -13,7 +13,7 @@ returns-2 c = enters-1 (c .before .before .before .args .n) (c .before .before .
 returns-3 : tie.Need-returns-3
 returns-3 c =
     let a = c .before .before .before .before .args in
-    enters-2 (a .n) (a .marks .now) (search needs) (search needs) (c .if3 .taken)
+    enters-2 (a .n) (a .marks .now) (search needs) (search needs) (λ e. omega (arith, e, c .if3 .taken))
 
 tally-requires : tie.Need-tally-requires
 tally-requires c κs = search needs
@@ -21,13 +21,14 @@ tally-requires c κs = search needs
 returns-4 : tie.Need-returns-4
 returns-4 c =
     let a = c .before .before .before .before .before .before .args in
-    enters-3 (a .n) (a .marks .now) (search needs) (search needs) (c .before .before .if3 .left) (c .before .tally .ensures .bad (λ h. omega (arith, c .if4 .taken)))
+    enters-3 (a .n) (a .marks .now) (search needs) (search needs) (omega (arith, c .before .before .if3 .left))
+    (c .before .tally .ensures .bad (λ h. omega (arith, c .if4 .taken)))
 
 returns-5 : tie.Need-returns-5
 returns-5 c =
     let a = c .before .before .before .before .before .before .args in
     let t = c .before .tally in
-    enters (a .n) (a .marks .now) (search needs) (search needs) (t .result .sum) (c .before .before .if3 .left) (t .ensures .good (search needs))
+    enters (a .n) (a .marks .now) (search needs) (search needs) (t .result .sum) (omega (arith, c .before .before .if3 .left)) (t .ensures .good (search needs))
     (t .ensures .count (search needs))
 
 pub enter-spec : {M : Type 1} → statement M

@@ -1,6 +1,5 @@
-use mathlib.Core.Path.{_≡_, sym, _∙_, subst}
+use mathlib.Core.Path.{sym, subst}
 use Prim.Native.Nat.{ℕ}
-use lib.ListN.{length}
 use Rattle.errata.specs.Errata.{ErrataFor}
 use native.Mathlib.Omega.{arith}
 use borrow.Author.Tests.{not-true, not-false}
@@ -25,7 +24,7 @@ returns-2 c =
     let z = c .before .if1 .left in
     let E = entry-of (s .args .marks .now) (s .args .word .now) (e .result) (e .ensures) z in
     repair-beyond (s .args .marks .now) (s .args .word .now) E
-    (too-many (s .args .marks .now) (s .args .word .now) (e .result .marked) E (e .ensures .count z) (c .if2 .taken))
+    (too-many (s .args .marks .now) (s .args .word .now) (e .result .marked) E (e .ensures .count z) (omega (arith, c .if2 .taken)))
 
 search-requires : tie.Need-search-requires
 search-requires c κs =

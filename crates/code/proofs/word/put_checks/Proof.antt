@@ -58,7 +58,8 @@ returns c =
     let b3 = c .before .before .low3 in
     let b4 = c .before .low4 in
     let b5 = c .low5 in
-    stored (a .word .now) (a .k) (a .x) (b1 .result) (b2 .result) (b3 .result) (b4 .result) (b5 .result) (b1 .ensures) (b2 .ensures) (b3 .ensures) (b4 .ensures) (b5 .ensures)
+    stored (a .word .now) (a .k) (a .x) (b1 .result) (b2 .result) (b3 .result) (b4 .result) (b5 .result)
+    (b1 .ensures) (b2 .ensures) (b3 .ensures) (b4 .ensures) (b5 .ensures)
 
 pub put-checks-spec : {M : Type 1} → statement M
 put-checks-spec =

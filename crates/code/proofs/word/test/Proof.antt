@@ -17,7 +17,8 @@ remainder-of-requires c κs = search needs
 returns-3 : tie.Need-returns-3
 returns-3 c =
     let w = c .before .before .before .before .before .args .word .now in
-    test-clean w (search needs) (search needs) (none-is-clean w (c .before .remainder-of .result) (c .before .remainder-of .ensures) (c .if3 .taken))
+    test-clean w (search needs) (search needs)
+    (none-is-clean w (c .before .remainder-of .result) (c .before .remainder-of .ensures) (omega (arith, c .if3 .taken)))
 
 returns-4 : tie.Need-returns-4
 returns-4 c =

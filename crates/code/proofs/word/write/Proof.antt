@@ -20,7 +20,7 @@ add-if3 c = search needs
 returns-3 : tie.Need-returns-3
 returns-3 c =
     let a = c .before .before .before .before .before .args in
-    refused-4 (a .«data» .now) (a .word .now) (search needs) (search needs) (c .if3 .taken)
+    refused-4 (a .«data» .now) (a .word .now) (search needs) (search needs) (λ e. omega (arith, e, c .if3 .taken))
 
 checks-of-requires : tie.Need-checks-of-requires
 checks-of-requires c κs = search needs
@@ -44,7 +44,8 @@ returns-4 c =
     let room = c .before .before .before .before .before .before .before .before .before .if3 .left in
     let copied = c .before .before .before .before .before .before .copy in
     let put = c .before .before .put-checks in
-    wrote (a .«data» .now) (a .word .now) (copied .last .1 .0) (put .last .0) (q .result) (search needs) (search needs) room (q .ensures) (copied .ensures) (put .ensures)
+    wrote (a .«data» .now) (a .word .now) (copied .last .1 .0) (put .last .0) (q .result) (search needs) (search needs) (omega (arith, room))
+    (q .ensures) (copied .ensures) (put .ensures)
 
 pub write-spec : {M : Type 1} → statement M
 write-spec =

@@ -8,16 +8,11 @@ use native.Mathlib.Omega.{arith}
 use native.Mathlib.Decide.{ℕ-discrete}
 use lib.ListN.{length}
 use Rattle.account.specs.Field.{Ops, In, IsField, power, sumTo}
+use Rattle.account.specs.Errata.{Outside, Below, place, filt}
 use Rattle.account.proofs.Laws as laws
 use Rattle.account.proofs.Powers as powers
 use Rattle.account.proofs.Sums as sums
 use Rattle.account.proofs.Sums.{moment}
-use Rattle.account.proofs.Cells.{Outside, Below}
-
--- the moments s, with the places xs filtered out
-abbrev pub filt : Ops → List ℕ → (ℕ → ℕ) → ℕ → ℕ
-filt O [] s = s
-filt O (x ∷ xs) s = filt O xs (λ m. O ._⊕_ (s (suc m)) (O ._⊗_ x (s m)))
 
 -- what that multiplies the cell at y by
 abbrev pub weight : Ops → List ℕ → ℕ → ℕ
@@ -56,7 +51,7 @@ module _ (O : Ops) (F : IsField O) where
   -- a word of n cells, at their places
   module _ (n : ℕ) where
     abbrev X : ℕ → ℕ
-    X = powers.place O F n
+    X = place O n
 
     abbrev pub M : (ℕ → ℕ) → ℕ → ℕ
     M = moment O X n

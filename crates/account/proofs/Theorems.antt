@@ -13,12 +13,13 @@ use Rattle.account.specs.Field.{Ops, In, IsField}
 use Rattle.account.specs.Code.{Cells, Clean, WordOf}
 use Rattle.account.specs.Reach.{countTo, isMarked, and, differsAt, marked, differing, Reach, SameRead}
 use Rattle.account.specs.Lists.{listOf}
+use Rattle.account.specs.Errata.{Outside, Below, added, Applied}
+use Rattle.account.specs.Search.{places}
 use Rattle.account.proofs.Lists.{length-listOf, getD-listOf}
-use Rattle.account.proofs.Cells.{Outside, Below, places, outside-left, outside-right, below-append, below-places, outside-places, count-places, count-cong, count-none, same-at, not-differs}
+use Rattle.account.proofs.Cells.{outside-left, outside-right, below-append, below-places, outside-places, count-places, count-cong, count-none, same-at, not-differs}
 use Rattle.account.proofs.Solve as solve
-use Rattle.account.proofs.Solve.{added}
 use Rattle.account.proofs.Decode as decode
-use Rattle.account.proofs.Decode.{Applied, values}
+use Rattle.account.proofs.Decode.{values}
 
 -- ---- "The byte under a mark has no influence."
 

@@ -11,19 +11,20 @@ use lib.Seq.{take-suc-set, length-take-le}
 use lib.IntN.{pos, negsuc}
 use Rattle.account.specs.Code.{Cells, Clean, S, syndrome}
 use Rattle.account.specs.Reach.{isMarked, Reach}
-use Rattle.account.proofs.Cells.{Below, Distinct, below-append, below-places}
+use Rattle.account.specs.Errata.{Below, Distinct, filt, solve, unweighed, Applied}
+use Rattle.account.specs.Search.{erasures, Zeros, Fits}
+use Rattle.account.proofs.Cells.{below-append, below-places}
 use Rattle.account.proofs.Filter as filter
-use Rattle.account.proofs.Filter.{filt}
-use Rattle.account.proofs.Solve as solve
+use Rattle.account.proofs.Solve.{solve-near}
 use Rattle.account.proofs.Words.{sumsOf}
-use Rattle.account.proofs.Decode.{Applied, values}
+use Rattle.account.proofs.Decode.{values}
 use Rattle.account.proofs.Search as search'
-use Rattle.account.proofs.Search.{Zeros, Fits, Ready, erasures, distinct-guess}
+use Rattle.account.proofs.Search.{Ready, distinct-guess}
 use Rattle.gf256.specs.Gf256.{gf256}
-use Rattle.gf256.specs.Tables.{placeOf}
-use Rattle.gf256.proofs.Field256.{field256}
+use Rattle.gf256.specs.Tables.{placeOf, inverseOf}
+use Rattle.gf256.proofs.Field256.{field256, inv-is}
 use Rattle.errata.specs.declared.Errata.{Errata}
-use Rattle.errata.specs.Errata.{at, Listed, Drained, Gathered, Guess, NoGuess, GuessedAs, Bytes5, Valued, cellsOf, valuesOf, Mends, Beyond}
+use Rattle.errata.specs.Errata.{at, Listed, Drained, Gathered, Guess, NoGuess, GuessedAs, Bytes5, Valued, cellsOf, valuesOf, Corrects, Beyond}
 
 -- ---- cells after the marked ones
 
@@ -54,7 +55,7 @@ module _ (marks cells : List ℕ) (f : ℕ) (G : Gathered marks cells f) where
       list = G .list ∙ sym (append-nil (erasures marks));
     }
 
-    pub guess1 : (p : ℕ) → 2 + f ≤ 5 → p < length marks → Fits gf256 field256 marks (at t) (5 - f - 1) (p ∷ []) → Guess marks t f (f + 1) (set cells f p)
+    pub guess1 : (p : ℕ) → 2 + f ≤ 5 → p < length marks → Fits gf256 marks (at t) (5 - f - 1) (p ∷ []) → Guess marks t f (f + 1) (set cells f p)
     guess1 p h l fit = record {
       wrong = p ∷ [];
       below = (l, tt);
@@ -66,7 +67,7 @@ module _ (marks cells : List ℕ) (f : ℕ) (G : Gathered marks cells f) where
       list = list1 p (omega arith);
     }
 
-    pub guess2 : (p q : ℕ) → 4 + f ≤ 5 → p < length marks → q < length marks → p ≢ q → Fits gf256 field256 marks (at t) (5 - f - 2) (p ∷ q ∷ [])
+    pub guess2 : (p q : ℕ) → 4 + f ≤ 5 → p < length marks → q < length marks → p ≢ q → Fits gf256 marks (at t) (5 - f - 2) (p ∷ q ∷ [])
         → Guess marks t f (f + 2) (set (set cells f p) (f + 1) q)
     guess2 p q h lp lq ne fit = record {
       wrong = p ∷ q ∷ [];
@@ -139,8 +140,8 @@ module _ (marks s t r : List ℕ) (f : ℕ) (erased : List ℕ) (short : length 
   pub beyond : NoGuess marks t f → Beyond marks r
   beyond N w cw kw hw = search'.refuted gf256 field256 marks r (at t) f ready w cw hw kw (N .not-none) (N .not-one) (N .not-two)
 
-  pub mends : (count : ℕ) (cells : List ℕ) (e : Errata) → Guess marks t f count cells → Valued (length marks) cells count s e → Mends marks r e
-  mends count cells e U K = record {
+  pub corrects : (count : ℕ) (cells : List ℕ) (e : Errata) → Guess marks t f count cells → Valued (length marks) cells count s e → Corrects marks r e
+  corrects count cells e U K = record {
     listed = record {
       few = omega (arith, K .count, U .counted, U .few);
       room = ap length (K .same-cells) ∙ U .room;
@@ -148,7 +149,7 @@ module _ (marks s t r : List ℕ) (f : ℕ) (erased : List ℕ) (short : length 
       below = subst (λ (n : ℕ). Below (cellsOf e) n) (sym er) (subst (λ (l : List ℕ). Below l (length marks)) (sym same-list) (L .below));
       distinct = subst Distinct (sym same-list) (L .distinct);
     };
-    mends = λ w a. search'.mended gf256 field256 marks r (at t) f ready (U .wrong) (U .below) (U .distinct) (U .few) (U .fits) w
+    corrects = λ w a. search'.mended gf256 field256 marks r (at t) f ready (U .wrong) (U .below) (U .distinct) (U .few) (U .fits) w
         (subst (λ (ps : List ℕ). Applied gf256 ps (values gf256 field256 ps r) r w) (same-list ∙ U .list)
         (subst (λ (vs : List ℕ). Applied gf256 (cellsOf e) vs r w) same-values a));
   }
@@ -165,7 +166,17 @@ module _ (marks s t r : List ℕ) (f : ℕ) (erased : List ℕ) (short : length 
       same-values : valuesOf e ≡ values gf256 field256 (cellsOf e) r
       same-values =
           ap (λ (m : ℕ). take m (e .values)) (K .count) ∙ K .values
-          ∙ ap (solve.unweighed gf256 field256 xs)
-          (solve.solve-near gf256 field256 xs (at s) (sumsOf gf256 r)
-          (λ m l. sum-at s r es m (omega (arith, filter.length-map (placeOf (length marks)) (take count cells), length-take-le count cells (omega (arith, L .few, L .room)), L .few))))
-          ∙ ap₂ (λ (n : ℕ) (ps : List ℕ). solve.unweighed gf256 field256 (map (placeOf n) ps) (solve.solve gf256 field256 (map (placeOf n) ps) (sumsOf gf256 r))) (sym er) (sym same-list)
+          ∙ ap (unweighed gf256 xs)
+          (solve-near gf256 field256 inverseOf xs (at s) (sumsOf gf256 r)
+          (λ m l.
+          sum-at s r es m
+          (omega (
+            arith,
+            filter.length-map (placeOf (length marks)) (take count cells),
+            length-take-le count cells (omega (arith, L .few, L .room)),
+            L .few,
+          ))))
+          ∙ ap₂ (λ (n : ℕ) (ps : List ℕ). unweighed gf256 (map (placeOf n) ps) (solve gf256 inverseOf (map (placeOf n) ps) (sumsOf gf256 r)))
+          (sym er) (sym same-list)
+          ∙ ap (λ (inv : ℕ → ℕ). unweighed gf256 (map (placeOf (length r)) (cellsOf e)) (solve gf256 inv (map (placeOf (length r)) (cellsOf e)) (sumsOf gf256 r)))
+          (sym inv-is)

@@ -10,8 +10,7 @@ use lib.ListN.{length, getD, take, set, length-set, length-append}
 use lib.Seq.{take-suc-set, length-take-le}
 use borrow.Author.Tests.{eq-eqb, ne-eqb}
 use Rattle.account.specs.Reach.{isMarked}
-use Rattle.account.proofs.Cells.{places, addIf}
-use Rattle.account.proofs.Search.{erasures}
+use Rattle.account.specs.Search.{addIf, places, erasures}
 use Rattle.errata.specs.Errata.{Pushed, Gathered}
 
 pub marked-true : (marks : List ℕ) (j : ℕ) → (getD marks j 0 ≡ 0 → ⊥) → isMarked marks j ≡ true

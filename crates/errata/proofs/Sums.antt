@@ -9,10 +9,10 @@ use native.Mathlib.Decide.{ℕ-discrete}
 use lib.Bits.{bitXor}
 use lib.ListN.{length, getD, take, length-append}
 use lib.Seq.{take-suc, getD-take, length-take-le}
+use Rattle.account.specs.Errata.{filt}
+use Rattle.account.specs.Search.{Zeros}
 use Rattle.account.proofs.Cells.{below-at}
 use Rattle.account.proofs.Filter as filter
-use Rattle.account.proofs.Filter.{filt}
-use Rattle.account.proofs.Search.{Zeros}
 use Rattle.gf256.specs.Gf256.{gf256, times}
 use Rattle.gf256.specs.Tables.{placeOf}
 use Rattle.rules.specs.Says.{Says}

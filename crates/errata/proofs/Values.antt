@@ -8,28 +8,27 @@ use native.Mathlib.Omega.{arith}
 use lib.Bits.{bitXor}
 use lib.ListN.{length, getD, take, drop, set, length-set}
 use lib.Seq.{slice, slice-empty, slice-cons, length-slice, take-suc-set, take-set-lt, take-set-le, drop-set-lt, drop-append-le, getD-set-same, length-take-le, getD-take, take-suc}
-use Rattle.account.proofs.Cells.{Distinct, Outside, outside-right}
+use Rattle.account.specs.Errata.{Outside, Distinct, total, divided, solve, unweighed}
 use Rattle.account.proofs.Laws as laws
 use Rattle.account.proofs.Powers as powers
 use Rattle.account.proofs.Filter as filter
-use Rattle.account.proofs.Solve as solve
-use Rattle.account.proofs.Solve.{total}
+use Rattle.account.proofs.Solve.{solve-near}
 use Rattle.gf256.specs.Gf256.{gf256, times}
-use Rattle.gf256.specs.Tables.{placeOf}
-use Rattle.gf256.proofs.Field256.{field256}
+use Rattle.gf256.specs.Tables.{placeOf, inverseOf}
+use Rattle.gf256.proofs.Field256.{field256, inverse-right}
 use Rattle.errata.specs.Errata.{at, Filtered, Listed, Divided, Solved, Unweighed}
 use Rattle.errata.proofs.Sums.{cell-below}
 
 abbrev div : ℕ → List ℕ → List ℕ → List ℕ
-div = solve.divided gf256 field256
+div = divided gf256 inverseOf
 
 -- dividing by a is multiplying with any inverse of it
-same-quotient : (u a i : ℕ) → a < 256 → a ≢ 0 → times a i ≡ 1 → times u i ≡ times u (field256 .inv a)
+same-quotient : (u a i : ℕ) → a < 256 → a ≢ 0 → times a i ≡ 1 → times u i ≡ times u (inverseOf a)
 same-quotient u a i ha na e =
-    sym (field256 .mul-one (times u i) (field256 .in-mul u i)) ∙ ap (times (times u i)) (sym (field256 .mul-inv a ha na))
-    ∙ field256 .mul-assoc u i (times a (field256 .inv a))
-    ∙ ap (times u) (sym (field256 .mul-assoc i a (field256 .inv a)) ∙ ap (λ (y : ℕ). times y (field256 .inv a)) (field256 .mul-comm i a ∙ e) ∙ field256 .mul-comm 1 (field256 .inv a))
-    ∙ sym (field256 .mul-assoc u (field256 .inv a) 1) ∙ field256 .mul-one (times u (field256 .inv a)) (field256 .in-mul u (field256 .inv a))
+    sym (field256 .mul-one (times u i) (field256 .in-mul u i)) ∙ ap (times (times u i)) (sym (inverse-right a ha na))
+    ∙ field256 .mul-assoc u i (times a (inverseOf a))
+    ∙ ap (times u) (sym (field256 .mul-assoc i a (inverseOf a)) ∙ ap (λ (y : ℕ). times y (inverseOf a)) (field256 .mul-comm i a ∙ e) ∙ field256 .mul-comm 1 (inverseOf a))
+    ∙ sym (field256 .mul-assoc u (inverseOf a) 1) ∙ field256 .mul-one (times u (inverseOf a)) (field256 .in-mul u (inverseOf a))
 
 -- ---- parts of a list that is written to
 
@@ -75,7 +74,7 @@ abbrev ys : ℕ → List ℕ → ℕ → ℕ → List ℕ
 ys n cells k j = map (placeOf n) (slice j k cells)
 
 abbrev unw : List ℕ → List ℕ → List ℕ
-unw = solve.unweighed gf256 field256
+unw = unweighed gf256
 
 -- the cells before j are divided
 pub record Dividing (n : ℕ) (cells : List ℕ) (k i : ℕ) (v : List ℕ) (s0 : ℕ) (r : List ℕ) (sum j : ℕ) : Type 0 where
@@ -139,7 +138,7 @@ module _ (n : ℕ) (cells : List ℕ) (k : ℕ) (L : Listed n cells k) where
       rest : List ℕ
       rest = div (P n cells i) (ys n cells k (j + 1)) (slice (j + 1) k r)
 
-      quotient : u ≡ times (getD r j 0) (field256 .inv (bitXor (P n cells j) (P n cells i)))
+      quotient : u ≡ times (getD r j 0) (inverseOf (bitXor (P n cells j) (P n cells i)))
       quotient =
           eu ∙ same-quotient (getD r j 0) (bitXor (P n cells j) (P n cells i)) iv (field256 .in-add (P n cells j) (P n cells i) (P-in j) (P-in i)) (apart i j (D .low) l)
           (ap₂ (λ (a b : ℕ). times (bitXor a b) iv) (sym ey) (sym ex) ∙ ei)
@@ -168,7 +167,7 @@ module _ (n : ℕ) (cells : List ℕ) (k : ℕ) (L : Listed n cells k) where
   -- ---- solving
 
   pub solve-none : (i : ℕ) (s r : List ℕ) → k ≤ i → i ≤ k → Solved n cells i k s r
-  solve-none i s r h g = none r ∙ sym (ap (λ (l : List ℕ). solve.solve gf256 field256 (map (placeOf n) l) (at s)) (none cells))
+  solve-none i s r h g = none r ∙ sym (ap (λ (l : List ℕ). solve gf256 inverseOf (map (placeOf n) l) (at s)) (none cells))
     where
       same : i ≡ k
       same = omega arith
@@ -180,11 +179,11 @@ module _ (n : ℕ) (cells : List ℕ) (k : ℕ) (L : Listed n cells k) where
       → Solved n cells i k s r
   solve-step i x s t v r h ex f S D =
       D ∙ ap (λ (vs : List ℕ). bitXor (at s 0) (total gf256 (div (P n cells i) (ys n cells k (i + 1)) vs)) ∷ div (P n cells i) (ys n cells k (i + 1)) vs) inner
-      ∙ ap (λ (xs : List ℕ). solve.solve gf256 field256 xs (at s)) (sym (ys-cons i h))
+      ∙ ap (λ (xs : List ℕ). solve gf256 inverseOf xs (at s)) (sym (ys-cons i h))
     where
-      inner : slice (i + 1) k v ≡ solve.solve gf256 field256 (ys n cells k (i + 1)) (λ m. bitXor (at s (suc m)) (times (P n cells i) (at s m)))
+      inner : slice (i + 1) k v ≡ solve gf256 inverseOf (ys n cells k (i + 1)) (λ m. bitXor (at s (suc m)) (times (P n cells i) (at s m)))
       inner =
-          S ∙ solve.solve-near gf256 field256 (ys n cells k (i + 1)) (at t) (λ m. bitXor (at s (suc m)) (times (P n cells i) (at s m)))
+          S ∙ solve-near gf256 field256 inverseOf (ys n cells k (i + 1)) (at t) (λ m. bitXor (at s (suc m)) (times (P n cells i) (at s m)))
           (λ m l. f .sum m (omega (arith, filter.length-map (placeOf n) (slice (i + 1) k cells), length-slice (i + 1) k cells (omega (arith, L .few, L .room)), L .few))
           ∙ ap (λ (z : ℕ). bitXor (at s (suc m)) (times z (at s m))) ex)
 

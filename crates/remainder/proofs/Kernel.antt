@@ -19,7 +19,7 @@ use Rattle.account.proofs.Words.{five}
 use Rattle.account.proofs.Test.{both, both-left, both-right, upto, upto-at}
 use Rattle.gf256.specs.Gf256.{gf256, times}
 use Rattle.gf256.proofs.Field256.{field256}
-use Rattle.remainder.specs.Remainder.{unpacked, AtRoots, horn, hornAll, at5, Reduced, Reductions, Moved}
+use Rattle.remainder.specs.Remainder.{packedEnd, unpacked, AtRoots, horn, hornAll, at5, Reduced, Reductions, Moved}
 
 -- all are bytes
 abbrev pub AllBytes : List ℕ → Type 0
@@ -85,7 +85,7 @@ reductions = 0 ∷ 888637148673 ∷ 557570949378 ∷ 340228787971 ∷ 1363609597
 
 -- x is a at the power 5 + k, seen from y
 right : ℕ → ℕ → ℕ → ℕ → Bool
-right k a x y = both (ltb x 1099511627776) (eqb (at5 y x) (times a (power gf256 y (5 + k))))
+right k a x y = both (ltb x packedEnd) (eqb (at5 y x) (times a (power gf256 y (5 + k))))
 
 -- at the five roots
 all : ℕ → ℕ → ℕ → Bool
@@ -107,16 +107,16 @@ five-of true true true false e t = absurd t
 
 reduced-by : (k a x : ℕ) → T (all k a x) → Reduced k a x
 unfolding all right alphaTo power product
-reduced-by k a x t = record { small = ltb→lt x 1099511627776 (small 71 (s .0)); roots = five (λ j. at5 (alphaTo gf256 j) x ≡ times a (power gf256 (alphaTo gf256 j) (5 + k))) (at 71 (s .0)) (at 142 (s .1)) (at 1 (s .2)) (at 2 (s .3)) (at 4 (s .4)) }
+reduced-by k a x t = record { small = ltb→lt x packedEnd (small 71 (s .0)); roots = five (λ j. at5 (alphaTo gf256 j) x ≡ times a (power gf256 (alphaTo gf256 j) (5 + k))) (at 71 (s .0)) (at 142 (s .1)) (at 1 (s .2)) (at 2 (s .3)) (at 4 (s .4)) }
   where
     s : T (right k a x 71) × T (right k a x 142) × T (right k a x 1) × T (right k a x 2) × T (right k a x 4)
     s = five-of (right k a x 71) (right k a x 142) (right k a x 1) (right k a x 2) (right k a x 4) t
 
-    small : (y : ℕ) → T (right k a x y) → T (ltb x 1099511627776)
-    small y u = both-left (ltb x 1099511627776) (eqb (at5 y x) (times a (power gf256 y (5 + k)))) u
+    small : (y : ℕ) → T (right k a x y) → T (ltb x packedEnd)
+    small y u = both-left (ltb x packedEnd) (eqb (at5 y x) (times a (power gf256 y (5 + k)))) u
 
     at : (y : ℕ) → T (right k a x y) → at5 y x ≡ times a (power gf256 y (5 + k))
-    at y u = eqb→eq (at5 y x) (times a (power gf256 y (5 + k))) (both-right (ltb x 1099511627776) (eqb (at5 y x) (times a (power gf256 y (5 + k)))) u)
+    at y u = eqb→eq (at5 y x) (times a (power gf256 y (5 + k))) (both-right (ltb x packedEnd) (eqb (at5 y x) (times a (power gf256 y (5 + k)))) u)
 
 row-at : (k v : ℕ) → k < 4 → v < 16 → T (all k v (getD reductions (32 * k + v) 0)) × T (all k (16 * v) (getD reductions (32 * k + 16 + v) 0))
 unfolding row
@@ -176,7 +176,7 @@ low x = mod-lt x (zero-lt-suc 255)
 pub bytes5 : (r : ℕ) → AllBytes (unpacked r)
 bytes5 r = (low _, (low _, (low _, (low _, (low _, tt)))))
 
-module _ (r : ℕ) (hr : r < 1099511627776) where
+module _ (r : ℕ) (hr : r < packedEnd) where
   abbrev a4 : ℕ
   a4 = r / 4294967296 % 256
 

@@ -8,7 +8,7 @@ use native.Mathlib.Omega.{arith}
 use lib.ListN.{length, getD, take}
 use Rattle.account.specs.Lanes.{lane}
 use Rattle.account.proofs.Lanes.{length-lane, getD-lane, getD-past}
-use Rattle.remainder.specs.Remainder.{Moved, Remains, LanesTo, LanesRemain}
+use Rattle.remainder.specs.Remainder.{packedEnd, Moved, Remains, LanesTo, LanesRemain}
 use Rattle.remainder.proofs.Whole.{begins, one-more, four-more, ends}
 
 -- P at each of four
@@ -56,5 +56,5 @@ pub lanes-end : (s : List ℕ) (i : ℕ) (r : List ℕ) → length s / 4 ≤ i �
 lanes-end s i r l R j h = ends (lane 4 j s) i (getD r j 0) (omega (arith, length-lane 4 (omega arith) j s)) (R j h)
 
 pub lanes-small : (s r : List ℕ) → LanesRemain s r
-    → (getD r 0 0 < 1099511627776) × (getD r 1 0 < 1099511627776) × (getD r 2 0 < 1099511627776) × (getD r 3 0 < 1099511627776)
+    → (getD r 0 0 < packedEnd) × (getD r 1 0 < packedEnd) × (getD r 2 0 < packedEnd) × (getD r 3 0 < packedEnd)
 lanes-small s r R = (R 0 (omega arith) .small, R 1 (omega arith) .small, R 2 (omega arith) .small, R 3 (omega arith) .small)

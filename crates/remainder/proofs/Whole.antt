@@ -19,7 +19,7 @@ use Rattle.account.proofs.Words.{value, five}
 use Rattle.account.proofs.Decode as decode
 use Rattle.gf256.specs.Gf256.{gf256, times}
 use Rattle.gf256.proofs.Field256.{field256}
-use Rattle.remainder.specs.Remainder.{unpacked, horn, hornAll, at5, Moved, Remains, Checks}
+use Rattle.remainder.specs.Remainder.{packedEnd, unpacked, horn, hornAll, at5, Moved, Remains, Checks}
 use Rattle.remainder.proofs.Kernel.{AllBytes, bytes5, horn-zero, start}
 
 -- ---- sums by Horner's rule
@@ -122,7 +122,7 @@ unpacked-none r c =
     nowhere (suc (suc (suc (suc zero)))) l a b c d e = e refl
     nowhere (suc (suc (suc (suc (suc p))))) l a b c d e = omega arith
 
-cut4 : (r : ℕ) → r < 1099511627776 → r / 4294967296 % 256 ≡ 0 → r < 4294967296
+cut4 : (r : ℕ) → r < packedEnd → r / 4294967296 % 256 ≡ 0 → r < 4294967296
 cut4 r h e = omega arith
 
 cut3 : (r : ℕ) → r < 4294967296 → r / 16777216 % 256 ≡ 0 → r < 16777216
@@ -137,7 +137,7 @@ cut1 r h e = omega arith
 cut0 : (r : ℕ) → r < 256 → r % 256 ≡ 0 → r ≡ 0
 cut0 r h e = omega arith
 
-packed-none : (r : ℕ) → r < 1099511627776 → unpacked r ≡ unpacked 0 → r ≡ 0
+packed-none : (r : ℕ) → r < packedEnd → unpacked r ≡ unpacked 0 → r ≡ 0
 packed-none r h e = cut0 r (cut1 r (cut2 r (cut3 r (cut4 r h (at 0)) (at 1)) (at 2)) (at 3)) (at 4)
   where
     at : (i : ℕ) → getD (unpacked r) i 0 ≡ getD (unpacked 0) i 0

@@ -1,8 +1,8 @@
 use Prim.Native.Nat.{ℕ}
 use native.Mathlib.Omega.{arith}
 use mathlib.Core.List.{_∷_, []}
-use Rattle.account.proofs.Filter.{filt}
-use Rattle.account.proofs.Search.{Zeros}
+use Rattle.account.specs.Errata.{filt}
+use Rattle.account.specs.Search.{Zeros}
 use Rattle.account.proofs.Locate.{not-first, not-second, do-fit, do-not-fit}
 use Rattle.gf256.specs.Gf256.{gf256}
 use Rattle.gf256.proofs.Field256.{field256}

@@ -9,10 +9,10 @@ use Rattle.errata.proofs.divide.Statement.{statement}
 use Rattle.errata.proofs.divide.Tie as tie
 
 abbrev Inv-loop : tie.InvT-loop
-Inv-loop powers logs cells n i k s0 x r₀ sum₀ j₀ r sum j = Dividing n cells k i r₀ s0 r sum j
+Inv-loop tables cells n i k s0 x r₀ sum₀ j₀ r sum j = Dividing n cells k i r₀ s0 r sum j
 
 abbrev μ-loop : tie.MeasureT-loop
-μ-loop powers logs cells n i k s0 x r₀ sum₀ j₀ r sum j = k - j
+μ-loop tables cells n i k s0 x r₀ sum₀ j₀ r sum j = k - j
 
 mul-place : tie.Need-mul-place Inv-loop μ-loop
 mul-place c = search needs

@@ -9,10 +9,10 @@ use Rattle.errata.proofs.drain.Statement.{statement}
 use Rattle.errata.proofs.drain.Tie as tie
 
 abbrev Inv-loop : tie.InvT-loop
-Inv-loop powers logs cells k n t₀ i₀ t i = (i ≤ k) × Drained n (take i cells) t₀ t
+Inv-loop tables cells k n t₀ i₀ t i = (i ≤ k) × Drained n (take i cells) t₀ t
 
 abbrev μ-loop : tie.MeasureT-loop
-μ-loop powers logs cells k n t₀ i₀ t i = k - i
+μ-loop tables cells k n t₀ i₀ t i = k - i
 
 loop-holds : tie.Need-loop-holds Inv-loop μ-loop
 loop-holds c = (search needs, drain-starts (c .args .n) (c .args .cells .now) (c .args .s))

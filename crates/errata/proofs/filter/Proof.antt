@@ -44,7 +44,7 @@ product-requires-4 c κs = search needs
 
 returns : tie.Need-returns
 returns c =
-    let s = c .before .before .before .before .args .t4 in
+    let s = c .before .before .before .before .args .t3 in
     filtered (c .before .before .before .before .args .x) _ _ _ _ s (ap (bitXor (at s 1)) (c .before .before .before .product .ensures)) (ap (bitXor (at s 2)) (c .before .before .product2 .ensures)) (ap (bitXor (at s 3)) (c .before .product3 .ensures))
     (ap (bitXor (at s 4)) (c .product4 .ensures))
 

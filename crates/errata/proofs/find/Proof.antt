@@ -1,5 +1,5 @@
 use borrow.Author.Tests.{not-true, not-false}
-use Rattle.errata.proofs.Guesses.{guessed, unguessed, listed-marks, listed-guess, left-in, beyond, mends}
+use Rattle.errata.proofs.Guesses.{guessed, unguessed, listed-marks, listed-guess, left-in, beyond, corrects}
 use borrow.Author.Needs.{needs}
 use Rattle.errata.proofs.find.Statement.{statement}
 use Rattle.errata.proofs.find.Tie as tie
@@ -10,13 +10,13 @@ gather-requires c κs = search needs
 drain-requires : tie.Need-drain-requires
 drain-requires c κs =
     let s = c .before .before .before .before in
-    (s .pre .0, listed-marks (s .args .marks .now) (c .before .gather .last .1 .1 .0) (s .args .f) (s .pre .2) (s .pre .4) (c .before .gather .ensures))
+    (s .pre .0, listed-marks (s .args .marks .now) (c .before .gather .last .1 .1 .0) (s .args .f) (s .pre .1) (s .pre .3) (c .before .gather .ensures))
 
 guess-requires : tie.Need-guess-requires
 guess-requires c κs =
     let s = c .before .before .before .before .before in
     let g = c .before .before .gather in
-    (s .pre .0, s .pre .1, s .pre .2, s .pre .4, g .ensures, left-in (s .args .marks .now) (g .last .1 .1 .0) (s .args .s) (c .drain .result) (s .args .f) (s .pre .5) (s .pre .4) (g .ensures) (c .drain .ensures))
+    (s .pre .0, s .pre .1, s .pre .3, g .ensures, left-in (s .args .marks .now) (g .last .1 .1 .0) (s .args .s) (c .drain .result) (s .args .f) (s .pre .4) (s .pre .3) (g .ensures) (c .drain .ensures))
 
 returns : tie.Need-returns
 returns c =
@@ -24,7 +24,7 @@ returns c =
     let g = c .before .before .before .before .before .gather in
     let u = c .before .before .guess in
     λ r er cr es.
-    beyond (s .args .marks .now) (s .args .s) (c .before .before .before .drain .result) r (s .args .f) (g .last .1 .1 .0) (s .pre .2) (s .pre .4) (s .pre .3) (g .ensures) (c .before .before .before .drain .ensures) er cr es
+    beyond (s .args .marks .now) (s .args .s) (c .before .before .before .drain .result) r (s .args .f) (g .last .1 .1 .0) (s .pre .1) (s .pre .3) (s .pre .2) (g .ensures) (c .before .before .before .drain .ensures) er cr es
     (unguessed (u .result .good) (s .args .marks .now) (c .before .before .before .drain .result) (s .args .f) (u .result .count) (u .result .cells) (not-true (u .result .good) (c .if1 .taken)) (u .ensures))
 
 valued-requires : tie.Need-valued-requires
@@ -32,7 +32,7 @@ valued-requires c κs =
     let s = c .before .before .before .before .before .before .before .before in
     let u = c .before .before .guess in (
       s .pre .0,
-      listed-guess (s .args .marks .now) (c .before .before .before .drain .result) (s .args .f) (u .result .count) (u .result .cells) (s .pre .2)
+      listed-guess (s .args .marks .now) (c .before .before .before .drain .result) (s .args .f) (u .result .count) (u .result .cells) (s .pre .1)
           (guessed (u .result .good) (s .args .marks .now) (c .before .before .before .drain .result) (s .args .f) (u .result .count) (u .result .cells) (not-false (u .result .good) (c .if1 .left)) (u .ensures)),
     )
 
@@ -42,7 +42,7 @@ returns-2 c =
     let g = c .before .before .before .before .before .before .gather in
     let u = c .before .before .before .guess in
     λ r er cr es.
-    mends (s .args .marks .now) (s .args .s) (c .before .before .before .before .drain .result) r (s .args .f) (g .last .1 .1 .0) (s .pre .2) (s .pre .4) (s .pre .3) (g .ensures) (c .before .before .before .before .drain .ensures) er cr es
+    corrects (s .args .marks .now) (s .args .s) (c .before .before .before .before .drain .result) r (s .args .f) (g .last .1 .1 .0) (s .pre .1) (s .pre .3) (s .pre .2) (g .ensures) (c .before .before .before .before .drain .ensures) er cr es
     (u .result .count) (u .result .cells) (c .valued .result)
     (guessed (u .result .good) (s .args .marks .now) (c .before .before .before .before .drain .result) (s .args .f) (u .result .count) (u .result .cells) (not-false (u .result .good) (c .before .if1 .left)) (u .ensures)) (c .valued .ensures)
 

@@ -30,11 +30,11 @@ product-requires-2 c κs = search needs
 returns : tie.Need-returns
 returns c =
     let s = c .before .before .before .before in
-    let t = at (s .args .t4) in
+    let t = at (s .args .t2) in
     let k = s .args .k in
     let marks = s .args .marks .now in
-    nowhere gf256 field256 t k marks (s .pre .2) (s .pre .3) (s .pre .5) (s .pre .6)
-    (λ p q lp lq f. det-some gf256 field256 t k marks (s .pre .2) (s .pre .3) (s .pre .5) (s .pre .6) p q lp lq f (sym (ap₂ bitXor (c .before .before .product .ensures) (c .before .product2 .ensures)) ∙ c .if1 .taken))
+    nowhere gf256 field256 t k marks (s .pre .1) (s .pre .2) (s .pre .4) (s .pre .5)
+    (λ p q lp lq f. det-some gf256 field256 t k marks (s .pre .1) (s .pre .2) (s .pre .4) (s .pre .5) p q lp lq f (sym (ap₂ bitXor (c .before .before .product .ensures) (c .before .product2 .ensures)) ∙ c .if1 .taken))
 
 inverse-requires : tie.Need-inverse-requires
 inverse-requires c κs = search needs
@@ -63,12 +63,12 @@ product-requires-5 c κs = search needs
 returns-2 : tie.Need-returns-2
 returns-2 c =
     let s = c .before .before .before .before .before .before .before .before .before in
-    let t = at (s .args .t4) in
+    let t = at (s .args .t2) in
     let k = s .args .k in
     let marks = s .args .marks .now in
     let i = c .before .before .before .before .inverse .result in
-    nowhere gf256 field256 t k marks (s .pre .2) (s .pre .3) (s .pre .5) (s .pre .6)
-    (λ p q lp lq f. sum-some gf256 field256 t k marks (s .pre .2) (s .pre .3) (s .pre .5) (s .pre .6) p q lp lq f
+    nowhere gf256 field256 t k marks (s .pre .1) (s .pre .2) (s .pre .4) (s .pre .5)
+    (λ p q lp lq f. sum-some gf256 field256 t k marks (s .pre .1) (s .pre .2) (s .pre .4) (s .pre .5) p q lp lq f
     (bitXor (c .before .before .before .before .before .before .before .product .result) (c .before .before .before .before .before .before .product2 .result)) i (ap₂ bitXor (c .before .before .before .before .before .before .before .product .ensures) (c .before .before .before .before .before .before .product2 .ensures)) (c .before .before .before .before .inverse .ensures)
     (c .before .product5 .result) (c .before .product5 .ensures ∙ ap (λ (z : ℕ). times z i) (ap₂ bitXor (c .before .before .before .product3 .ensures) (c .before .before .product4 .ensures))) (c .if2 .taken))
 
@@ -102,7 +102,7 @@ both-requires c κs = search needs
 returns-3 : tie.Need-returns-3
 returns-3 c =
     let s = c .before .before .before .before .before .before .before .before .before .before .before .before .before .before in
-    let t = at (s .args .t4) in
+    let t = at (s .args .t2) in
     let k = s .args .k in
     let marks = s .args .marks .now in
     let i = c .before .before .before .before .before .before .before .before .before .inverse .result in
@@ -111,8 +111,8 @@ returns-3 c =
     let x = c .before .split .result in
     let a = c .both .result .p in
     let b = c .both .result .q in
-    found gf256 field256 t k marks (s .pre .2) (s .pre .3) (s .pre .5) (s .pre .6) x (bitXor x u) u a b refl (c .before .before .before .before .before .if2 .left) (search needs) (c .both .ensures)
-    (λ e p q lp lq f. proposed gf256 field256 t k marks (s .pre .2) (s .pre .3) (s .pre .5) (s .pre .6) p q lp lq f
+    found gf256 field256 t k marks (s .pre .1) (s .pre .2) (s .pre .4) (s .pre .5) x (bitXor x u) u a b refl (c .before .before .before .before .before .if2 .left) (search needs) (c .both .ensures)
+    (λ e p q lp lq f. proposed gf256 field256 t k marks (s .pre .1) (s .pre .2) (s .pre .4) (s .pre .5) p q lp lq f
     (bitXor (c .before .before .before .before .before .before .before .before .before .before .before .before .product .result) (c .before .before .before .before .before .before .before .before .before .before .before .product2 .result)) i (ap₂ bitXor (c .before .before .before .before .before .before .before .before .before .before .before .before .product .ensures) (c .before .before .before .before .before .before .before .before .before .before .before .product2 .ensures)) (c .before .before .before .before .before .before .before .before .before .inverse .ensures)
     u v x (bitXor x u) a b
     (c .before .before .before .before .before .before .product5 .ensures ∙ ap (λ (z : ℕ). times z i) (ap₂ bitXor (c .before .before .before .before .before .before .before .before .product3 .ensures) (c .before .before .before .before .before .before .before .product4 .ensures)))

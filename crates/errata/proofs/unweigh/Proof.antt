@@ -7,10 +7,10 @@ use Rattle.errata.proofs.unweigh.Statement.{statement}
 use Rattle.errata.proofs.unweigh.Tie as tie
 
 abbrev Inv-loop : tie.InvT-loop
-Inv-loop powers logs cells n k r₀ j₀ r j = Unweighing n cells k r₀ r j
+Inv-loop tables cells n k r₀ j₀ r j = Unweighing n cells k r₀ r j
 
 abbrev μ-loop : tie.MeasureT-loop
-μ-loop powers logs cells n k r₀ j₀ r j = k - j
+μ-loop tables cells n k r₀ j₀ r j = k - j
 
 loop-holds : tie.Need-loop-holds Inv-loop μ-loop
 loop-holds c = unweigh-starts (c .args .n) (c .args .cells .now) (c .args .k) (c .pre .1) (c .args .u) (search needs)

@@ -2,8 +2,8 @@
 -- ps filtered out, are nothing; and then the solved values make it clean.
 use mathlib.Core.Path.{_≡_, refl, sym, ap, ap₂, _∙_, subst, fun-ext}
 use mathlib.Core.Logic.{_≢_}
-use mathlib.Core.List.{List, [], _∷_, _++_, map}
-use Prim.Native.Nat.{ℕ, zero, suc, _+_, _*_, _-_, _≤_, _<_}
+use mathlib.Core.List.{List, [], _∷_, map}
+use Prim.Native.Nat.{ℕ, suc, _+_, _*_, _-_, _≤_, _<_}
 use native.Mathlib.Omega.{arith}
 use native.Mathlib.Decide.{ℕ-discrete}
 use lib.ListN.{length, getD}
@@ -79,7 +79,8 @@ module _ (O : Ops) (F : IsField O) where
     pub complete : (r ps w : List ℕ) → length r ≡ n → Fixes O r ps w → (m : ℕ) → m + length ps < 5 → filt O (map X ps) (sumsOf O r) m ≡ 0
     complete r ps w en f m l =
         filter.filt-near O (map X ps) (sumsOf O r) (M (d r w)) 5
-        (λ k j. sym (d-sums r w en (f .same-length ∙ en) k ∙ ap (λ (x : ℕ). sumsOf O r k ⊕ x) (words.clean-sums O w (f .clean) k j) ∙ F .add-zero (sumsOf O r k)))
+        (λ k j. sym (d-sums r w en (f .same-length ∙ en) k ∙ ap (λ (x : ℕ). sumsOf O r k ⊕ x) (words.clean-sums O w (f .clean) k j)
+        ∙ F .add-zero (sumsOf O r k)))
         m (rw (filter.length-map X ps) l)
         ∙ filter.filt-none O F n ps (d r w) (d-in r w) (λ p k o. d-off r w p (f .rest p (subst (λ (x : ℕ). p < x) (sym en) k) o)) m
 
@@ -91,9 +92,11 @@ module _ (O : Ops) (F : IsField O) where
         ext-getD 0 v w (ev ∙ sym ew)
         (λ p l.
         laws.add-eq O F (getD v p 0) (getD w p 0)
-        (laws.mul-cancel O F (W p) (getD v p 0 ⊕ getD w p 0) (powers.pow-in O F _ _) (F .in-add (getD v p 0) (getD w p 0) (iv .cell p l) (iw .cell p (omega arith))) (W-some p)
+        (laws.mul-cancel O F (W p) (getD v p 0 ⊕ getD w p 0) (powers.pow-in O F _ _)
+        (F .in-add (getD v p 0) (getD w p 0) (iv .cell p l) (iw .cell p (omega arith))) (W-some p)
         (filter.nothing O F n short ps (d v w) b (d-in v w) (λ i k o. d-off v w i (sym (eq i k o)))
-        (λ m k. d-sums v w ev ew m ∙ ap₂ (λ (x y : ℕ). x ⊕ y) (words.clean-sums O v cv m (omega arith)) (words.clean-sums O w cw m (omega arith)) ∙ F .add-zero 0)
+        (λ m k. d-sums v w ev ew m ∙ ap₂ (λ (x y : ℕ). x ⊕ y) (words.clean-sums O v cv m (omega arith)) (words.clean-sums O w cw m (omega arith))
+        ∙ F .add-zero 0)
         p (omega arith))))
 
     -- the weights take the squares of the places off again
@@ -142,7 +145,8 @@ module _ (O : Ops) (F : IsField O) where
         at : (m : ℕ) → m < 5 → sumsOf O w m ≡ 0
         at m l =
             words.sums-moment O F (length r) w (a .same-length) m
-            ∙ sums.moment-cong O F Xr (length r) (λ p. getD w p 0 ⊗ powers.weigh O F (length r) p) (λ p. (getD r p 0 ⊗ powers.weigh O F (length r) p) ⊕ added O ps us p) m cells
+            ∙ sums.moment-cong O F Xr (length r) (λ p. getD w p 0 ⊗ powers.weigh O F (length r) p)
+            (λ p. (getD r p 0 ⊗ powers.weigh O F (length r) p) ⊕ added O ps us p) m cells
             ∙ sums.moment-add O F Xr (length r) (λ p. getD r p 0 ⊗ powers.weigh O F (length r) p) (added O ps us) m
             ∙ ap₂ (λ (x y : ℕ). x ⊕ y) (sym (words.sums-moment O F (length r) r refl m))
             (solving.solved O F (length r) short ps (sumsOf O r) 5 (words.sums-in O F (length r) r refl) b di z m l)

@@ -1,6 +1,6 @@
--- One wrong cell from a ratio, two from a quadratic (document 003). t are the sums that are left.
-use mathlib.Core.Path.{_≡_, refl, sym, ap, ap₂, _∙_, subst}
-use mathlib.Core.Logic.{_≢_, _⊎_, inl, inr, ⊎-elim}
+-- One wrong cell from a ratio, two from a quadratic. t are the sums that are left.
+use mathlib.Core.Path.{_≡_, sym, ap, ap₂, _∙_, subst}
+use mathlib.Core.Logic.{_≢_, inl, inr, ⊎-elim}
 use mathlib.Core.List.{List, [], _∷_}
 use Prim.Native.Nat.{ℕ, zero, suc, _+_, _-_, _≤_, _<_}
 use native.Mathlib.Omega.{arith}
@@ -119,7 +119,19 @@ module _ (O : Ops) (F : IsField O) where
   -- ---- identities of a commutative ring whose sum is its own inverse
 
   term : (a b c X Y : ℕ) → ((c ⊕ (X ⊗ b)) ⊕ (Y ⊗ (b ⊕ (X ⊗ a)))) ⊕ (((X ⊕ Y) ⊗ b) ⊕ ((X ⊗ Y) ⊗ a)) ≡ c
-  term a b c X Y = simp (F .mul-add, laws.add-mul O F, F .mul-assoc, F .mul-comm, laws.mul-left O F, F .add-assoc, F .add-comm, laws.add-left O F, F .add-self, laws.zero-add O F)
+  term a b c X Y =
+      simp (
+        F .mul-add,
+        laws.add-mul O F,
+        F .mul-assoc,
+        F .mul-comm,
+        laws.mul-left O F,
+        F .add-assoc,
+        F .add-comm,
+        laws.add-left O F,
+        F .add-self,
+        laws.zero-add O F,
+      )
 
   swapped : (a b c X Y : ℕ) → (c ⊕ (X ⊗ b)) ⊕ (Y ⊗ (b ⊕ (X ⊗ a))) ≡ (c ⊕ (Y ⊗ b)) ⊕ (X ⊗ (b ⊕ (Y ⊗ a)))
   swapped a b c X Y = simp (F .mul-add, F .mul-comm, laws.mul-left O F, F .add-assoc, laws.add-left O F)
@@ -132,7 +144,20 @@ module _ (O : Ops) (F : IsField O) where
 
   product-is : (a b u v : ℕ)
       → (((u ⊗ b) ⊕ (v ⊗ a)) ⊗ ((u ⊗ b) ⊕ (v ⊗ a))) ⊕ (b ⊗ ((u ⊗ ((u ⊗ b) ⊕ (v ⊗ a))) ⊕ (v ⊗ b))) ≡ v ⊗ ((b ⊗ b) ⊕ (a ⊗ ((u ⊗ b) ⊕ (v ⊗ a))))
-  product-is a b u v = simp (F .mul-add, laws.add-mul O F, F .mul-assoc, F .mul-comm, laws.mul-left O F, F .add-assoc, F .add-comm, laws.add-left O F, laws.gone O F, F .add-self, laws.zero-add O F)
+  product-is a b u v =
+      simp (
+        F .mul-add,
+        laws.add-mul O F,
+        F .mul-assoc,
+        F .mul-comm,
+        laws.mul-left O F,
+        F .add-assoc,
+        F .add-comm,
+        laws.add-left O F,
+        laws.gone O F,
+        F .add-self,
+        laws.zero-add O F,
+      )
 
   square-is : (X Y j : ℕ) → ((X ⊗ j) ⊗ (X ⊗ j)) ⊕ ((X ⊗ j) ⊗ ((X ⊕ Y) ⊗ j)) ≡ ((X ⊗ Y) ⊗ j) ⊗ j
   square-is X Y j = simp (F .mul-add, laws.add-mul O F, F .mul-assoc, laws.mul-left O F, laws.gone O F)
@@ -275,7 +300,8 @@ module _ (O : Ops) (F : IsField O) where
             → Splits O u v x → y ≡ x ⊕ u → Joined O x y t k marks a b → a ≡ length marks → ⊥
         proposed u v x y a b eu ev S ey J e =
             ⊎-elim
-            (λ g. J .none e p q lp (omega arith) (sym g) (sym (ey ∙ ap₂ (λ (c w : ℕ). c ⊕ w) g (eu ∙ u-is) ∙ laws.gone O F X Y)) (f .unmarked .0) (f .unmarked .1 .0)
+            (λ g. J .none e p q lp (omega arith) (sym g) (sym (ey ∙ ap₂ (λ (c w : ℕ). c ⊕ w) g (eu ∙ u-is) ∙ laws.gone O F X Y)) (f .unmarked .0)
+            (f .unmarked .1 .0)
             (λ m l. ap₂ (λ (c w : ℕ). filt O (c ∷ w ∷ []) t m) g (ey ∙ ap₂ (λ (c w : ℕ). c ⊕ w) g (eu ∙ u-is) ∙ laws.gone O F X Y) ∙ f .none m l))
             (λ g. J .none e q p (omega arith) lp (sym g) (sym (ey ∙ ap₂ (λ (c w : ℕ). c ⊕ w) g (eu ∙ u-is) ∙ back)) (f .unmarked .1 .0) (f .unmarked .0)
             (λ m l. ap₂ (λ (c w : ℕ). filt O (c ∷ w ∷ []) t m) g (ey ∙ ap₂ (λ (c w : ℕ). c ⊕ w) g (eu ∙ u-is) ∙ back)

@@ -1,10 +1,9 @@
 -- The search for what is wrong: a guess is a list of unmarked cells. With the marked cells it holds all that is wrong exactly
 -- where it fits: where the sums that are left, with the guess filtered out, are nothing.
-use mathlib.Core.Path.{_≡_, refl, sym, ap, ap₂, _∙_, subst}
-use mathlib.Core.Logic.{_≢_}
+use mathlib.Core.Path.{_≡_, refl, sym, ap, _∙_, subst}
 use mathlib.Core.Bool.{Bool, true, false, not}
 use mathlib.Core.List.{List, [], _∷_, _++_, map}
-use Prim.Native.Nat.{ℕ, zero, suc, _+_, _*_, _-_, _≤_, _<_}
+use Prim.Native.Nat.{ℕ, _+_, _*_, _-_, _≤_, _<_}
 use native.Mathlib.Omega.{arith}
 use lib.Dec.{T}
 use lib.ListN.{length, getD, length-append}
@@ -13,8 +12,9 @@ use Rattle.account.specs.Code.{Cells, Clean}
 use Rattle.account.specs.Errata.{Outside, Below, Distinct, place, filt, added, Applied}
 use Rattle.account.specs.Search.{places, erasures, Unmarked, Zeros, Fits}
 use Rattle.account.specs.Reach.{countTo, isMarked, differsAt, marked, differing, Reach}
-use Rattle.account.proofs.Powers as powers
-use Rattle.account.proofs.Cells.{Falling, outside-left, outside-right, outside-append, below-append, below-places, outside-places, places-outside, distinct-places, falling-places, count-places, count-most, marked-not, marked-differs, differs-unmarked, same-at, not-differs}
+use Rattle.account.proofs.Cells.{outside-left, outside-right, outside-append, outside-places, places-outside}
+use Rattle.account.proofs.Cells.{below-append, below-places, distinct-places}
+use Rattle.account.proofs.Cells.{Falling, falling-places, count-places, count-most, marked-not, marked-differs, differs-unmarked, same-at, not-differs}
 use Rattle.account.proofs.Filter as filter
 use Rattle.account.proofs.Solve as solve
 use Rattle.account.proofs.Words.{sumsOf}
@@ -74,7 +74,8 @@ module _ (O : Ops) (F : IsField O) where
         clean : Clean O w
         clean =
             decode.sound O F r (erasures marks ++ bs) (omega (arith, R .matched, R .short)) below (distinct-guess marks bs db (fit .unmarked))
-            (subst (λ (k : ℕ). (m : ℕ) → m + length (erasures marks ++ bs) < 5 → filt O (map (place O k) (erasures marks ++ bs)) (sumsOf O r) m ≡ 0) (sym (R .matched))
+            (subst (λ (k : ℕ). (m : ℕ) → m + length (erasures marks ++ bs) < 5 → filt O (map (place O k) (erasures marks ++ bs)) (sumsOf O r) m ≡ 0)
+            (sym (R .matched))
             (λ m l. fit-at bs m l ∙ fit .none m (omega (arith, length-append (erasures marks) bs, R .count))))
             w a
 

@@ -3,14 +3,13 @@ use mathlib.Core.Path.{_≡_, refl, sym, ap, ap₂, _∙_, subst}
 use mathlib.Core.Logic.{_≢_}
 use mathlib.Core.Bool.{Bool, true, false}
 use mathlib.Core.List.{List, [], _∷_, _++_, map, append-assoc, append-nil}
-use Prim.Native.Nat.{ℕ, zero, suc, _+_, _*_, _-_, _<_, _≤_}
+use Prim.Native.Nat.{ℕ, zero, suc, _+_, _-_, _<_, _≤_}
 use native.Mathlib.Numerals.{add-one}
 use native.Mathlib.Omega.{arith}
-use lib.ListN.{length, getD, take, set, length-set, length-append}
+use lib.ListN.{length, take, set, length-set}
 use lib.Seq.{take-suc-set, length-take-le}
-use lib.IntN.{pos, negsuc}
-use Rattle.account.specs.Code.{Cells, Clean, S, syndrome}
-use Rattle.account.specs.Reach.{isMarked, Reach}
+use Rattle.account.specs.Code.{Cells, syndrome}
+use Rattle.account.specs.Reach.{isMarked}
 use Rattle.account.specs.Errata.{Below, Distinct, filt, solve, unweighed, Applied}
 use Rattle.account.specs.Search.{erasures, Zeros, Fits}
 use Rattle.account.proofs.Cells.{below-append, below-places}
@@ -94,7 +93,8 @@ listing marks cells bs m short r h e b d = record {
   short = short;
   room = r;
   few = h;
-  below = subst (λ (l : List ℕ). Below l (length marks)) (sym e) (below-append (erasures marks) bs (length marks) (below-places (isMarked marks) (length marks)) b);
+  below =
+      subst (λ (l : List ℕ). Below l (length marks)) (sym e) (below-append (erasures marks) bs (length marks) (below-places (isMarked marks) (length marks)) b);
   distinct = subst Distinct (sym e) d;
 }
 
@@ -117,12 +117,14 @@ sum-at s r e (suc (suc (suc zero))) l = ap (λ (x : List ℕ). at x 3) e
 sum-at s r e (suc (suc (suc (suc zero)))) l = ap (λ (x : List ℕ). at x 4) e
 sum-at s r e (suc (suc (suc (suc (suc m))))) l = absurd (omega arith)
 
-pub left-in : (marks cells s t : List ℕ) (f : ℕ) → Bytes5 s → f ≤ 5 → Gathered marks cells f → Drained (length marks) (take f cells) s t → f + 1 < 5 → at t 1 < 256
+pub left-in : (marks cells s t : List ℕ) (f : ℕ) → Bytes5 s → f ≤ 5 → Gathered marks cells f → Drained (length marks) (take f cells) s t → f + 1 < 5
+    → at t 1 < 256
 left-in marks cells s t f b h G D l =
     subst (λ (x : ℕ). x < 256) (sym (D .sum 1 (omega (arith, length-take-le f cells (omega (arith, G .room))))))
     (filter.filt-in gf256 field256 (map (placeOf (length marks)) (take f cells)) (at s) b 1)
 
-module _ (marks s t r : List ℕ) (f : ℕ) (erased : List ℕ) (short : length marks ≤ 255) (h : f ≤ 5) (ef : f ≡ length (erasures marks)) (G : Gathered marks erased f)
+module _ (marks s t r : List ℕ) (f : ℕ) (erased : List ℕ) (short : length marks ≤ 255) (h : f ≤ 5) (ef : f ≡ length (erasures marks))
+    (G : Gathered marks erased f)
     (D : Drained (length marks) (take f erased) s t) (er : length r ≡ length marks) (cr : Cells gf256 r) (es : s ≡ syndrome gf256 r) where
   ready : Ready gf256 field256 marks r (at t) f
   ready = record {
@@ -178,5 +180,6 @@ module _ (marks s t r : List ℕ) (f : ℕ) (erased : List ℕ) (short : length 
           ))))
           ∙ ap₂ (λ (n : ℕ) (ps : List ℕ). unweighed gf256 (map (placeOf n) ps) (solve gf256 inverseOf (map (placeOf n) ps) (sumsOf gf256 r)))
           (sym er) (sym same-list)
-          ∙ ap (λ (inv : ℕ → ℕ). unweighed gf256 (map (placeOf (length r)) (cellsOf e)) (solve gf256 inv (map (placeOf (length r)) (cellsOf e)) (sumsOf gf256 r)))
+          ∙ ap (λ (inv : ℕ → ℕ). unweighed gf256 (map (placeOf (length r)) (cellsOf e))
+          (solve gf256 inv (map (placeOf (length r)) (cellsOf e)) (sumsOf gf256 r)))
           (sym inv-is)

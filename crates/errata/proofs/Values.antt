@@ -1,5 +1,5 @@
 -- The values at listed cells, by loops and by recursion.
-use mathlib.Core.Path.{_≡_, refl, sym, ap, ap₂, _∙_, subst}
+use mathlib.Core.Path.{_≡_, refl, sym, ap, ap₂, _∙_}
 use mathlib.Core.Logic.{_≢_}
 use mathlib.Core.List.{List, [], _∷_, _++_, map, append-assoc, append-nil}
 use Prim.Native.Nat.{ℕ, zero, suc, _+_, _-_, _<_, _≤_}
@@ -7,9 +7,8 @@ use native.Mathlib.Numerals.{add-one}
 use native.Mathlib.Omega.{arith}
 use lib.Bits.{bitXor}
 use lib.ListN.{length, getD, take, drop, set, length-set}
-use lib.Seq.{slice, slice-empty, slice-cons, length-slice, take-suc-set, take-set-lt, take-set-le, drop-set-lt, drop-append-le, getD-set-same, length-take-le, getD-take, take-suc}
+use lib.Seq.{slice, slice-empty, slice-cons, length-slice, take-suc-set, take-set-lt, drop-set-lt, drop-append-le, getD-set-same, length-take-le, getD-take}
 use Rattle.account.specs.Errata.{Outside, Distinct, total, divided, solve, unweighed}
-use Rattle.account.proofs.Laws as laws
 use Rattle.account.proofs.Powers as powers
 use Rattle.account.proofs.Filter as filter
 use Rattle.account.proofs.Solve.{solve-near}
@@ -27,7 +26,8 @@ same-quotient : (u a i : ℕ) → a < 256 → a ≢ 0 → times a i ≡ 1 → ti
 same-quotient u a i ha na e =
     sym (field256 .mul-one (times u i) (field256 .in-mul u i)) ∙ ap (times (times u i)) (sym (inverse-right a ha na))
     ∙ field256 .mul-assoc u i (times a (inverseOf a))
-    ∙ ap (times u) (sym (field256 .mul-assoc i a (inverseOf a)) ∙ ap (λ (y : ℕ). times y (inverseOf a)) (field256 .mul-comm i a ∙ e) ∙ field256 .mul-comm 1 (inverseOf a))
+    ∙ ap (times u) (sym (field256 .mul-assoc i a (inverseOf a)) ∙ ap (λ (y : ℕ). times y (inverseOf a)) (field256 .mul-comm i a ∙ e)
+    ∙ field256 .mul-comm 1 (inverseOf a))
     ∙ sym (field256 .mul-assoc u (inverseOf a) 1) ∙ field256 .mul-one (times u (inverseOf a)) (field256 .in-mul u (inverseOf a))
 
 -- ---- parts of a list that is written to
@@ -82,7 +82,8 @@ pub record Dividing (n : ℕ) (cells : List ℕ) (k i : ℕ) (v : List ℕ) (s0 
   pub high : j ≤ k
   pub room : length r ≡ 5
   pub list : slice (i + 1) j r ++ div (P n cells i) (ys n cells k j) (slice j k r) ≡ div (P n cells i) (ys n cells k (i + 1)) (slice (i + 1) k v)
-  pub rest : bitXor sum (total gf256 (div (P n cells i) (ys n cells k j) (slice j k r))) ≡ bitXor s0 (total gf256 (div (P n cells i) (ys n cells k (i + 1)) (slice (i + 1) k v)))
+  pub rest : bitXor sum (total gf256 (div (P n cells i) (ys n cells k j) (slice j k r)))
+      ≡ bitXor s0 (total gf256 (div (P n cells i) (ys n cells k (i + 1)) (slice (i + 1) k v)))
 
 -- the cells before j have their weights off
 pub record Unweighing (n : ℕ) (cells : List ℕ) (k : ℕ) (u r : List ℕ) (j : ℕ) : Type 0 where
@@ -121,14 +122,16 @@ module _ (n : ℕ) (cells : List ℕ) (k : ℕ) (L : Listed n cells k) where
     rest = refl;
   }
 
-  pub divide-goes : (i : ℕ) (v : List ℕ) (s0 : ℕ) (r : List ℕ) (sum j x y iv u : ℕ) → j < k → Dividing n cells k i v s0 r sum j → x ≡ P n cells i → y ≡ P n cells j
+  pub divide-goes : (i : ℕ) (v : List ℕ) (s0 : ℕ) (r : List ℕ) (sum j x y iv u : ℕ) → j < k → Dividing n cells k i v s0 r sum j → x ≡ P n cells i
+      → y ≡ P n cells j
       → times (bitXor y x) iv ≡ 1 → u ≡ times (getD r j 0) iv → Dividing n cells k i v s0 (set r j u) (bitXor sum u) (j + 1)
   divide-goes i v s0 r sum j x y iv u l D ex ey ei eu = record {
     low = omega (arith, D .low);
     high = omega arith;
     room = length-set r j u ∙ D .room;
     list =
-        ap₂ (λ (a b : List ℕ). a ++ div (P n cells i) (ys n cells k (j + 1)) b) (up-to (i + 1) j r u (omega (arith, D .low)) (omega (arith, D .room, L .few))) (after j k r u l)
+        ap₂ (λ (a b : List ℕ). a ++ div (P n cells i) (ys n cells k (j + 1)) b)
+        (up-to (i + 1) j r u (omega (arith, D .low)) (omega (arith, D .room, L .few))) (after j k r u l)
         ∙ append-assoc (slice (i + 1) j r) (u ∷ []) rest ∙ ap (λ (b : List ℕ). slice (i + 1) j r ++ b) (sym here) ∙ D .list;
     rest =
         ap (λ (b : List ℕ). bitXor (bitXor sum u) (total gf256 (div (P n cells i) (ys n cells k (j + 1)) b))) (after j k r u l)
@@ -140,7 +143,8 @@ module _ (n : ℕ) (cells : List ℕ) (k : ℕ) (L : Listed n cells k) where
 
       quotient : u ≡ times (getD r j 0) (inverseOf (bitXor (P n cells j) (P n cells i)))
       quotient =
-          eu ∙ same-quotient (getD r j 0) (bitXor (P n cells j) (P n cells i)) iv (field256 .in-add (P n cells j) (P n cells i) (P-in j) (P-in i)) (apart i j (D .low) l)
+          eu ∙ same-quotient (getD r j 0) (bitXor (P n cells j) (P n cells i)) iv (field256 .in-add (P n cells j) (P n cells i) (P-in j) (P-in i))
+          (apart i j (D .low) l)
           (ap₂ (λ (a b : ℕ). times (bitXor a b) iv) (sym ey) (sym ex) ∙ ei)
 
       here : div (P n cells i) (ys n cells k j) (slice j k r) ≡ u ∷ rest
@@ -148,7 +152,8 @@ module _ (n : ℕ) (cells : List ℕ) (k : ℕ) (L : Listed n cells k) where
           ap₂ (div (P n cells i)) (ys-cons j l) (from j k r l (omega (arith, D .room, L .few)))
           ∙ ap (λ (a : ℕ). a ∷ rest) (sym quotient)
 
-  pub divide-ends : (i : ℕ) (v : List ℕ) (s0 : ℕ) (r : List ℕ) (sum j : ℕ) → i < k → k ≤ j → Dividing n cells k i v s0 r sum j → Divided n cells i k v s0 (set r i sum)
+  pub divide-ends : (i : ℕ) (v : List ℕ) (s0 : ℕ) (r : List ℕ) (sum j : ℕ) → i < k → k ≤ j → Dividing n cells k i v s0 r sum j
+      → Divided n cells i k v s0 (set r i sum)
   divide-ends i v s0 r sum j h g D =
       set-from i k r sum h (omega (arith, D .room, L .few))
       ∙ ap₂ (λ (a : ℕ) (b : List ℕ). a ∷ b)
@@ -184,7 +189,12 @@ module _ (n : ℕ) (cells : List ℕ) (k : ℕ) (L : Listed n cells k) where
       inner : slice (i + 1) k v ≡ solve gf256 inverseOf (ys n cells k (i + 1)) (λ m. bitXor (at s (suc m)) (times (P n cells i) (at s m)))
       inner =
           S ∙ solve-near gf256 field256 inverseOf (ys n cells k (i + 1)) (at t) (λ m. bitXor (at s (suc m)) (times (P n cells i) (at s m)))
-          (λ m l. f .sum m (omega (arith, filter.length-map (placeOf n) (slice (i + 1) k cells), length-slice (i + 1) k cells (omega (arith, L .few, L .room)), L .few))
+          (λ m l. f .sum m (omega (
+            arith,
+            filter.length-map (placeOf n) (slice (i + 1) k cells),
+            length-slice (i + 1) k cells (omega (arith, L .few, L .room)),
+            L .few,
+          ))
           ∙ ap (λ (z : ℕ). bitXor (at s (suc m)) (times z (at s m))) ex)
 
   -- ---- the weights taken off
@@ -192,7 +202,8 @@ module _ (n : ℕ) (cells : List ℕ) (k : ℕ) (L : Listed n cells k) where
   pub unweigh-starts : (u : List ℕ) → length u ≡ 5 → Unweighing n cells k u u 0
   unweigh-starts u e = record { high = omega arith; room = e; list = refl }
 
-  pub unweigh-goes : (u r : List ℕ) (j x v w : ℕ) → j < k → Unweighing n cells k u r j → x ≡ P n cells j → v ≡ times (getD r j 0) x → w ≡ times v x → Unweighing n cells k u (set r j w) (j + 1)
+  pub unweigh-goes : (u r : List ℕ) (j x v w : ℕ) → j < k → Unweighing n cells k u r j → x ≡ P n cells j → v ≡ times (getD r j 0) x → w ≡ times v x
+      → Unweighing n cells k u (set r j w) (j + 1)
   unweigh-goes u r j x v w l U ex ev ew = record {
     high = omega arith;
     room = length-set r j w ∙ U .room;

@@ -52,8 +52,8 @@ pub record Gathered (marks cells : List ℕ) (f : ℕ) : Type 0 where
 abbrev pub CellAt : ℕ → List ℕ → ℕ → Type 0
 CellAt = CellOf gf256
 
-abbrev pub FitsAlone : List ℕ → ℕ → List ℕ → ℕ → Type 0
-FitsAlone t k marks p = Fits gf256 marks (at t) k (p ∷ [])
+abbrev pub NoneAlone : List ℕ → ℕ → List ℕ → Type 0
+NoneAlone t k marks = (p : ℕ) → p < length marks → Fits gf256 marks (at t) k (p ∷ []) → ⊥
 
 abbrev pub One : List ℕ → ℕ → List ℕ → ℕ → Type 0
 One t = Found1 gf256 (at t)
@@ -84,7 +84,7 @@ NotNone t f = Zeros (5 - f) (at t) → ⊥
 
 -- no cell fits alone
 abbrev pub NotOne : List ℕ → List ℕ → ℕ → Type 0
-NotOne marks t f = (p : ℕ) → p < length marks → Fits gf256 marks (at t) (5 - f - 1) (p ∷ []) → ⊥
+NotOne marks t f = NoneAlone t (5 - f - 1) marks
 
 -- no two cells fit
 abbrev pub NotTwo : List ℕ → List ℕ → ℕ → Type 0

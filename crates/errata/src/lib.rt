@@ -2,17 +2,14 @@
 // written here but the list of marked cells. The table is made once by an entry and lent.
 ghost use mathlib.Core.Path.{_≡_};
 ghost use mathlib.Core.Bool.{true};
-ghost use mathlib.Core.List.{_∷_, []};
-ghost use Prim.Native.Nat.{ℕ, suc, _+_, _<_, _≤_};
-ghost use lib.Bits.{bitXor};
+ghost use Prim.Native.Nat.{suc, _+_, _<_, _≤_};
 ghost use lib.ListN.{length, take};
-ghost use Rattle.account.specs.Code.{syndrome};
 ghost use Rattle.account.specs.Reach.{isMarked};
 ghost use Rattle.account.specs.Search.{Zeros, erasures};
-ghost use Rattle.gf256.specs.Gf256.{gf256, times};
 ghost use Rattle.gf256.specs.Tables.{Tables};
 ghost use Rattle.rules.specs.Says.{Says};
-ghost use Rattle.errata.specs.Errata.{at, Filtered, Pushed, Gathered, Listed, Drained, CellAt, One, Two, Both, Split, FitsAlone, Divided, Solved, Unweighed, NotNone, NotOne, GuessedAs, Bytes5, Valued, FoundFor};
+ghost use Rattle.errata.specs.Errata.{at, Filtered, Pushed, Gathered, Listed, Drained, CellAt, One, Two, Both, Split};
+ghost use Rattle.errata.specs.Errata.{NoneAlone, Divided, Solved, Unweighed, NotNone, NotOne, GuessedAs, Bytes5, Valued, FoundFor};
 
 // At most five cells, each with what to add there.
 pub struct Errata {
@@ -178,7 +175,7 @@ fn both(tables: &[u8; 1022], t: [u8; 5], k: usize, marks: &[u8], x: u8, y: u8) -
 
 // The two cells that fit, by a quadratic; or n. No cell fits alone.
 fn two(tables: &[u8; 1022], t: [u8; 5], k: usize, marks: &[u8]) -> Pair
-    requires { ⌜ Tables (now tables) × (length (now marks) ≤ 255) × (2 ≤ k) × (k ≤ 3) × (at t 1 < 256) × ((p : ℕ) → p < length (now marks) → FitsAlone t (suc k) (now marks) p → ⊥) ⌝ }
+    requires { ⌜ Tables (now tables) × (length (now marks) ≤ 255) × (2 ≤ k) × (k ≤ 3) × (at t 1 < 256) × NoneAlone t (suc k) (now marks) ⌝ }
     ensures { λ r. ⌜ Two t k (now (marks .entry)) r ⌝ }
 {
     let n = marks.len();
@@ -330,7 +327,8 @@ fn guess_one(tables: &[u8; 1022], t: [u8; 5], f: usize, marks: &[u8], erased: [u
 
 // One is not enough, and two may be wrong: those.
 fn guess_two(tables: &[u8; 1022], t: [u8; 5], f: usize, marks: &[u8], erased: [usize; 5]) -> Listing
-    requires { ⌜ Tables (now tables) × (length (now marks) ≤ 255) × (f ≤ 1) × Gathered (now marks) erased f × (at t 1 < 256) × NotNone t f × NotOne (now marks) t f ⌝ }
+    requires { ⌜ Tables (now tables) × (length (now marks) ≤ 255) × (f ≤ 1) × Gathered (now marks) erased f × (at t 1 < 256) × NotNone t f × NotOne
+        (now marks) t f ⌝ }
     ensures { λ r. ⌜ GuessedAs (r .good) (now (marks .entry)) t f (r .count) (r .cells) ⌝ }
 {
     let left = 5 - f;

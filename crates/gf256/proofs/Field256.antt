@@ -11,7 +11,7 @@ use lib.ListN.{getD}
 use lib.Bits.{bitXor}
 use Rattle.account.specs.Field.{IsField, power}
 use Rattle.account.specs.Product.{timesT, horner, product}
-use Rattle.account.proofs.Test.{upto, upto-at, walk-at, repeated}
+use Rattle.account.proofs.Test.{upto-at, walk-at, repeated}
 use Rattle.account.proofs.Product as laws
 use Rattle.account.proofs.Powers as powers
 use Rattle.gf256.specs.Gf256.{gf256, times}

@@ -42,7 +42,8 @@ whole x (suc i) k e =
 reduced : (x k : ℕ) → power gf256 x 255 ≡ 1 → power gf256 x (k % 255) ≡ power gf256 x k
 reduced x k e =
     sym
-    (ap (power gf256 x) split ∙ powers.pow-add gf256 field256 x (255 * (k / 255)) (k % 255) ∙ ap (λ (y : ℕ). times y (power gf256 x (k % 255))) (whole x (k / 255) 255 e)
+    (ap (power gf256 x) split ∙ powers.pow-add gf256 field256 x (255 * (k / 255)) (k % 255)
+    ∙ ap (λ (y : ℕ). times y (power gf256 x (k % 255))) (whole x (k / 255) 255 e)
     ∙ field256 .mul-comm 1 (power gf256 x (k % 255)) ∙ field256 .mul-one (power gf256 x (k % 255)) (powers.pow-in gf256 field256 x (k % 255)))
   where
     split : k ≡ 255 * (k / 255) + k % 255

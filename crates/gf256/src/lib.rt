@@ -1,7 +1,6 @@
 // GF(256): products, inverses and powers of α by a table that an entry makes once and lends.
 ghost use mathlib.Core.Path.{_≡_};
 ghost use Prim.Native.Nat.{_≤_, _<_};
-ghost use lib.IntN.{ℤ};
 ghost use Rattle.account.specs.Field.{power};
 ghost use Rattle.account.specs.Code.{alphaTo};
 ghost use Rattle.account.specs.Search.{HalfOf};

@@ -153,9 +153,12 @@ solve-returns-2 : (t : ℕ) → solve-lts.Need-returns-2 (
   divide-reads.Learnt,
 ) (solve-at t) solve.Post
 solve-returns-2 t c =
-    let s = c .before .before .before .before .before .before in
-    solve-step (s .args .n) (s .args .cells .now) (s .args .k) (s .pre .1 .1) (s .args .i) (c .before .before .before .place .result) (s .args .t6) (c .before .before .filter .result) (c .before .solve .result) (c .divide .result)
-    (omega arith) (c .before .before .before .place .ensures) (c .before .before .filter .ensures) (c .before .solve .ensures) (c .divide .ensures)
+    let c2 = c .before .before in
+    let c3 = c2 .before in
+    let s = c3 .before .before .before in
+    solve-step (s .args .n) (s .args .cells .now) (s .args .k) (s .pre .1 .1) (s .args .i) (c3 .place .result) (s .args .t6) (c2 .filter .result)
+    (c .before .solve .result) (c .divide .result)
+    (omega arith) (c3 .place .ensures) (c2 .filter .ensures) (c .before .solve .ensures) (c .divide .ensures)
 
 pub +solve-spec : {M : Type 1} → statement M
 +solve-spec = close μ-solve λ t. solve-lts.spec (

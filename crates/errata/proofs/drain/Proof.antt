@@ -39,10 +39,12 @@ loop-less c = search needs
 
 loop-again : tie.Need-loop-again Inv-loop μ-loop
 loop-again c =
-    let s = c .before .before .before .before .before in
-    let L = c .before .before .before .before .loop in (
+    let c4 = c .before .before .before .before in
+    let s = c4 .before in
+    let L = c4 .loop in (
       omega arith,
-      drain-goes (s .args .n) (s .args .cells .now) (s .args .s) (L .t) (c .filter .result) (L .i) (c .before .place .result) (omega (arith, s .pre .1 .few, s .pre .1 .room)) (L .inv .1)
+      drain-goes (s .args .n) (s .args .cells .now) (s .args .s) (L .t) (c .filter .result) (L .i) (c .before .place .result)
+          (omega (arith, s .pre .1 .few, s .pre .1 .room)) (L .inv .1)
           (c .before .place .ensures) (c .filter .ensures),
     )
 

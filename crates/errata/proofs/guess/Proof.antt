@@ -22,9 +22,10 @@ returns c =
 
 returns-2 : tie.Need-returns-2
 returns-2 c =
-    let s = c .before .before .before .before in
+    let c2 = c .before .before in
+    let s = c2 .before .before in
     record {
-      not-none = denied (Zeros (5 - s .args .f) (at (s .args .t))) (c .before .before .zeros .result) (c .before .if1 .left) (c .before .before .zeros .ensures);
+      not-none = denied (Zeros (5 - s .args .f) (at (s .args .t))) (c2 .zeros .result) (c .before .if1 .left) (c2 .zeros .ensures);
       not-one = λ h. absurd (omega (arith, c .if2 .taken));
       not-two = λ h. absurd (omega (arith, c .if2 .taken));
     }

@@ -24,7 +24,8 @@ returns : tie.Need-returns
 returns c =
     let b = c .before .before in
     let s = b .before .before .before in
-    splits gf256 field256 (s .args .u) (s .args .v) (b .before .before .inverse .result) (b .before .product .result) (b .product2 .result) (c .before .half .result) (c .product3 .result)
+    splits gf256 field256 (s .args .u) (s .args .v) (b .before .before .inverse .result) (b .before .product .result) (b .product2 .result)
+    (c .before .half .result) (c .product3 .result)
     (c .before .half .ensures) (search needs) (b .before .before .inverse .ensures) (b .before .product .ensures) (b .product2 .ensures) (c .product3 .ensures)
 
 pub split-spec : {M : Type 1} → statement M

@@ -1,11 +1,9 @@
-use mathlib.Core.Path.{_≡_, refl, ap, _∙_}
-use mathlib.Core.List.{List, map}
-use Prim.Native.Nat.{ℕ}
+use mathlib.Core.Path.{refl, ap, _∙_}
+use mathlib.Core.List.{map}
 use lib.ListN.{take}
 use Rattle.account.specs.Errata.{unweighed}
 use Rattle.gf256.specs.Gf256.{gf256}
 use Rattle.gf256.specs.Tables.{placeOf}
-use Rattle.gf256.proofs.Field256.{field256}
 use borrow.Author.Needs.{needs}
 use Rattle.errata.proofs.valued.Statement.{statement}
 use Rattle.errata.proofs.valued.Tie as tie

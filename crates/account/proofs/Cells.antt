@@ -3,28 +3,15 @@ use mathlib.Core.Path.{_≡_, refl, sym, ap, ap₂, _∙_, subst}
 use mathlib.Core.Logic.{_≢_}
 use mathlib.Core.Bool.{Bool, true, false, not}
 use mathlib.Core.List.{List, [], _∷_, _++_}
-use Prim.Native.Nat.{ℕ, zero, suc, _+_, _*_, _≤_, _<_}
+use Prim.Native.Nat.{ℕ, zero, suc, _+_, _≤_, _<_}
 use native.Mathlib.Omega.{arith}
 use native.Mathlib.Decide.{ℕ-discrete}
 use lib.Dec.{T, eqb, eqb→eq, eqb-refl}
 use lib.ListN.{length, getD}
 use borrow.Author.Tests.{eq-eqb}
 use Rattle.account.specs.Reach.{oneIf, and, countTo, isMarked, differsAt}
-
--- i is none of the cells ps
-abbrev pub Outside : List ℕ → ℕ → Type 0
-Outside [] i = Unit {0}
-Outside (p ∷ ps) i = (i ≢ p) × Outside ps i
-
--- each of the cells ps is below n
-abbrev pub Below : List ℕ → ℕ → Type 0
-Below [] n = Unit {0}
-Below (p ∷ ps) n = (p < n) × Below ps n
-
--- no cell twice
-abbrev pub Distinct : List ℕ → Type 0
-Distinct [] = Unit {0}
-Distinct (p ∷ ps) = Outside ps p × Distinct ps
+use Rattle.account.specs.Errata.{Outside, Below, Distinct}
+use Rattle.account.specs.Search.{addIf, places}
 
 pub outside-left : (ps qs : List ℕ) (i : ℕ) → Outside (ps ++ qs) i → Outside ps i
 outside-left [] qs i o = tt
@@ -52,14 +39,6 @@ below-at (p ∷ ps) n zero b h = b .0
 below-at (p ∷ ps) n (suc i) b h = below-at ps n i (b .1) (omega arith)
 
 -- ---- the cells at which f passes, the highest first
-
-abbrev pub addIf : Bool → ℕ → List ℕ → List ℕ
-addIf true i ps = i ∷ ps
-addIf false i ps = ps
-
-abbrev pub places : (ℕ → Bool) → ℕ → List ℕ
-places f zero = []
-places f (suc n) = addIf (f n) n (places f n)
 
 pub below-places : (f : ℕ → Bool) (n : ℕ) → Below (places f n) n
 below-places f zero = tt

@@ -2,23 +2,22 @@
 -- ps filtered out, are nothing; and then the solved values make it clean.
 use mathlib.Core.Path.{_≡_, refl, sym, ap, ap₂, _∙_, subst, fun-ext}
 use mathlib.Core.Logic.{_≢_}
-use mathlib.Core.List.{List, [], _∷_, _++_, map}
-use Prim.Native.Nat.{ℕ, zero, suc, _+_, _*_, _-_, _≤_, _<_}
+use mathlib.Core.List.{List, [], _∷_, map}
+use Prim.Native.Nat.{ℕ, suc, _+_, _*_, _-_, _≤_, _<_}
 use native.Mathlib.Omega.{arith}
 use native.Mathlib.Decide.{ℕ-discrete}
 use lib.ListN.{length, getD}
 use lib.Seq.{ext-getD}
 use Rattle.account.specs.Field.{Ops, In, IsField}
 use Rattle.account.specs.Code.{Cells, Clean}
+use Rattle.account.specs.Errata.{Outside, Below, Distinct, place, filt, solve, unweighed, added, only, Applied}
 use Rattle.account.proofs.Laws as laws
 use Rattle.account.proofs.Powers as powers
 use Rattle.account.proofs.Sums as sums
 use Rattle.account.proofs.Sums.{moment}
-use Rattle.account.proofs.Cells.{Outside, Below, Distinct}
 use Rattle.account.proofs.Filter as filter
-use Rattle.account.proofs.Filter.{filt}
-use Rattle.account.proofs.Solve as solve
-use Rattle.account.proofs.Solve.{added, only, only-here, only-off}
+use Rattle.account.proofs.Solve as solving
+use Rattle.account.proofs.Solve.{only-here, only-off}
 use Rattle.account.proofs.Words as words
 use Rattle.account.proofs.Words.{sumsOf}
 
@@ -29,11 +28,6 @@ pub record Fixes (O : Ops) (r ps w : List ℕ) : Type 0 where
   pub clean : Clean O w
   pub rest : (p : ℕ) → p < length r → Outside ps p → getD w p 0 ≡ getD r p 0
 
--- w is r with the errata of cells ps and values vs
-pub record Applied (O : Ops) (ps vs r w : List ℕ) : Type 0 where
-  pub same-length : length w ≡ length r
-  pub cell : (p : ℕ) → p < length r → getD w p 0 ≡ O ._⊕_ (getD r p 0) (added O ps vs p)
-
 module _ (O : Ops) (F : IsField O) where
   open Ops O using (_⊕_, _⊗_, order)
 
@@ -41,15 +35,15 @@ module _ (O : Ops) (F : IsField O) where
   infixl 70 _⊗_
   -- the values to add at the cells ps of r
   abbrev pub values : List ℕ → List ℕ → List ℕ
-  values ps r = solve.unweighed O F (map (powers.place O F (length r)) ps) (solve.solve O F (map (powers.place O F (length r)) ps) (sumsOf O r))
+  values ps r = unweighed O (map (place O (length r)) ps) (solve O (F .inv) (map (place O (length r)) ps) (sumsOf O r))
 
-  pub values-in : (ps r : List ℕ) → solve.AllIn O F (values ps r)
+  pub values-in : (ps r : List ℕ) → solving.AllIn O F (values ps r)
   values-in ps r =
-      solve.unweighed-in O F (map (powers.place O F (length r)) ps) (solve.solve O F (map (powers.place O F (length r)) ps) (sumsOf O r))
+      solving.unweighed-in O F (map (place O (length r)) ps) (solve O (F .inv) (map (place O (length r)) ps) (sumsOf O r))
 
   module _ (n : ℕ) where
     abbrev X : ℕ → ℕ
-    X = powers.place O F n
+    X = place O n
 
     abbrev W : ℕ → ℕ
     W = powers.weigh O F n
@@ -85,7 +79,8 @@ module _ (O : Ops) (F : IsField O) where
     pub complete : (r ps w : List ℕ) → length r ≡ n → Fixes O r ps w → (m : ℕ) → m + length ps < 5 → filt O (map X ps) (sumsOf O r) m ≡ 0
     complete r ps w en f m l =
         filter.filt-near O (map X ps) (sumsOf O r) (M (d r w)) 5
-        (λ k j. sym (d-sums r w en (f .same-length ∙ en) k ∙ ap (λ (x : ℕ). sumsOf O r k ⊕ x) (words.clean-sums O w (f .clean) k j) ∙ F .add-zero (sumsOf O r k)))
+        (λ k j. sym (d-sums r w en (f .same-length ∙ en) k ∙ ap (λ (x : ℕ). sumsOf O r k ⊕ x) (words.clean-sums O w (f .clean) k j)
+        ∙ F .add-zero (sumsOf O r k)))
         m (rw (filter.length-map X ps) l)
         ∙ filter.filt-none O F n ps (d r w) (d-in r w) (λ p k o. d-off r w p (f .rest p (subst (λ (x : ℕ). p < x) (sym en) k) o)) m
 
@@ -97,17 +92,19 @@ module _ (O : Ops) (F : IsField O) where
         ext-getD 0 v w (ev ∙ sym ew)
         (λ p l.
         laws.add-eq O F (getD v p 0) (getD w p 0)
-        (laws.mul-cancel O F (W p) (getD v p 0 ⊕ getD w p 0) (powers.pow-in O F _ _) (F .in-add (getD v p 0) (getD w p 0) (iv .cell p l) (iw .cell p (omega arith))) (W-some p)
+        (laws.mul-cancel O F (W p) (getD v p 0 ⊕ getD w p 0) (powers.pow-in O F _ _)
+        (F .in-add (getD v p 0) (getD w p 0) (iv .cell p l) (iw .cell p (omega arith))) (W-some p)
         (filter.nothing O F n short ps (d v w) b (d-in v w) (λ i k o. d-off v w i (sym (eq i k o)))
-        (λ m k. d-sums v w ev ew m ∙ ap₂ (λ (x y : ℕ). x ⊕ y) (words.clean-sums O v cv m (omega arith)) (words.clean-sums O w cw m (omega arith)) ∙ F .add-zero 0)
+        (λ m k. d-sums v w ev ew m ∙ ap₂ (λ (x y : ℕ). x ⊕ y) (words.clean-sums O v cv m (omega arith)) (words.clean-sums O w cw m (omega arith))
+        ∙ F .add-zero 0)
         p (omega arith))))
 
     -- the weights take the squares of the places off again
-    reweighed : (ps us : List ℕ) (i : ℕ) → solve.AllIn O F us → added O ps (solve.unweighed O F (map X ps) us) i ⊗ W i ≡ added O ps us i
+    reweighed : (ps us : List ℕ) (i : ℕ) → solving.AllIn O F us → added O ps (unweighed O (map X ps) us) i ⊗ W i ≡ added O ps us i
     reweighed [] us i h = laws.zero-mul O F (W i)
     reweighed (p ∷ ps) [] i h = laws.zero-mul O F (W i)
     reweighed (p ∷ ps) (u ∷ us) i h =
-        laws.add-mul O F (only p ((u ⊗ X p) ⊗ X p) i) (added O ps (solve.unweighed O F (map X ps) us) i) (W i)
+        laws.add-mul O F (only p ((u ⊗ X p) ⊗ X p) i) (added O ps (unweighed O (map X ps) us) i) (W i)
         ∙ ap₂ (λ (x y : ℕ). x ⊕ y) (here (ℕ-discrete i p)) (reweighed ps us i (h .1))
       where
         here : Dec (i ≡ p) → only p ((u ⊗ X p) ⊗ X p) i ⊗ W i ≡ only p u i
@@ -121,16 +118,16 @@ module _ (O : Ops) (F : IsField O) where
 
   -- sound: where the filtered sums are nothing, the solved values make r clean
   module _ (r ps : List ℕ) (short : length r ≤ order) (b : Below ps (length r)) (di : Distinct ps)
-      (z : (m : ℕ) → m + length ps < 5 → filt O (map (powers.place O F (length r)) ps) (sumsOf O r) m ≡ 0) where
+      (z : (m : ℕ) → m + length ps < 5 → filt O (map (place O (length r)) ps) (sumsOf O r) m ≡ 0) where
     abbrev Xr : ℕ → ℕ
-    Xr = powers.place O F (length r)
+    Xr = place O (length r)
 
     us : List ℕ
-    us = solve.solve O F (map Xr ps) (sumsOf O r)
+    us = solve O (F .inv) (map Xr ps) (sumsOf O r)
 
-    us-in : solve.AllIn O F us
+    us-in : solving.AllIn O F us
     unfolding us
-    us-in = solve.solve-in O F (map Xr ps) (sumsOf O r) (words.sums-in O F (length r) r refl 0)
+    us-in = solving.solve-in O F (map Xr ps) (sumsOf O r) (words.sums-in O F (length r) r refl 0)
 
     pub sound : (w : List ℕ) → Applied O ps (values ps r) r w → Clean O w
     unfolding us
@@ -148,8 +145,9 @@ module _ (O : Ops) (F : IsField O) where
         at : (m : ℕ) → m < 5 → sumsOf O w m ≡ 0
         at m l =
             words.sums-moment O F (length r) w (a .same-length) m
-            ∙ sums.moment-cong O F Xr (length r) (λ p. getD w p 0 ⊗ powers.weigh O F (length r) p) (λ p. (getD r p 0 ⊗ powers.weigh O F (length r) p) ⊕ added O ps us p) m cells
+            ∙ sums.moment-cong O F Xr (length r) (λ p. getD w p 0 ⊗ powers.weigh O F (length r) p)
+            (λ p. (getD r p 0 ⊗ powers.weigh O F (length r) p) ⊕ added O ps us p) m cells
             ∙ sums.moment-add O F Xr (length r) (λ p. getD r p 0 ⊗ powers.weigh O F (length r) p) (added O ps us) m
             ∙ ap₂ (λ (x y : ℕ). x ⊕ y) (sym (words.sums-moment O F (length r) r refl m))
-            (solve.solved O F (length r) short ps (sumsOf O r) 5 (words.sums-in O F (length r) r refl) b di z m l)
+            (solving.solved O F (length r) short ps (sumsOf O r) 5 (words.sums-in O F (length r) r refl) b di z m l)
             ∙ F .add-self (sumsOf O r m)

@@ -3,21 +3,16 @@
 use mathlib.Core.Path.{_≡_, refl, sym, ap, ap₂, _∙_, fun-ext}
 use mathlib.Core.Logic.{_≢_}
 use mathlib.Core.List.{List, [], _∷_, _++_, map}
-use Prim.Native.Nat.{ℕ, zero, suc, _+_, _-_, _≤_, _<_}
+use Prim.Native.Nat.{ℕ, suc, _+_, _-_, _≤_, _<_}
 use native.Mathlib.Omega.{arith}
 use native.Mathlib.Decide.{ℕ-discrete}
 use lib.ListN.{length}
-use Rattle.account.specs.Field.{Ops, In, IsField, power, sumTo}
+use Rattle.account.specs.Field.{Ops, In, IsField, power}
+use Rattle.account.specs.Errata.{Outside, Below, place, filt}
 use Rattle.account.proofs.Laws as laws
 use Rattle.account.proofs.Powers as powers
 use Rattle.account.proofs.Sums as sums
 use Rattle.account.proofs.Sums.{moment}
-use Rattle.account.proofs.Cells.{Outside, Below}
-
--- the moments s, with the places xs filtered out
-abbrev pub filt : Ops → List ℕ → (ℕ → ℕ) → ℕ → ℕ
-filt O [] s = s
-filt O (x ∷ xs) s = filt O xs (λ m. O ._⊕_ (s (suc m)) (O ._⊗_ x (s m)))
 
 -- what that multiplies the cell at y by
 abbrev pub weight : Ops → List ℕ → ℕ → ℕ
@@ -56,7 +51,7 @@ module _ (O : Ops) (F : IsField O) where
   -- a word of n cells, at their places
   module _ (n : ℕ) where
     abbrev X : ℕ → ℕ
-    X = powers.place O F n
+    X = place O n
 
     abbrev pub M : (ℕ → ℕ) → ℕ → ℕ
     M = moment O X n
@@ -94,7 +89,8 @@ module _ (O : Ops) (F : IsField O) where
             ∙ ap (λ (x : ℕ). (X i ⊕ X p) ⊗ x) (rec (λ o. h (ne, o))) ∙ laws.mul-zero O F (X i ⊕ X p)
 
     -- with all of the word's cells filtered out nothing is left
-    pub filt-none : (ps : List ℕ) (v : ℕ → ℕ) → ((i : ℕ) → i < n → In O (v i)) → ((i : ℕ) → i < n → Outside ps i → v i ≡ 0) → (m : ℕ) → filt O (map X ps) (M v) m ≡ 0
+    pub filt-none : (ps : List ℕ) (v : ℕ → ℕ) → ((i : ℕ) → i < n → In O (v i)) → ((i : ℕ) → i < n → Outside ps i → v i ≡ 0) → (m : ℕ)
+        → filt O (map X ps) (M v) m ≡ 0
     filt-none ps v vi z m =
         filt-moment (map X ps) v vi m
         ∙ sums.moment-zero O F X n (λ i. v i ⊗ weight O (map X ps) (X i)) m (λ i l. filtered-out ps (v i) i (z i l))

@@ -131,7 +131,8 @@ module _ (O : Ops) (F : IsField O) where
 
   -- by its factors
   value-generator : (x : ℕ) → value O x (generator O)
-      ≡ value O x (factor O (negsuc 1)) ⊗ (value O x (factor O (negsuc 0)) ⊗ (value O x (factor O (pos 0)) ⊗ (value O x (factor O (pos 1)) ⊗ value O x (factor O (pos 2)))))
+      ≡ value O x (factor O (negsuc 1))
+      ⊗ (value O x (factor O (negsuc 0)) ⊗ (value O x (factor O (pos 0)) ⊗ (value O x (factor O (pos 1)) ⊗ value O x (factor O (pos 2)))))
   unfolding generator
   value-generator x = let h : 0 < 2 = omega arith in simp value-times
 

@@ -1,44 +1,25 @@
--- One wrong cell from a ratio, two from a quadratic (document 003). t are the sums that are left.
-use mathlib.Core.Path.{_≡_, refl, sym, ap, ap₂, _∙_, subst}
-use mathlib.Core.Logic.{_≢_, _⊎_, inl, inr, ⊎-elim}
+-- One wrong cell from a ratio, two from a quadratic. t are the sums that are left.
+use mathlib.Core.Path.{_≡_, sym, ap, ap₂, _∙_, subst}
+use mathlib.Core.Logic.{_≢_, inl, inr, ⊎-elim}
 use mathlib.Core.List.{List, [], _∷_}
 use Prim.Native.Nat.{ℕ, zero, suc, _+_, _-_, _≤_, _<_}
 use native.Mathlib.Omega.{arith}
 use native.Mathlib.Decide.{ℕ-discrete}
 use lib.ListN.{length, getD}
 use Rattle.account.specs.Field.{Ops, In, IsField, power}
+use Rattle.account.specs.Errata.{place, filt}
+use Rattle.account.specs.Search.{Zeros, Fits, CellOf, Found1, Found2, Joined, Splits, HalfOf}
 use Rattle.account.proofs.Laws as laws
 use Rattle.account.proofs.Powers as powers
-use Rattle.account.proofs.Filter.{filt}
-use Rattle.account.proofs.Search.{Zeros, Fits}
 
 module _ (O : Ops) (F : IsField O) where
   open Ops O using (_⊕_, _⊗_, α, order)
 
   infixl 60 _⊕_
   infixl 70 _⊗_
-  -- r is the unmarked cell whose place is x, or n where there is none
-  pub record CellOf (x : ℕ) (marks : List ℕ) (r : ℕ) : Type 0 where
-    pub within : r ≤ length marks
-    pub right : r < length marks → (powers.place O F (length marks) r ≡ x) × (getD marks r 0 ≡ 0)
-    pub all : (p : ℕ) → p < length marks → powers.place O F (length marks) p ≡ x → getD marks p 0 ≡ 0 → r ≡ p
-
-  -- r is a cell that fits alone, or n where none does
-  pub record Found1 (t : ℕ → ℕ) (k : ℕ) (marks : List ℕ) (r : ℕ) : Type 0 where
-    pub within : r ≤ length marks
-    pub fits : r < length marks → Fits O F marks t k (r ∷ [])
-    pub none : r ≡ length marks → (p : ℕ) → p < length marks → Fits O F marks t k (p ∷ []) → ⊥
-
-  -- p and q fit together, or p is n where no two do
-  pub record Found2 (t : ℕ → ℕ) (k : ℕ) (marks : List ℕ) (p q : ℕ) : Type 0 where
-    pub within : p ≤ length marks
-    pub apart : p < length marks → (q < length marks) × (p ≢ q)
-    pub fits : p < length marks → Fits O F marks t k (p ∷ q ∷ [])
-    pub none : p ≡ length marks → (a b : ℕ) → a < length marks → b < a → Fits O F marks t k (a ∷ b ∷ []) → ⊥
-
   -- ---- the cell of a place
 
-  pub no-cell : (marks : List ℕ) (x : ℕ) → x ≡ 0 → CellOf x marks (length marks)
+  pub no-cell : (marks : List ℕ) (x : ℕ) → x ≡ 0 → CellOf O x marks (length marks)
   no-cell marks x e = record {
     within = omega arith;
     right = λ l. absurd (omega arith);
@@ -54,27 +35,27 @@ module _ (O : Ops) (F : IsField O) where
 
   -- x is the i-th power
   module _ (marks : List ℕ) (x i : ℕ) (short : length marks ≤ order) (small : i < order) (is : power O α i ≡ x) where
-    its : (p : ℕ) → p < length marks → powers.place O F (length marks) p ≡ x → length marks - suc p ≡ i
+    its : (p : ℕ) → p < length marks → place O (length marks) p ≡ x → length marks - suc p ≡ i
     its p l q = one-power (length marks - suc p) i (omega arith) small (q ∙ sym is)
 
-    pub far-cell : length marks ≤ i → CellOf x marks (length marks)
+    pub far-cell : length marks ≤ i → CellOf O x marks (length marks)
     far-cell h = record {
       within = omega arith;
       right = λ l. absurd (omega arith);
       all = λ p l q u. absurd (omega (arith, its p l q));
     }
 
-    pub marked-cell : i < length marks → (getD marks (length marks - (i + 1)) 0 ≡ 0 → ⊥) → CellOf x marks (length marks)
+    pub marked-cell : i < length marks → (getD marks (length marks - (i + 1)) 0 ≡ 0 → ⊥) → CellOf O x marks (length marks)
     marked-cell h m = record {
       within = omega arith;
       right = λ l. absurd (omega arith);
       all = λ p l q u. absurd (m (subst (λ (k : ℕ). getD marks k 0 ≡ 0) (there p l q) u));
     }
       where
-        there : (p : ℕ) → p < length marks → powers.place O F (length marks) p ≡ x → p ≡ length marks - (i + 1)
+        there : (p : ℕ) → p < length marks → place O (length marks) p ≡ x → p ≡ length marks - (i + 1)
         there p l q = omega (arith, its p l q)
 
-    pub good-cell : i < length marks → getD marks (length marks - (i + 1)) 0 ≡ 0 → CellOf x marks (length marks - (i + 1))
+    pub good-cell : i < length marks → getD marks (length marks - (i + 1)) 0 ≡ 0 → CellOf O x marks (length marks - (i + 1))
     good-cell h m = record {
       within = omega arith;
       right = λ l. (ap (power O α) back ∙ is, m);
@@ -92,25 +73,25 @@ module _ (O : Ops) (F : IsField O) where
   all-none s x k e h (suc m) l =
       laws.add-eq O F (s (suc m)) (x ⊗ s m) (h m (omega arith)) ∙ ap (λ (y : ℕ). x ⊗ y) (all-none s x k e h m (omega arith)) ∙ laws.mul-zero O F x
 
-  pub first-none : (t : ℕ → ℕ) (k : ℕ) (marks : List ℕ) → (Zeros (suc k) t → ⊥) → t 0 ≡ 0 → Found1 t k marks (length marks)
+  pub first-none : (t : ℕ → ℕ) (k : ℕ) (marks : List ℕ) → (Zeros (suc k) t → ⊥) → t 0 ≡ 0 → Found1 O t k marks (length marks)
   first-none t k marks z e = record {
     within = omega arith;
     fits = λ l. absurd (omega arith);
-    none = λ q p l f. z (all-none t (powers.place O F (length marks) p) k e (f .none));
+    none = λ q p l f. z (all-none t (place O (length marks) p) k e (f .none));
   }
 
   -- the ratio is the place
-  module _ (t : ℕ → ℕ) (k : ℕ) (marks : List ℕ) (x i r : ℕ) (hk : 1 ≤ k) (ei : t 0 ⊗ i ≡ 1) (ex : x ≡ t 1 ⊗ i) (C : CellOf x marks r) where
+  module _ (t : ℕ → ℕ) (k : ℕ) (marks : List ℕ) (x i r : ℕ) (hk : 1 ≤ k) (ei : t 0 ⊗ i ≡ 1) (ex : x ≡ t 1 ⊗ i) (C : CellOf O x marks r) where
     abbrev at : ℕ → ℕ
-    at = powers.place O F (length marks)
+    at = place O (length marks)
 
-    ratio : (p : ℕ) → Fits O F marks t k (p ∷ []) → at p ≡ x
+    ratio : (p : ℕ) → Fits O marks t k (p ∷ []) → at p ≡ x
     ratio p f =
         sym (ex
         ∙ ap (λ (y : ℕ). y ⊗ i) (laws.add-eq O F (t 1) (at p ⊗ t 0) (f .none 0 (omega arith)))
         ∙ F .mul-assoc (at p) (t 0) i ∙ ap (λ (y : ℕ). at p ⊗ y) ei ∙ F .mul-one (at p) (powers.place-in O F (length marks) p))
 
-    pub out-of-range : length marks ≤ r → Found1 t k marks (length marks)
+    pub out-of-range : length marks ≤ r → Found1 O t k marks (length marks)
     out-of-range h = record {
       within = omega arith;
       fits = λ l. absurd (omega arith);
@@ -118,7 +99,7 @@ module _ (O : Ops) (F : IsField O) where
     }
 
     module _ (hr : r < length marks) where
-      pub it-fits : Zeros k (filt O (x ∷ []) t) → Found1 t k marks r
+      pub it-fits : Zeros k (filt O (x ∷ []) t) → Found1 O t k marks r
       it-fits z = record {
         within = omega arith;
         fits = λ l. record {
@@ -128,7 +109,7 @@ module _ (O : Ops) (F : IsField O) where
         none = λ q. absurd (omega arith);
       }
 
-      pub it-fails : (Zeros k (filt O (x ∷ []) t) → ⊥) → Found1 t k marks (length marks)
+      pub it-fails : (Zeros k (filt O (x ∷ []) t) → ⊥) → Found1 O t k marks (length marks)
       it-fails z = record {
         within = omega arith;
         fits = λ l. absurd (omega arith);
@@ -138,7 +119,19 @@ module _ (O : Ops) (F : IsField O) where
   -- ---- identities of a commutative ring whose sum is its own inverse
 
   term : (a b c X Y : ℕ) → ((c ⊕ (X ⊗ b)) ⊕ (Y ⊗ (b ⊕ (X ⊗ a)))) ⊕ (((X ⊕ Y) ⊗ b) ⊕ ((X ⊗ Y) ⊗ a)) ≡ c
-  term a b c X Y = simp (F .mul-add, laws.add-mul O F, F .mul-assoc, F .mul-comm, laws.mul-left O F, F .add-assoc, F .add-comm, laws.add-left O F, F .add-self, laws.zero-add O F)
+  term a b c X Y =
+      simp (
+        F .mul-add,
+        laws.add-mul O F,
+        F .mul-assoc,
+        F .mul-comm,
+        laws.mul-left O F,
+        F .add-assoc,
+        F .add-comm,
+        laws.add-left O F,
+        F .add-self,
+        laws.zero-add O F,
+      )
 
   swapped : (a b c X Y : ℕ) → (c ⊕ (X ⊗ b)) ⊕ (Y ⊗ (b ⊕ (X ⊗ a))) ≡ (c ⊕ (Y ⊗ b)) ⊕ (X ⊗ (b ⊕ (Y ⊗ a)))
   swapped a b c X Y = simp (F .mul-add, F .mul-comm, laws.mul-left O F, F .add-assoc, laws.add-left O F)
@@ -151,23 +144,28 @@ module _ (O : Ops) (F : IsField O) where
 
   product-is : (a b u v : ℕ)
       → (((u ⊗ b) ⊕ (v ⊗ a)) ⊗ ((u ⊗ b) ⊕ (v ⊗ a))) ⊕ (b ⊗ ((u ⊗ ((u ⊗ b) ⊕ (v ⊗ a))) ⊕ (v ⊗ b))) ≡ v ⊗ ((b ⊗ b) ⊕ (a ⊗ ((u ⊗ b) ⊕ (v ⊗ a))))
-  product-is a b u v = simp (F .mul-add, laws.add-mul O F, F .mul-assoc, F .mul-comm, laws.mul-left O F, F .add-assoc, F .add-comm, laws.add-left O F, laws.gone O F, F .add-self, laws.zero-add O F)
+  product-is a b u v =
+      simp (
+        F .mul-add,
+        laws.add-mul O F,
+        F .mul-assoc,
+        F .mul-comm,
+        laws.mul-left O F,
+        F .add-assoc,
+        F .add-comm,
+        laws.add-left O F,
+        laws.gone O F,
+        F .add-self,
+        laws.zero-add O F,
+      )
 
   square-is : (X Y j : ℕ) → ((X ⊗ j) ⊗ (X ⊗ j)) ⊕ ((X ⊗ j) ⊗ ((X ⊕ Y) ⊗ j)) ≡ ((X ⊗ Y) ⊗ j) ⊗ j
   square-is X Y j = simp (F .mul-add, laws.add-mul O F, F .mul-assoc, laws.mul-left O F, laws.gone O F)
 
   -- ---- a place from the sum and the product of two
 
-  -- h has one of the two z with z z + z = c, wherever there are any
-  pub record Halves (h : List ℕ) : Type 0 where
-    pub root : (z : ℕ) → In O z → (getD h ((z ⊗ z) ⊕ z) 0 ≡ z) ⊎ (getD h ((z ⊗ z) ⊕ z) 0 ≡ z ⊕ 1)
-
-  -- x is one of any two places whose sum is u and whose product is v
-  abbrev pub Splits : ℕ → ℕ → ℕ → Type 0
-  Splits u v x = (a b : ℕ) → In O a → In O b → a ⊕ b ≡ u → a ⊗ b ≡ v → (x ≡ a) ⊎ (x ≡ b)
-
-  pub splits : (h : List ℕ) (u v j i1 i2 x : ℕ) → Halves h → In O u → u ⊗ j ≡ 1 → i1 ≡ v ⊗ j → i2 ≡ i1 ⊗ j → x ≡ u ⊗ getD h i2 0 → Splits u v x
-  splits h u v j i1 i2 x H hu ej e1 e2 ex a b ha hb es ep = ⊎-elim (λ q. inl (first q)) (λ q. inr (second q)) (H .root z (F .in-mul a j))
+  pub splits : (u v j i1 i2 h x : ℕ) → HalfOf O i2 h → In O u → u ⊗ j ≡ 1 → i1 ≡ v ⊗ j → i2 ≡ i1 ⊗ j → x ≡ u ⊗ h → Splits O u v x
+  splits u v j i1 i2 h x H hu ej e1 e2 ex a b ha hb es ep = ⊎-elim (λ q. inl (first q)) (λ q. inr (second q)) (H z (F .in-mul a j) here)
     where
       z : ℕ
       z = a ⊗ j
@@ -182,31 +180,22 @@ module _ (O : Ops) (F : IsField O) where
       times-z : u ⊗ z ≡ a
       times-z = laws.mul-left O F u a j ∙ ap (λ (y : ℕ). a ⊗ y) ej ∙ F .mul-one a ha
 
-      first : getD h ((z ⊗ z) ⊕ z) 0 ≡ z → x ≡ a
-      first q = ex ∙ ap (λ (y : ℕ). u ⊗ getD h y 0) (sym here) ∙ ap (λ (y : ℕ). u ⊗ y) q ∙ times-z
+      first : h ≡ z → x ≡ a
+      first q = ex ∙ ap (λ (y : ℕ). u ⊗ y) q ∙ times-z
 
-      second : getD h ((z ⊗ z) ⊕ z) 0 ≡ z ⊕ 1 → x ≡ b
+      second : h ≡ z ⊕ 1 → x ≡ b
       second q =
-          ex ∙ ap (λ (y : ℕ). u ⊗ getD h y 0) (sym here) ∙ ap (λ (y : ℕ). u ⊗ y) q ∙ F .mul-add u z 1
+          ex ∙ ap (λ (y : ℕ). u ⊗ y) q ∙ F .mul-add u z 1
           ∙ ap₂ (λ (y w : ℕ). y ⊕ w) times-z (F .mul-one u hu ∙ sym es) ∙ laws.gone O F a b
 
   -- ---- two cells
-
-  -- the unmarked cells of the places x and y, where those leave the first k sums nothing; or p is n
-  pub record Joined (x y : ℕ) (t : ℕ → ℕ) (k : ℕ) (marks : List ℕ) (p q : ℕ) : Type 0 where
-    pub within : p ≤ length marks
-    pub at-p : p < length marks → (powers.place O F (length marks) p ≡ x) × (getD marks p 0 ≡ 0)
-    pub at-q : p < length marks → (q < length marks) × (powers.place O F (length marks) q ≡ y) × (getD marks q 0 ≡ 0)
-    pub zeros : p < length marks → Zeros k (filt O (x ∷ y ∷ []) t)
-    pub none : p ≡ length marks → (a b : ℕ) → a < length marks → b < length marks → powers.place O F (length marks) a ≡ x → powers.place O F (length marks) b ≡ y
-        → getD marks a 0 ≡ 0 → getD marks b 0 ≡ 0 → Zeros k (filt O (x ∷ y ∷ []) t) → ⊥
 
   module _ (x y : ℕ) (t : ℕ → ℕ) (k : ℕ) (marks : List ℕ) where
     abbrev n : ℕ
     n = length marks
 
-    apart : ((a b : ℕ) → a < n → b < n → powers.place O F n a ≡ x → powers.place O F n b ≡ y
-        → getD marks a 0 ≡ 0 → getD marks b 0 ≡ 0 → Zeros k (filt O (x ∷ y ∷ []) t) → ⊥) → Joined x y t k marks n n
+    apart : ((a b : ℕ) → a < n → b < n → place O n a ≡ x → place O n b ≡ y
+        → getD marks a 0 ≡ 0 → getD marks b 0 ≡ 0 → Zeros k (filt O (x ∷ y ∷ []) t) → ⊥) → Joined O x y t k marks n n
     apart h = record {
       within = omega arith;
       at-p = λ l. absurd (omega arith);
@@ -215,13 +204,13 @@ module _ (O : Ops) (F : IsField O) where
       none = λ e. h;
     }
 
-    pub not-first : (r : ℕ) → CellOf x marks r → n ≤ r → Joined x y t k marks n n
+    pub not-first : (r : ℕ) → CellOf O x marks r → n ≤ r → Joined O x y t k marks n n
     not-first r C h = apart (λ a b la lb ea eb ma mb z. absurd (omega (arith, C .all a la ea ma)))
 
-    pub not-second : (r : ℕ) → CellOf y marks r → n ≤ r → Joined x y t k marks n n
+    pub not-second : (r : ℕ) → CellOf O y marks r → n ≤ r → Joined O x y t k marks n n
     not-second r C h = apart (λ a b la lb ea eb ma mb z. absurd (omega (arith, C .all b lb eb mb)))
 
-    pub do-fit : (r s : ℕ) → CellOf x marks r → CellOf y marks s → r < n → s < n → Zeros k (filt O (x ∷ y ∷ []) t) → Joined x y t k marks r s
+    pub do-fit : (r s : ℕ) → CellOf O x marks r → CellOf O y marks s → r < n → s < n → Zeros k (filt O (x ∷ y ∷ []) t) → Joined O x y t k marks r s
     do-fit r s C D lr ls z = record {
       within = omega arith;
       at-p = λ l. C .right lr;
@@ -230,21 +219,21 @@ module _ (O : Ops) (F : IsField O) where
       none = λ e. absurd (omega arith);
     }
 
-    pub do-not-fit : (Zeros k (filt O (x ∷ y ∷ []) t) → ⊥) → Joined x y t k marks n n
+    pub do-not-fit : (Zeros k (filt O (x ∷ y ∷ []) t) → ⊥) → Joined O x y t k marks n n
     do-not-fit h = apart (λ a b la lb ea eb ma mb z. h z)
 
   -- no cell fits alone
   module _ (t : ℕ → ℕ) (k : ℕ) (marks : List ℕ) (short : length marks ≤ order) (hk : 2 ≤ k)
-      (t1-in : In O (t 1)) (no-one : (p : ℕ) → p < length marks → Fits O F marks t (suc k) (p ∷ []) → ⊥) where
+      (t1-in : In O (t 1)) (no-one : (p : ℕ) → p < length marks → Fits O marks t (suc k) (p ∷ []) → ⊥) where
     abbrev det : ℕ
     det = (t 1 ⊗ t 1) ⊕ (t 0 ⊗ t 2)
 
-    module _ (p q : ℕ) (lp : p < length marks) (lq : q < p) (f : Fits O F marks t k (p ∷ q ∷ [])) where
+    module _ (p q : ℕ) (lp : p < length marks) (lq : q < p) (f : Fits O marks t k (p ∷ q ∷ [])) where
       abbrev X : ℕ
-      X = powers.place O F (length marks) p
+      X = place O (length marks) p
 
       abbrev Y : ℕ
-      Y = powers.place O F (length marks) q
+      Y = place O (length marks) q
 
       X-in : In O X
       X-in = powers.place-in O F (length marks) p
@@ -308,10 +297,11 @@ module _ (O : Ops) (F : IsField O) where
 
         -- the pair is proposed, in one order or the other
         pub proposed : (u v x y a b : ℕ) → u ≡ ((t 1 ⊗ t 2) ⊕ (t 0 ⊗ t 3)) ⊗ i → v ≡ ((t 2 ⊗ t 2) ⊕ (t 1 ⊗ t 3)) ⊗ i
-            → Splits u v x → y ≡ x ⊕ u → Joined x y t k marks a b → a ≡ length marks → ⊥
+            → Splits O u v x → y ≡ x ⊕ u → Joined O x y t k marks a b → a ≡ length marks → ⊥
         proposed u v x y a b eu ev S ey J e =
             ⊎-elim
-            (λ g. J .none e p q lp (omega arith) (sym g) (sym (ey ∙ ap₂ (λ (c w : ℕ). c ⊕ w) g (eu ∙ u-is) ∙ laws.gone O F X Y)) (f .unmarked .0) (f .unmarked .1 .0)
+            (λ g. J .none e p q lp (omega arith) (sym g) (sym (ey ∙ ap₂ (λ (c w : ℕ). c ⊕ w) g (eu ∙ u-is) ∙ laws.gone O F X Y)) (f .unmarked .0)
+            (f .unmarked .1 .0)
             (λ m l. ap₂ (λ (c w : ℕ). filt O (c ∷ w ∷ []) t m) g (ey ∙ ap₂ (λ (c w : ℕ). c ⊕ w) g (eu ∙ u-is) ∙ laws.gone O F X Y) ∙ f .none m l))
             (λ g. J .none e q p (omega arith) lp (sym g) (sym (ey ∙ ap₂ (λ (c w : ℕ). c ⊕ w) g (eu ∙ u-is) ∙ back)) (f .unmarked .1 .0) (f .unmarked .0)
             (λ m l. ap₂ (λ (c w : ℕ). filt O (c ∷ w ∷ []) t m) g (ey ∙ ap₂ (λ (c w : ℕ). c ⊕ w) g (eu ∙ u-is) ∙ back)
@@ -321,7 +311,7 @@ module _ (O : Ops) (F : IsField O) where
             back : Y ⊕ (X ⊕ Y) ≡ X
             back = ap (λ (z : ℕ). Y ⊕ z) (F .add-comm X Y) ∙ laws.gone O F Y X
 
-    pub nowhere : ((p q : ℕ) → p < length marks → q < p → Fits O F marks t k (p ∷ q ∷ []) → ⊥) → Found2 t k marks (length marks) (length marks)
+    pub nowhere : ((p q : ℕ) → p < length marks → q < p → Fits O marks t k (p ∷ q ∷ []) → ⊥) → Found2 O t k marks (length marks) (length marks)
     nowhere n = record {
       within = omega arith;
       apart = λ l. absurd (omega arith);
@@ -329,8 +319,8 @@ module _ (O : Ops) (F : IsField O) where
       none = λ e. n;
     }
 
-    pub found : (x y u a b : ℕ) → y ≡ x ⊕ u → u ≢ 0 → In O u → Joined x y t k marks a b
-        → (a ≡ length marks → (p q : ℕ) → p < length marks → q < p → Fits O F marks t k (p ∷ q ∷ []) → ⊥) → Found2 t k marks a b
+    pub found : (x y u a b : ℕ) → y ≡ x ⊕ u → u ≢ 0 → In O u → Joined O x y t k marks a b
+        → (a ≡ length marks → (p q : ℕ) → p < length marks → q < p → Fits O marks t k (p ∷ q ∷ []) → ⊥) → Found2 O t k marks a b
     found x y u a b ey nu ui J n = record {
       within = J .within;
       apart = λ l. (J .at-q l .0, λ e. nu (same l e));
@@ -344,5 +334,5 @@ module _ (O : Ops) (F : IsField O) where
         same : a < length marks → a ≡ b → u ≡ 0
         same l e =
             sym (laws.gone O F x u)
-            ∙ ap (λ (z : ℕ). x ⊕ z) (sym ey ∙ sym (J .at-q l .1) ∙ ap (powers.place O F (length marks)) (sym e) ∙ J .at-p l .0)
+            ∙ ap (λ (z : ℕ). x ⊕ z) (sym ey ∙ sym (J .at-q l .1) ∙ ap (place O (length marks)) (sym e) ∙ J .at-p l .0)
             ∙ F .add-self x

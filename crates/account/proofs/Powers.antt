@@ -1,11 +1,12 @@
 -- The powers of α: no two of the powers 0 .. order - 1 are alike, and none is nothing. The places of a word's cells are such powers.
-use mathlib.Core.Path.{_≡_, refl, sym, ap, ap₂, _∙_, subst}
+use mathlib.Core.Path.{_≡_, sym, ap, ap₂, _∙_}
 use mathlib.Core.Logic.{_≢_}
 use Prim.Native.Nat.{ℕ, zero, suc, _+_, _*_, _-_, _≤_, _<_}
 use native.Mathlib.Nat.{add-zero, add-suc, mul-zero, mul-suc}
 use native.Mathlib.Decide.{decLt}
 use native.Mathlib.Omega.{arith}
 use Rattle.account.specs.Field.{Ops, In, IsField, power}
+use Rattle.account.specs.Errata.{place}
 use Rattle.account.proofs.Laws as laws
 
 module _ (O : Ops) (F : IsField O) where
@@ -68,23 +69,19 @@ module _ (O : Ops) (F : IsField O) where
       go (yes l) = pow-less i j l hj e
       go (no g) = pow-less j i (omega arith) hi (sym e)
 
-  -- the place of cell p of n
-  abbrev pub place : ℕ → ℕ → ℕ
-  place n p = pow α (n - suc p)
-
-  pub place-in : (n p : ℕ) → In O (place n p)
+  pub place-in : (n p : ℕ) → In O (place O n p)
   place-in n p = pow-in α (n - suc p)
 
-  pub place-apart : (n : ℕ) → n ≤ order → (i j : ℕ) → i < n → j < n → i ≢ j → place n i ≢ place n j
+  pub place-apart : (n : ℕ) → n ≤ order → (i j : ℕ) → i < n → j < n → i ≢ j → place O n i ≢ place O n j
   place-apart n h i j hi hj ne = pow-apart (n - suc i) (n - suc j) (omega arith) (omega arith) (omega arith)
 
   -- what S_-2 multiplies cell p of n by
   abbrev pub weigh : ℕ → ℕ → ℕ
   weigh n p = pow α⁻¹ (2 * (n - suc p))
 
-  pub weigh-back : (n p : ℕ) → weigh n p ⊗ (place n p ⊗ place n p) ≡ 1
+  pub weigh-back : (n p : ℕ) → weigh n p ⊗ (place O n p ⊗ place O n p) ≡ 1
   weigh-back n p =
-      F .mul-comm (weigh n p) (place n p ⊗ place n p)
+      F .mul-comm (weigh n p) (place O n p ⊗ place O n p)
       ∙ ap (λ (y : ℕ). y ⊗ weigh n p) (sym (pow-add α (n - suc p) (n - suc p)) ∙ ap (pow α) twice)
       ∙ pow-back (2 * (n - suc p))
     where

@@ -1,17 +1,16 @@
 -- The laws of the shift-and-xor product, for any degree suc k and polynomial, from five facts that a computed test gives.
-use mathlib.Core.Path.{_≡_, refl, sym, ap, ap₂, _∙_, subst}
-use Prim.Native.Nat.{ℕ, zero, suc, _+_, _*_, _/_, _%_, _^_, _≤_, _<_}
+use mathlib.Core.Path.{_≡_, refl, sym, ap, ap₂, _∙_}
+use Prim.Native.Nat.{ℕ, zero, suc, _*_, _/_, _%_, _^_, _<_}
 use native.Mathlib.Numerals.{add-one, one-add}
-use native.Mathlib.Decide.{ℕ-discrete}
 use mathlib.Core.Logic.{_≢_}
-use native.Mathlib.Nat.{mod-eq-of-lt, zero-div, lt-of-lt-of-le, mod-lt, zero-lt-suc, mul-div-cancel, mul-mod-left, le-refl}
+use native.Mathlib.Nat.{mod-eq-of-lt, zero-div, lt-of-lt-of-le, mod-lt, zero-lt-suc, mul-div-cancel, mul-mod-left}
 use native.Mathlib.Omega.{arith}
-use lib.Arith.{lt-one, digits-div, digits-mod}
+use lib.Arith.{lt-one}
 use lib.Pow.{pow-mono, pow-pos, shr-lt}
 use lib.Bits.{bitXor, xor-comm, xor-self, xor-zero-r, xor-lt, xor-shr, xor-mod}
 use Rattle.account.specs.Product.{bitTimes, timesT, horner, product, binary}
-use Rattle.account.specs.Field.{Ops, IsField, power}
-use Rattle.account.proofs.Xor.{xor-assoc, xor-left, xor-swap, xor-double}
+use Rattle.account.specs.Field.{IsField, power}
+use Rattle.account.proofs.Xor.{xor-assoc, xor-swap, xor-double}
 
 bit-xor : (c d x : ℕ) → c < 2 → d < 2 → bitTimes (bitXor c d) x ≡ bitXor (bitTimes c x) (bitTimes d x)
 unfolding bitTimes
@@ -172,8 +171,10 @@ module _ (k poly : ℕ) where
       comm-at zero a b hn ha hb = ap (λ (x : ℕ). H (suc k) x b) (lt-one hn) ∙ H-zero-l (suc k) b ∙ sym (H-none b a)
       comm-at (suc n) a b hn ha hb =
           ap (λ (x : ℕ). H (suc k) x b) (digit a ha)
-          ∙ H-xor-l (suc k) (D (a / 2)) (a % 2) b (D-lt (a / 2) (half a ha)) (lt-of-lt-of-le (mod-lt a (zero-lt-suc 1)) (pow-mono {i = 1} {j = suc k} (omega arith)))
-          ∙ ap₂ bitXor (H-D-l (suc k) (a / 2) b (half a ha) ∙ ap D (comm-at n (a / 2) b (shr-lt n 1 (rw add-one hn)) (half a ha) hb)) (bit-l (a % 2) b (mod-lt a (zero-lt-suc 1)) hb)
+          ∙ H-xor-l (suc k) (D (a / 2)) (a % 2) b (D-lt (a / 2) (half a ha))
+          (lt-of-lt-of-le (mod-lt a (zero-lt-suc 1)) (pow-mono {i = 1} {j = suc k} (omega arith)))
+          ∙ ap₂ bitXor (H-D-l (suc k) (a / 2) b (half a ha) ∙ ap D (comm-at n (a / 2) b (shr-lt n 1 (rw add-one hn)) (half a ha) hb))
+          (bit-l (a % 2) b (mod-lt a (zero-lt-suc 1)) hb)
           ∙ sym (H-suc n b a)
 
       pub comm : (a b : ℕ) → a < Size → b < Size → H (suc k) a b ≡ H (suc k) b a

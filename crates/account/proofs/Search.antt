@@ -1,38 +1,25 @@
 -- The search for what is wrong: a guess is a list of unmarked cells. With the marked cells it holds all that is wrong exactly
 -- where it fits: where the sums that are left, with the guess filtered out, are nothing.
-use mathlib.Core.Path.{_≡_, refl, sym, ap, ap₂, _∙_, subst}
-use mathlib.Core.Logic.{_≢_}
+use mathlib.Core.Path.{_≡_, refl, sym, ap, _∙_, subst}
 use mathlib.Core.Bool.{Bool, true, false, not}
 use mathlib.Core.List.{List, [], _∷_, _++_, map}
-use Prim.Native.Nat.{ℕ, zero, suc, _+_, _*_, _-_, _≤_, _<_}
+use Prim.Native.Nat.{ℕ, _+_, _*_, _-_, _≤_, _<_}
 use native.Mathlib.Omega.{arith}
 use lib.Dec.{T}
 use lib.ListN.{length, getD, length-append}
 use Rattle.account.specs.Field.{Ops, In, IsField}
 use Rattle.account.specs.Code.{Cells, Clean}
+use Rattle.account.specs.Errata.{Outside, Below, Distinct, place, filt, added, Applied}
+use Rattle.account.specs.Search.{places, erasures, Unmarked, Zeros, Fits}
 use Rattle.account.specs.Reach.{countTo, isMarked, differsAt, marked, differing, Reach}
-use Rattle.account.proofs.Powers as powers
-use Rattle.account.proofs.Cells.{Outside, Below, Distinct, Falling, places, outside-left, outside-right, outside-append, below-append, below-places, outside-places, places-outside, distinct-places, falling-places, count-places, count-most, marked-not, marked-differs, differs-unmarked, same-at, not-differs}
+use Rattle.account.proofs.Cells.{outside-left, outside-right, outside-append, outside-places, places-outside}
+use Rattle.account.proofs.Cells.{below-append, below-places, distinct-places}
+use Rattle.account.proofs.Cells.{Falling, falling-places, count-places, count-most, marked-not, marked-differs, differs-unmarked, same-at, not-differs}
 use Rattle.account.proofs.Filter as filter
-use Rattle.account.proofs.Filter.{filt}
 use Rattle.account.proofs.Solve as solve
-use Rattle.account.proofs.Solve.{added}
 use Rattle.account.proofs.Words.{sumsOf}
 use Rattle.account.proofs.Decode as decode
-use Rattle.account.proofs.Decode.{Fixes, Applied, values}
-
--- the marked cells, the last first
-abbrev pub erasures : List ℕ → List ℕ
-erasures marks = places (isMarked marks) (length marks)
-
--- the first k of t are nothing
-abbrev pub Zeros : ℕ → (ℕ → ℕ) → Type 0
-Zeros k t = (m : ℕ) → m < k → t m ≡ 0
-
--- none of the cells is marked
-abbrev pub Unmarked : List ℕ → List ℕ → Type 0
-Unmarked marks [] = Unit {0}
-Unmarked marks (p ∷ ps) = (getD marks p 0 ≡ 0) × Unmarked marks ps
+use Rattle.account.proofs.Decode.{values}
 
 unmarked-outside : (marks : List ℕ) (i : ℕ) → T (isMarked marks i) → (ps : List ℕ) → Unmarked marks ps → Outside ps i
 unmarked-outside marks i t [] u = tt
@@ -46,25 +33,20 @@ module _ (O : Ops) (F : IsField O) where
 
   infixl 60 _⊕_
   infixl 70 _⊗_
-  -- the guess bs fits: with its cells filtered out the first k of t are nothing
-  pub record Fits (marks : List ℕ) (t : ℕ → ℕ) (k : ℕ) (bs : List ℕ) : Type 0 where
-    pub unmarked : Unmarked marks bs
-    pub none : Zeros k (filt O (map (powers.place O F (length marks)) bs) t)
-
   -- what is known once the f marked cells are filtered out of the sums
   pub record Ready (marks r : List ℕ) (t : ℕ → ℕ) (f : ℕ) : Type 0 where
     pub matched : length r ≡ length marks
     pub short : length marks ≤ order
     pub cells : Cells O r
     pub count : f ≡ length (erasures marks)
-    pub left : (m : ℕ) → m + f < 5 → t m ≡ filt O (map (powers.place O F (length marks)) (erasures marks)) (sumsOf O r) m
+    pub left : (m : ℕ) → m + f < 5 → t m ≡ filt O (map (place O (length marks)) (erasures marks)) (sumsOf O r) m
 
   module _ (marks r : List ℕ) (t : ℕ → ℕ) (f : ℕ) (R : Ready marks r t f) where
     abbrev n : ℕ
     n = length marks
 
     abbrev X : ℕ → ℕ
-    X = powers.place O F (length marks)
+    X = place O (length marks)
 
     -- the guess bs, by the sums that are left
     fit-at : (bs : List ℕ) (m : ℕ) → m + length (erasures marks ++ bs) < 5
@@ -79,7 +61,7 @@ module _ (O : Ops) (F : IsField O) where
     f-is = ap (countTo (isMarked marks)) (R .matched) ∙ sym (count-places (isMarked marks) n) ∙ sym (R .count)
 
     -- a guess that fits, with the solved values, gives a clean word within reach
-    pub mended : (bs : List ℕ) → Below bs n → Distinct bs → 2 * length bs + f ≤ 5 → Fits marks t (5 - f - length bs) bs
+    pub mended : (bs : List ℕ) → Below bs n → Distinct bs → 2 * length bs + f ≤ 5 → Fits O marks t (5 - f - length bs) bs
         → (w : List ℕ) → Applied O (erasures marks ++ bs) (values O F (erasures marks ++ bs) r) r w → Clean O w × Reach marks r w × Cells O w
     mended bs bb db few fit w a = (clean, record { same-length = a .same-length; few = near }, record { cell = cell })
       where
@@ -92,7 +74,8 @@ module _ (O : Ops) (F : IsField O) where
         clean : Clean O w
         clean =
             decode.sound O F r (erasures marks ++ bs) (omega (arith, R .matched, R .short)) below (distinct-guess marks bs db (fit .unmarked))
-            (subst (λ (k : ℕ). (m : ℕ) → m + length (erasures marks ++ bs) < 5 → filt O (map (powers.place O F k) (erasures marks ++ bs)) (sumsOf O r) m ≡ 0) (sym (R .matched))
+            (subst (λ (k : ℕ). (m : ℕ) → m + length (erasures marks ++ bs) < 5 → filt O (map (place O k) (erasures marks ++ bs)) (sumsOf O r) m ≡ 0)
+            (sym (R .matched))
             (λ m l. fit-at bs m l ∙ fit .none m (omega (arith, length-append (erasures marks) bs, R .count))))
             w a
 
@@ -121,8 +104,8 @@ module _ (O : Ops) (F : IsField O) where
     -- what is within reach has at most two wrong cells, and each guess of as many has failed
     pub refuted : (v : List ℕ) → Cells O v → Reach marks r v → Clean O v
         → (Zeros (5 - f) t → ⊥)
-        → (2 + f ≤ 5 → (p : ℕ) → p < n → Fits marks t (5 - f - 1) (p ∷ []) → ⊥)
-        → (4 + f ≤ 5 → (p q : ℕ) → p < n → q < p → Fits marks t (5 - f - 2) (p ∷ q ∷ []) → ⊥)
+        → (2 + f ≤ 5 → (p : ℕ) → p < n → Fits O marks t (5 - f - 1) (p ∷ []) → ⊥)
+        → (4 + f ≤ 5 → (p q : ℕ) → p < n → q < p → Fits O marks t (5 - f - 2) (p ∷ q ∷ []) → ⊥)
         → ⊥
     refuted v cv hv kv e0 e1 e2 =
         go (places wrong n) (falling-places wrong n) few

@@ -7,32 +7,12 @@ use native.Mathlib.Omega.{arith}
 use native.Mathlib.Decide.{ℕ-discrete}
 use lib.ListN.{length}
 use Rattle.account.specs.Field.{Ops, In, IsField}
+use Rattle.account.specs.Errata.{Outside, Below, Distinct, place, filt, total, divided, solve, unweighed, atOr, only, added}
 use Rattle.account.proofs.Laws as laws
 use Rattle.account.proofs.Powers as powers
 use Rattle.account.proofs.Sums as sums
 use Rattle.account.proofs.Sums.{moment}
-use Rattle.account.proofs.Cells.{Outside, Below, Distinct}
 use Rattle.account.proofs.Filter as filter
-use Rattle.account.proofs.Filter.{filt}
-
-abbrev atOr : {i p : ℕ} → Dec (i ≡ p) → ℕ → ℕ
-atOr (yes e) a = a
-atOr (no ne) a = 0
-
--- a at cell p, and nothing elsewhere
-unfoldable pub only : ℕ → ℕ → ℕ → ℕ
-only p a i = atOr (ℕ-discrete i p) a
-
--- the errata with cells ps and values vs, as a word
-abbrev pub added : Ops → List ℕ → List ℕ → ℕ → ℕ
-added O [] vs i = 0
-added O (p ∷ ps) [] i = 0
-added O (p ∷ ps) (v ∷ vs) i = O ._⊕_ (only p v i) (added O ps vs i)
-
--- the sum of a list
-abbrev pub total : Ops → List ℕ → ℕ
-total O [] = 0
-total O (v ∷ vs) = O ._⊕_ v (total O vs)
 
 pub only-here : (p a : ℕ) → only p a p ≡ a
 unfolding only
@@ -63,24 +43,11 @@ module _ (O : Ops) (F : IsField O) where
 
   infixl 60 _⊕_
   infixl 70 _⊗_
-  -- each value of us, which stand at the places ys, divided by what its place and x differ by
-  abbrev pub divided : ℕ → List ℕ → List ℕ → List ℕ
-  divided x [] us = []
-  divided x (y ∷ ys) [] = []
-  divided x (y ∷ ys) (u ∷ us) = (u ⊗ F .inv (y ⊕ x)) ∷ divided x ys us
+  abbrev div : ℕ → List ℕ → List ℕ → List ℕ
+  div = divided O (F .inv)
 
-  -- the values at the places xs that give the moments s
-  abbrev pub solve : List ℕ → (ℕ → ℕ) → List ℕ
-  solve [] s = []
-  solve (x ∷ xs) s =
-      let us = divided x xs (solve xs (λ m. s (suc m) ⊕ (x ⊗ s m))) in
-      (s 0 ⊕ total O us) ∷ us
-
-  -- each value times the square of its place: what the weights of S_-2 take off
-  abbrev pub unweighed : List ℕ → List ℕ → List ℕ
-  unweighed [] us = []
-  unweighed (x ∷ xs) [] = []
-  unweighed (x ∷ xs) (u ∷ us) = ((u ⊗ x) ⊗ x) ∷ unweighed xs us
+  abbrev sol : List ℕ → (ℕ → ℕ) → List ℕ
+  sol = solve O (F .inv)
 
   pub only-in : (p a i : ℕ) → In O a → In O (only p a i)
   only-in p a i h = only-by (λ j b. In O b) p a h (λ j n. F .in-zero) i
@@ -105,38 +72,38 @@ module _ (O : Ops) (F : IsField O) where
   total-in [] h = F .in-zero
   total-in (v ∷ vs) h = F .in-add v (total O vs) (h .0) (total-in vs (h .1))
 
-  divided-in : (x : ℕ) (ys us : List ℕ) → AllIn (divided x ys us)
+  divided-in : (x : ℕ) (ys us : List ℕ) → AllIn (div x ys us)
   divided-in x [] us = tt
   divided-in x (y ∷ ys) [] = tt
   divided-in x (y ∷ ys) (u ∷ us) = (F .in-mul u (F .inv (y ⊕ x)), divided-in x ys us)
 
-  length-divided : (x : ℕ) (ys us : List ℕ) → length us ≡ length ys → length (divided x ys us) ≡ length ys
+  length-divided : (x : ℕ) (ys us : List ℕ) → length us ≡ length ys → length (div x ys us) ≡ length ys
   length-divided x [] us e = refl
   length-divided x (y ∷ ys) [] e = absurd (omega arith)
   length-divided x (y ∷ ys) (u ∷ us) e = ap suc (length-divided x ys us (omega arith))
 
-  pub length-solve : (xs : List ℕ) (s : ℕ → ℕ) → length (solve xs s) ≡ length xs
+  pub length-solve : (xs : List ℕ) (s : ℕ → ℕ) → length (sol xs s) ≡ length xs
   length-solve [] s = refl
   length-solve (x ∷ xs) s =
-      ap suc (length-divided x xs (solve xs (λ m. s (suc m) ⊕ (x ⊗ s m))) (length-solve xs (λ m. s (suc m) ⊕ (x ⊗ s m))))
+      ap suc (length-divided x xs (sol xs (λ m. s (suc m) ⊕ (x ⊗ s m))) (length-solve xs (λ m. s (suc m) ⊕ (x ⊗ s m))))
 
-  pub solve-in : (xs : List ℕ) (s : ℕ → ℕ) → In O (s 0) → AllIn (solve xs s)
+  pub solve-in : (xs : List ℕ) (s : ℕ → ℕ) → In O (s 0) → AllIn (sol xs s)
   solve-in [] s h = tt
   solve-in (x ∷ xs) s h =
-      let us = divided x xs (solve xs (λ m. s (suc m) ⊕ (x ⊗ s m))) in (
-        F .in-add (s 0) (total O us) h (total-in us (divided-in x xs (solve xs (λ m. s (suc m) ⊕ (x ⊗ s m))))),
-        divided-in x xs (solve xs (λ m. s (suc m) ⊕ (x ⊗ s m))),
+      let us = div x xs (sol xs (λ m. s (suc m) ⊕ (x ⊗ s m))) in (
+        F .in-add (s 0) (total O us) h (total-in us (divided-in x xs (sol xs (λ m. s (suc m) ⊕ (x ⊗ s m))))),
+        divided-in x xs (sol xs (λ m. s (suc m) ⊕ (x ⊗ s m))),
       )
 
-  -- solve looks at as many moments as there are places
-  pub solve-near : (xs : List ℕ) (s t : ℕ → ℕ) → ((m : ℕ) → m < length xs → s m ≡ t m) → solve xs s ≡ solve xs t
-  solve-near [] s t h = refl
-  solve-near (x ∷ xs) s t h =
-      ap₂ (λ (a : ℕ) (vs : List ℕ). (a ⊕ total O (divided x xs vs)) ∷ divided x xs vs) (h 0 (omega arith))
-      (solve-near xs (λ m. s (suc m) ⊕ (x ⊗ s m)) (λ m. t (suc m) ⊕ (x ⊗ t m))
+  -- solve looks at as many sums as there are places
+  pub solve-near : (inv : ℕ → ℕ) (xs : List ℕ) (s t : ℕ → ℕ) → ((m : ℕ) → m < length xs → s m ≡ t m) → solve O inv xs s ≡ solve O inv xs t
+  solve-near inv [] s t h = refl
+  solve-near inv (x ∷ xs) s t h =
+      ap₂ (λ (a : ℕ) (vs : List ℕ). (a ⊕ total O (divided O inv x xs vs)) ∷ divided O inv x xs vs) (h 0 (omega arith))
+      (solve-near inv xs (λ m. s (suc m) ⊕ (x ⊗ s m)) (λ m. t (suc m) ⊕ (x ⊗ t m))
       (λ m l. ap₂ (λ (a b : ℕ). a ⊕ (x ⊗ b)) (h (suc m) (omega arith)) (h m (omega arith))))
 
-  pub unweighed-in : (xs us : List ℕ) → AllIn (unweighed xs us)
+  pub unweighed-in : (xs us : List ℕ) → AllIn (unweighed O xs us)
   unweighed-in [] us = tt
   unweighed-in (x ∷ xs) [] = tt
   unweighed-in (x ∷ xs) (u ∷ us) = (F .in-mul (u ⊗ x) x, unweighed-in xs us)
@@ -156,7 +123,7 @@ module _ (O : Ops) (F : IsField O) where
 
   module _ (n : ℕ) (short : n ≤ order) where
     abbrev X : ℕ → ℕ
-    X = powers.place O F n
+    X = place O n
 
     abbrev M : (ℕ → ℕ) → ℕ → ℕ
     M = moment O X n
@@ -173,11 +140,11 @@ module _ (O : Ops) (F : IsField O) where
 
     -- the filter at p undoes the division
     undone : (p : ℕ) → p < n → (ps vs : List ℕ) → length vs ≡ length ps → Below ps n → Outside ps p → AllIn vs → (i : ℕ) → i < n
-        → added O ps (divided (X p) (map X ps) vs) i ⊗ (X i ⊕ X p) ≡ added O ps vs i
+        → added O ps (div (X p) (map X ps) vs) i ⊗ (X i ⊕ X p) ≡ added O ps vs i
     undone p lp [] vs e b o h i l = laws.zero-mul O F (X i ⊕ X p)
     undone p lp (q ∷ ps) [] e b o h i l = absurd (omega arith)
     undone p lp (q ∷ ps) (v ∷ vs) e b o h i l =
-        laws.add-mul O F (only q (v ⊗ F .inv (X q ⊕ X p)) i) (added O ps (divided (X p) (map X ps) vs) i) (X i ⊕ X p)
+        laws.add-mul O F (only q (v ⊗ F .inv (X q ⊕ X p)) i) (added O ps (div (X p) (map X ps) vs) i) (X i ⊕ X p)
         ∙ ap₂ (λ (x y : ℕ). x ⊕ y) (here (ℕ-discrete i q)) (undone p lp ps vs (omega arith) (b .1) (o .1) (h .1) i l)
       where
         here : Dec (i ≡ q) → only q (v ⊗ F .inv (X q ⊕ X p)) i ⊗ (X i ⊕ X p) ≡ only q v i
@@ -205,7 +172,7 @@ module _ (O : Ops) (F : IsField O) where
         (lv : length vs ≡ length ps) (vi : AllIn vs)
         (rec : (m : ℕ) → m < N - 1 → M (added O ps vs) m ≡ s (suc m) ⊕ (X p ⊗ s m)) where
       abbrev us : List ℕ
-      us = divided (X p) (map X ps) vs
+      us = div (X p) (map X ps) vs
 
       abbrev y : ℕ
       y = s 0 ⊕ total O us
@@ -234,12 +201,12 @@ module _ (O : Ops) (F : IsField O) where
           agree (X p) (M t) s N first
           (λ k j. filter.filter-step O F n (X p) t k ∙ sums.moment-cong O F X n (λ i. t i ⊗ (X i ⊕ X p)) (added O ps vs) k back ∙ rec k (omega arith))
 
-    -- where the moments s, with the cells ps filtered out, are nothing, the values that solve gives have these moments
+    -- where the moments s, with the cells ps filtered out, are nothing, the values that sol gives have these moments
     pub solved : (ps : List ℕ) (s : ℕ → ℕ) (N : ℕ) → ((m : ℕ) → In O (s m)) → Below ps n → Distinct ps
-        → ((m : ℕ) → m + length ps < N → filt O (map X ps) s m ≡ 0) → (m : ℕ) → m < N → M (added O ps (solve (map X ps) s)) m ≡ s m
+        → ((m : ℕ) → m + length ps < N → filt O (map X ps) s m ≡ 0) → (m : ℕ) → m < N → M (added O ps (sol (map X ps) s)) m ≡ s m
     solved [] s N si b d z = λ m l. sums.moment-zero O F X n (λ i. 0) m (λ i k. refl) ∙ sym (z m (omega arith))
     solved (p ∷ ps) s N si b d z =
-        solved-step p ps s N (solve (map X ps) (λ m. s (suc m) ⊕ (X p ⊗ s m))) (si 0) b d
+        solved-step p ps s N (sol (map X ps) (λ m. s (suc m) ⊕ (X p ⊗ s m))) (si 0) b d
         (length-solve (map X ps) (λ m. s (suc m) ⊕ (X p ⊗ s m)) ∙ filter.length-map X ps)
         (solve-in (map X ps) (λ m. s (suc m) ⊕ (X p ⊗ s m)) (F .in-add (s 1) (X p ⊗ s 0) (si 1) (F .in-mul (X p) (s 0))))
         (solved ps (λ m. s (suc m) ⊕ (X p ⊗ s m)) (N - 1) (λ m. F .in-add (s (suc m)) (X p ⊗ s m) (si (suc m)) (F .in-mul (X p) (s m))) (b .1) (d .1)

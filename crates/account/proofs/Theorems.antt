@@ -13,18 +13,21 @@ use Rattle.account.specs.Field.{Ops, In, IsField}
 use Rattle.account.specs.Code.{Cells, Clean, WordOf}
 use Rattle.account.specs.Reach.{countTo, isMarked, and, differsAt, marked, differing, Reach, SameRead}
 use Rattle.account.specs.Lists.{listOf}
+use Rattle.account.specs.Errata.{Outside, Below, added, Applied}
+use Rattle.account.specs.Search.{places}
 use Rattle.account.proofs.Lists.{length-listOf, getD-listOf}
-use Rattle.account.proofs.Cells.{Outside, Below, places, outside-left, outside-right, below-append, below-places, outside-places, count-places, count-cong, count-none, same-at, not-differs}
+use Rattle.account.proofs.Cells.{outside-left, outside-right, below-append, below-places, outside-places}
+use Rattle.account.proofs.Cells.{count-places, count-cong, count-none, same-at, not-differs}
 use Rattle.account.proofs.Solve as solve
-use Rattle.account.proofs.Solve.{added}
 use Rattle.account.proofs.Decode as decode
-use Rattle.account.proofs.Decode.{Applied, values}
+use Rattle.account.proofs.Decode.{values}
 
--- ---- "The byte under a mark has no influence."
+-- ---- what stands under a mark does not matter
 
 pub same-differing : (marks r s w : List ℕ) → SameRead marks r s → differing marks r w ≡ differing marks s w
 same-differing marks r s w same =
-    count-cong (differsAt marks r w) (differsAt marks s w) (length r) (λ p _. at p (isMarked marks p) refl) ∙ ap (countTo (differsAt marks s w)) (same .same-length)
+    count-cong (differsAt marks r w) (differsAt marks s w) (length r) (λ p _. at p (isMarked marks p) refl)
+    ∙ ap (countTo (differsAt marks s w)) (same .same-length)
   where
     at : (p : ℕ) (m : Bool) → isMarked marks p ≡ m → and (not m) (not (eqb (getD w p 0) (getD r p 0))) ≡ and (not m) (not (eqb (getD w p 0) (getD s p 0)))
     at p true e = refl
@@ -75,7 +78,8 @@ module _ (O : Ops) (F : IsField O) where
       decode.same O F (length r) short ps v w ev ew below five iv iw cv cw
       (λ p l o.
       same-at marks r v p (unmarked p l o) (outside-places (differsAt marks r v) (length r) p l (outside-left pv (pw ++ pm) p o))
-      ∙ sym (same-at marks r w p (unmarked p l o) (outside-places (differsAt marks r w) (length r) p l (outside-left pw pm p (outside-right pv (pw ++ pm) p o)))))
+      ∙ sym (same-at marks r w p (unmarked p l o)
+      (outside-places (differsAt marks r w) (length r) p l (outside-left pw pm p (outside-right pv (pw ++ pm) p o)))))
     where
       pv : List ℕ
       pv = places (differsAt marks r v) (length r)
@@ -139,7 +143,8 @@ module _ (O : Ops) (F : IsField O) where
   -- Exactly one clean word has given data in front: no two ..
   pub one-with-data : (d v w : List ℕ) → length d + 5 ≤ order → Cells O v → Cells O w → WordOf O d v → WordOf O d w → v ≡ w
   one-with-data d v w short iv iw A B =
-      decode.same O F (length d + 5) short (checks (length d)) v w (A .size) (B .size) (omega arith, (omega arith, (omega arith, (omega arith, (omega arith, tt))))) (omega arith) iv iw
+      decode.same O F (length d + 5) short (checks (length d)) v w (A .size) (B .size)
+      (omega arith, (omega arith, (omega arith, (omega arith, (omega arith, tt))))) (omega arith) iv iw
       (A .clean) (B .clean)
       (λ p l o.
       let h : p < length d = outside-checks (length d) p l o in
@@ -173,8 +178,13 @@ module _ (O : Ops) (F : IsField O) where
       clean : Clean O w
       clean =
           decode.sound O F r (checks m) (omega (arith, lr, short))
-          (subst (Below (checks m)) (sym lr) (omega arith, (omega arith, (omega arith, (omega arith, (omega arith, tt))))))
-          (((λ e. omega arith), ((λ e. omega arith), ((λ e. omega arith), ((λ e. omega arith), tt)))), (((λ e. omega arith), ((λ e. omega arith), ((λ e. omega arith), tt))), (((λ e. omega arith), ((λ e. omega arith), tt)), (((λ e. omega arith), tt), (tt, tt)))))
+          (subst (Below (checks m)) (sym lr) (omega arith, (omega arith, (omega arith, (omega arith, (omega arith, tt)))))) (
+            ((λ e. omega arith), ((λ e. omega arith), ((λ e. omega arith), ((λ e. omega arith), tt)))),
+            (
+              ((λ e. omega arith), ((λ e. omega arith), ((λ e. omega arith), tt))),
+              (((λ e. omega arith), ((λ e. omega arith), tt)), (((λ e. omega arith), tt), (tt, tt))),
+            ),
+          )
           (λ k l. absurd (omega arith)) w applied
 
       r-in : (p : ℕ) → p < m + 5 → In O (getD r p 0)

@@ -1,7 +1,6 @@
 -- Words: the five sums as moments, by Horner's rule, and of a word with errata.
-use mathlib.Core.Path.{_≡_, refl, sym, ap, ap₂, _∙_, subst, fun-ext}
-use mathlib.Core.Logic.{_≢_}
-use mathlib.Core.List.{List, [], _∷_, _++_, map}
+use mathlib.Core.Path.{_≡_, refl, sym, ap, ap₂, _∙_, subst}
+use mathlib.Core.List.{List, [], _∷_, _++_}
 use Prim.Native.Nat.{ℕ, zero, suc, _+_, _*_, _-_, _≤_, _<_}
 use native.Mathlib.Nat.{mul-comm}
 use native.Mathlib.Omega.{arith}
@@ -9,18 +8,14 @@ use lib.Dec.{leb→le}
 use lib.IntN.{ℤ, pos, negsuc, negℤ, _*ℤ_}
 use lib.Signed.{_≤ℤ_, leZ-yes}
 use lib.ListN.{length, length-append, getD, List·getD-append}
-use lib.Seq.{getD-append-seam, ext-getD}
+use lib.Seq.{getD-append-seam}
 use Rattle.account.specs.Field.{Ops, In, IsField, power, sumTo}
-use Rattle.account.specs.Code.{alphaTo, Cells, S, Clean}
+use Rattle.account.specs.Code.{alphaTo, S, Clean}
+use Rattle.account.specs.Errata.{place}
 use Rattle.account.proofs.Laws as laws
 use Rattle.account.proofs.Powers as powers
 use Rattle.account.proofs.Sums as sums
 use Rattle.account.proofs.Sums.{moment}
-use Rattle.account.proofs.Cells.{Outside, Below, Distinct}
-use Rattle.account.proofs.Filter as filter
-use Rattle.account.proofs.Filter.{filt}
-use Rattle.account.proofs.Solve as solve
-use Rattle.account.proofs.Solve.{added, only}
 
 -- what holds at each of the five exponents holds at any from -2 to 2
 pub five : (P : ℤ → Type 0) → P (negsuc 1) → P (negsuc 0) → P (pos 0) → P (pos 1) → P (pos 2) → (j : ℤ) → negsuc 1 ≤ℤ j → j ≤ℤ pos 2 → P j
@@ -149,7 +144,7 @@ module _ (O : Ops) (F : IsField O) where
 
   module _ (n : ℕ) where
     abbrev pub X : ℕ → ℕ
-    X = powers.place O F n
+    X = place O n
 
     abbrev W : ℕ → ℕ
     W = powers.weigh O F n

@@ -1,7 +1,7 @@
 -- A field on the numbers below `size`, with the element α whose powers are the places of a word.
 use mathlib.Core.Path.{_≡_}
 use mathlib.Core.Logic.{_≢_}
-use Prim.Native.Nat.{ℕ, zero, suc, _+_, _<_}
+use Prim.Native.Nat.{ℕ, zero, suc, _<_}
 
 pub record Ops : Type 0 where
   infixl 60 _⊕_

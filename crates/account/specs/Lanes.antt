@@ -1,4 +1,4 @@
--- Cells dealt to R lanes: "Strip cell p is byte p div 4 of lane p mod 4."
+-- Cells dealt to R lanes in turn: cell p is byte p / R of lane p % R.
 use Prim.Native.Nat.{ℕ, _+_, _*_, _/_}
 use mathlib.Core.List.{List}
 use lib.ListN.{length, getD}

@@ -5,3 +5,5 @@ pub mod Product
 pub mod Code
 pub mod Reach
 pub mod Generator
+pub mod Errata
+pub mod Search

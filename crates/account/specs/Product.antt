@@ -1,4 +1,5 @@
--- The fields GF(2^w): a number below 2^w is a polynomial over the two-element field, "lowest bit the constant. Sum is exclusive or."
+-- The fields GF(2^w): the bits of a number below 2^w are a polynomial over the two-element field, the constant lowest. The sum is
+-- exclusive or.
 use Prim.Native.Nat.{ℕ, zero, suc, _*_, _/_, _%_, _^_}
 use lib.Bits.{bitXor}
 use Rattle.account.specs.Field.{Ops}

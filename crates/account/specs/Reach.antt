@@ -33,14 +33,14 @@ isMarked marks p = not (eqb (getD marks p 0) 0)
 abbrev pub differsAt : List ℕ → List ℕ → List ℕ → ℕ → Bool
 differsAt marks r w p = and (not (isMarked marks p)) (not (eqb (getD w p 0) (getD r p 0)))
 
--- "f counts marked cells and e the unmarked cells that differ"
+-- f: how many cells are marked; e: how many of the others differ
 abbrev pub marked : List ℕ → List ℕ → ℕ
 marked marks r = countTo (isMarked marks) (length r)
 
 abbrev pub differing : List ℕ → List ℕ → List ℕ → ℕ
 differing marks r w = countTo (differsAt marks r w) (length r)
 
--- w is within reach of r: "2e + f is at most 5"
+-- w is within reach of r: a marked cell counts one, a wrong one two, and five are mended
 pub record Reach (marks r w : List ℕ) : Type 0 where
   pub same-length : length w ≡ length r
   pub few : 2 * differing marks r w + marked marks r ≤ 5

@@ -1,2 +1,2 @@
-// The account of the code is in specs/ and proofs/; it has no program. This function only makes it a crate.
-pub fn account() {}
+// The account of the code is in specs/ and proofs/. It has no program; a crate must have a function.
+fn account() {}

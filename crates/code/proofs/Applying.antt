@@ -11,11 +11,11 @@ use lib.ListN.{length, getD, set, length-set}
 use lib.Seq.{slice, slice-empty, getD-take, getD-set-same, getD-set-other, length-take-le}
 use borrow.Author.Tests.{eq-eqb, ne-eqb}
 use Rattle.account.specs.Reach.{countTo, isMarked, oneIf, and, differsAt, differing}
-use Rattle.account.proofs.Cells.{Below, Distinct, below-at, one-most, less, less-same, count-less, count-cong, count-none}
+use Rattle.account.specs.Errata.{Outside, Below, Distinct, added, only, Applied}
+use Rattle.account.proofs.Cells.{below-at, one-most, less, less-same, count-less, count-cong, count-none}
 use Rattle.account.proofs.Laws as laws
 use Rattle.account.proofs.Solve as solve
-use Rattle.account.proofs.Solve.{added, only, only-here, only-off}
-use Rattle.account.proofs.Decode.{Applied}
+use Rattle.account.proofs.Solve.{only-here, only-off}
 use Rattle.gf256.specs.Gf256.{gf256}
 use Rattle.gf256.proofs.Field256.{field256}
 use Rattle.errata.specs.declared.Errata.{Errata}

@@ -12,12 +12,12 @@ use Rattle.account.specs.Code.{Cells, Clean, syndrome}
 use Rattle.account.specs.Reach.{countTo, isMarked, differsAt, marked, Reach, GoodMarks, Reachable}
 use Rattle.account.proofs.Cells.{count-places, count-none, not-differs}
 use Rattle.account.proofs.Words as words
-use Rattle.account.proofs.Decode.{Applied}
-use Rattle.account.proofs.Search.{erasures}
+use Rattle.account.specs.Errata.{Applied}
+use Rattle.account.specs.Search.{erasures}
 use Rattle.gf256.specs.Gf256.{gf256}
 use Rattle.gf256.proofs.Field256.{field256}
 use Rattle.errata.specs.declared.Errata.{Errata}
-use Rattle.errata.specs.Errata.{at, Bytes5, cellsOf, valuesOf, Mends, Beyond, SearchedAs}
+use Rattle.errata.specs.Errata.{at, Bytes5, cellsOf, valuesOf, Corrects, Beyond, SearchedAs}
 use Rattle.code.specs.declared.repair.Repaired.{Repaired}
 use Rattle.code.specs.declared.repair.Repaired.the-variants as repaired
 use Rattle.code.specs.declared.repair.Entered.{Entered}
@@ -47,10 +47,10 @@ counted-places marks f e = e ∙ sym (count-places (isMarked marks) (length mark
 
 pub as-is : (marks w : List ℕ) (f : ℕ) (cells values : List ℕ) → length w ≡ length marks → f ≡ countTo (isMarked marks) (length marks) → f ≤ 5
     → Cells gf256 w → Clean gf256 w
-    → length cells ≡ 5 → length values ≡ 5 → Mends marks w (record { count = 0; cells = cells; values = values })
+    → length cells ≡ 5 → length values ≡ 5 → Corrects marks w (record { count = 0; cells = cells; values = values })
 as-is marks w f cells values en ef h cw kw lc lv = record {
   listed = record { few = omega arith; room = lc; values-room = lv; below = tt; distinct = tt };
-  mends = λ v a. subst (λ (x : List ℕ). Clean gf256 x × Reach marks w x × Cells gf256 x) (sym (same v a)) (kw, reach, cw);
+  corrects = λ v a. subst (λ (x : List ℕ). Clean gf256 x × Reach marks w x × Cells gf256 x) (sym (same v a)) (kw, reach, cw);
 }
   where
     same : (v : List ℕ) → Applied gf256 [] [] w v → v ≡ w
@@ -144,7 +144,7 @@ module _ (marks r : List ℕ) where
   pub searchable : (f : ℕ) → Entry marks r → f ≡ countTo (isMarked marks) (length marks) → f ≤ 5 → Searchable (length r) marks f
   searchable f E ef h = record { matched = sym (E .1 .0); short = omega (arith, E .1 .0, E .0 .to); count = ef; few = h }
 
-  pub repair-mends : (w : List ℕ) (e : Errata) (m : ℕ) → Entry marks r → Mends marks r e → Applied gf256 (cellsOf e) (valuesOf e) r w
+  pub repair-mends : (w : List ℕ) (e : Errata) (m : ℕ) → Entry marks r → Corrects marks r e → Applied gf256 (cellsOf e) (valuesOf e) r w
       → m ≡ countedOf marks (cellsOf e) (valuesOf e) → RepairsAs gf256 wordMost marks r w (repaired.Mended m)
   repair-mends w e m E K A em = record {
     told = tt;
@@ -157,14 +157,14 @@ module _ (marks r : List ℕ) where
   }
     where
       mended : Clean gf256 w × Reach marks r w × Cells gf256 w
-      mended = K .mends w A
+      mended = K .corrects w A
 
       long : length (valuesOf e) ≡ length (cellsOf e)
       long =
           length-take-le (e .count) (e .values) (omega (arith, K .listed .few, K .listed .values-room))
           ∙ sym (length-take-le (e .count) (e .cells) (omega (arith, K .listed .few, K .listed .room)))
 
-pub searched : (b : Bool) (marks r : List ℕ) (e : Errata) → b ≡ true → SearchedAs b marks r e → Mends marks r e
+pub searched : (b : Bool) (marks r : List ℕ) (e : Errata) → b ≡ true → SearchedAs b marks r e → Corrects marks r e
 searched b marks r e q s = subst (λ (x : Bool). SearchedAs x marks r e) q s
 
 pub unsearched : (b : Bool) (marks r : List ℕ) (e : Errata) → b ≡ false → SearchedAs b marks r e → Beyond marks r

@@ -7,15 +7,14 @@ ghost use Rattle.gf256.specs.Gf256.{gf256, times};
 pub fn product(a: u8, b: u8) -> u8
     ensures { λ r. ⌜ r ≡ times a b ⌝ }
 {
-    let powers = gf256::POWERS;
-    let logs = gf256::LOGS;
-    gf256::product(&powers, &logs, a, b)
+    let tables = gf256::tables::TABLES;
+    gf256::product(&tables, a, b)
 }
 
 // α^j; a negative exponent is a power of the inverse.
 pub fn power(j: i32) -> u8
     ensures { λ r. ⌜ r ≡ alphaTo gf256 j ⌝ }
 {
-    let powers = gf256::POWERS;
-    gf256::alpha_to(&powers, j)
+    let tables = gf256::tables::TABLES;
+    gf256::alpha_to(&tables, j)
 }

@@ -7,9 +7,9 @@ ghost use lib.Dec.{eqb};
 ghost use lib.ListN.{length};
 ghost use Rattle.account.specs.Code.{Cells};
 ghost use Rattle.account.specs.Reach.{countTo, isMarked, oneIf, and};
-ghost use Rattle.account.proofs.Decode.{Applied};
+ghost use Rattle.account.specs.Errata.{Applied};
 ghost use Rattle.gf256.specs.Gf256.{gf256};
-ghost use Rattle.remainder.specs.Remainder.{Remains};
+ghost use Rattle.remainder.specs.Remainder.{packedEnd, Remains};
 ghost use Rattle.errata.specs.Errata.{cellsOf, valuesOf, ErrataFor, SearchedAs};
 ghost use Rattle.code.specs.Word.{wordMost};
 ghost use Rattle.code.specs.Repair.{WordEntersAs, Searchable, countedOf, RepairsAs};
@@ -48,16 +48,14 @@ fn enter(n: usize, marks: &[u8]) -> Entered
     Entered { code: 0, marked }
 }
 
-// The errata of a word with the remainder r, with the tables made here.
+// The errata of a word with the remainder r, with the table made here.
 fn errata_of(r: u64, marks: &[u8], f: usize) -> errata::Found
-    requires { ⌜ (r < 1099511627776) × (length (now marks) ≤ 255) × (f ≡ countTo (isMarked (now marks)) (length (now marks))) × (f ≤ 5) ⌝ }
+    requires { ⌜ (r < packedEnd) × (length (now marks) ≤ 255) × (f ≡ countTo (isMarked (now marks)) (length (now marks))) × (f ≤ 5) ⌝ }
     ensures { λ x. ⌜ ((w : List ℕ) → length w ≡ length (now (marks .entry)) → Cells gf256 w → Remains w r → SearchedAs (x .good) (now (marks .entry)) w (x .errata)) ⌝ }
 {
-    let powers = gf256::POWERS;
-    let logs = gf256::LOGS;
-    let halves = errata::HALVES;
-    let s = remainder::syndrome_of(&powers, &logs, r);
-    errata::find(&powers, &logs, &halves, s, marks, f)
+    let tables = gf256::tables::TABLES;
+    let s = remainder::syndrome_of(&tables, r);
+    errata::find(&tables, s, marks, f)
 }
 
 // The errata of a word of which f cells are marked. A clean word costs no more than its test.

@@ -80,7 +80,6 @@ pub fn test(word: &[u8]) -> Tested
 pub fn syndrome_of(word: &[u8]) -> [u8; 5]
     ensures { λ s. ⌜ s ≡ syndrome gf256 (now (word .entry)) ⌝ }
 {
-    let powers = gf256::POWERS;
-    let logs = gf256::LOGS;
-    remainder::syndrome_of(&powers, &logs, remainder::remainder_of(word))
+    let tables = gf256::tables::TABLES;
+    remainder::syndrome_of(&tables, remainder::remainder_of(word))
 }

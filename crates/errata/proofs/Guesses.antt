@@ -3,27 +3,27 @@ use mathlib.Core.Path.{_≡_, refl, sym, ap, ap₂, _∙_, subst}
 use mathlib.Core.Logic.{_≢_}
 use mathlib.Core.Bool.{Bool, true, false}
 use mathlib.Core.List.{List, [], _∷_, _++_, map, append-assoc, append-nil}
-use Prim.Native.Nat.{ℕ, zero, suc, _+_, _*_, _-_, _<_, _≤_}
+use Prim.Native.Nat.{ℕ, zero, suc, _+_, _-_, _<_, _≤_}
 use native.Mathlib.Numerals.{add-one}
 use native.Mathlib.Omega.{arith}
-use lib.ListN.{length, getD, take, set, length-set, length-append}
+use lib.ListN.{length, take, set, length-set}
 use lib.Seq.{take-suc-set, length-take-le}
-use lib.IntN.{pos, negsuc}
-use Rattle.account.specs.Code.{Cells, Clean, S, syndrome}
-use Rattle.account.specs.Reach.{isMarked, Reach}
-use Rattle.account.proofs.Cells.{Below, Distinct, below-append, below-places}
+use Rattle.account.specs.Code.{Cells, syndrome}
+use Rattle.account.specs.Reach.{isMarked}
+use Rattle.account.specs.Errata.{Below, Distinct, filt, solve, unweighed, Applied}
+use Rattle.account.specs.Search.{erasures, Zeros, Fits}
+use Rattle.account.proofs.Cells.{below-append, below-places}
 use Rattle.account.proofs.Filter as filter
-use Rattle.account.proofs.Filter.{filt}
-use Rattle.account.proofs.Solve as solve
+use Rattle.account.proofs.Solve.{solve-near}
 use Rattle.account.proofs.Words.{sumsOf}
-use Rattle.account.proofs.Decode.{Applied, values}
+use Rattle.account.proofs.Decode.{values}
 use Rattle.account.proofs.Search as search'
-use Rattle.account.proofs.Search.{Zeros, Fits, Ready, erasures, distinct-guess}
+use Rattle.account.proofs.Search.{Ready, distinct-guess}
 use Rattle.gf256.specs.Gf256.{gf256}
-use Rattle.gf256.specs.Tables.{placeOf}
-use Rattle.gf256.proofs.Field256.{field256}
+use Rattle.gf256.specs.Tables.{placeOf, inverseOf}
+use Rattle.gf256.proofs.Field256.{field256, inv-is}
 use Rattle.errata.specs.declared.Errata.{Errata}
-use Rattle.errata.specs.Errata.{at, Listed, Drained, Gathered, Guess, NoGuess, GuessedAs, Bytes5, Valued, cellsOf, valuesOf, Mends, Beyond}
+use Rattle.errata.specs.Errata.{at, Listed, Drained, Gathered, Guess, NoGuess, GuessedAs, Bytes5, Valued, cellsOf, valuesOf, Corrects, Beyond}
 
 -- ---- cells after the marked ones
 
@@ -54,7 +54,7 @@ module _ (marks cells : List ℕ) (f : ℕ) (G : Gathered marks cells f) where
       list = G .list ∙ sym (append-nil (erasures marks));
     }
 
-    pub guess1 : (p : ℕ) → 2 + f ≤ 5 → p < length marks → Fits gf256 field256 marks (at t) (5 - f - 1) (p ∷ []) → Guess marks t f (f + 1) (set cells f p)
+    pub guess1 : (p : ℕ) → 2 + f ≤ 5 → p < length marks → Fits gf256 marks (at t) (5 - f - 1) (p ∷ []) → Guess marks t f (f + 1) (set cells f p)
     guess1 p h l fit = record {
       wrong = p ∷ [];
       below = (l, tt);
@@ -66,7 +66,7 @@ module _ (marks cells : List ℕ) (f : ℕ) (G : Gathered marks cells f) where
       list = list1 p (omega arith);
     }
 
-    pub guess2 : (p q : ℕ) → 4 + f ≤ 5 → p < length marks → q < length marks → p ≢ q → Fits gf256 field256 marks (at t) (5 - f - 2) (p ∷ q ∷ [])
+    pub guess2 : (p q : ℕ) → 4 + f ≤ 5 → p < length marks → q < length marks → p ≢ q → Fits gf256 marks (at t) (5 - f - 2) (p ∷ q ∷ [])
         → Guess marks t f (f + 2) (set (set cells f p) (f + 1) q)
     guess2 p q h lp lq ne fit = record {
       wrong = p ∷ q ∷ [];
@@ -93,7 +93,8 @@ listing marks cells bs m short r h e b d = record {
   short = short;
   room = r;
   few = h;
-  below = subst (λ (l : List ℕ). Below l (length marks)) (sym e) (below-append (erasures marks) bs (length marks) (below-places (isMarked marks) (length marks)) b);
+  below =
+      subst (λ (l : List ℕ). Below l (length marks)) (sym e) (below-append (erasures marks) bs (length marks) (below-places (isMarked marks) (length marks)) b);
   distinct = subst Distinct (sym e) d;
 }
 
@@ -116,12 +117,14 @@ sum-at s r e (suc (suc (suc zero))) l = ap (λ (x : List ℕ). at x 3) e
 sum-at s r e (suc (suc (suc (suc zero)))) l = ap (λ (x : List ℕ). at x 4) e
 sum-at s r e (suc (suc (suc (suc (suc m))))) l = absurd (omega arith)
 
-pub left-in : (marks cells s t : List ℕ) (f : ℕ) → Bytes5 s → f ≤ 5 → Gathered marks cells f → Drained (length marks) (take f cells) s t → f + 1 < 5 → at t 1 < 256
+pub left-in : (marks cells s t : List ℕ) (f : ℕ) → Bytes5 s → f ≤ 5 → Gathered marks cells f → Drained (length marks) (take f cells) s t → f + 1 < 5
+    → at t 1 < 256
 left-in marks cells s t f b h G D l =
     subst (λ (x : ℕ). x < 256) (sym (D .sum 1 (omega (arith, length-take-le f cells (omega (arith, G .room))))))
     (filter.filt-in gf256 field256 (map (placeOf (length marks)) (take f cells)) (at s) b 1)
 
-module _ (marks s t r : List ℕ) (f : ℕ) (erased : List ℕ) (short : length marks ≤ 255) (h : f ≤ 5) (ef : f ≡ length (erasures marks)) (G : Gathered marks erased f)
+module _ (marks s t r : List ℕ) (f : ℕ) (erased : List ℕ) (short : length marks ≤ 255) (h : f ≤ 5) (ef : f ≡ length (erasures marks))
+    (G : Gathered marks erased f)
     (D : Drained (length marks) (take f erased) s t) (er : length r ≡ length marks) (cr : Cells gf256 r) (es : s ≡ syndrome gf256 r) where
   ready : Ready gf256 field256 marks r (at t) f
   ready = record {
@@ -139,8 +142,8 @@ module _ (marks s t r : List ℕ) (f : ℕ) (erased : List ℕ) (short : length 
   pub beyond : NoGuess marks t f → Beyond marks r
   beyond N w cw kw hw = search'.refuted gf256 field256 marks r (at t) f ready w cw hw kw (N .not-none) (N .not-one) (N .not-two)
 
-  pub mends : (count : ℕ) (cells : List ℕ) (e : Errata) → Guess marks t f count cells → Valued (length marks) cells count s e → Mends marks r e
-  mends count cells e U K = record {
+  pub corrects : (count : ℕ) (cells : List ℕ) (e : Errata) → Guess marks t f count cells → Valued (length marks) cells count s e → Corrects marks r e
+  corrects count cells e U K = record {
     listed = record {
       few = omega (arith, K .count, U .counted, U .few);
       room = ap length (K .same-cells) ∙ U .room;
@@ -148,7 +151,7 @@ module _ (marks s t r : List ℕ) (f : ℕ) (erased : List ℕ) (short : length 
       below = subst (λ (n : ℕ). Below (cellsOf e) n) (sym er) (subst (λ (l : List ℕ). Below l (length marks)) (sym same-list) (L .below));
       distinct = subst Distinct (sym same-list) (L .distinct);
     };
-    mends = λ w a. search'.mended gf256 field256 marks r (at t) f ready (U .wrong) (U .below) (U .distinct) (U .few) (U .fits) w
+    corrects = λ w a. search'.mended gf256 field256 marks r (at t) f ready (U .wrong) (U .below) (U .distinct) (U .few) (U .fits) w
         (subst (λ (ps : List ℕ). Applied gf256 ps (values gf256 field256 ps r) r w) (same-list ∙ U .list)
         (subst (λ (vs : List ℕ). Applied gf256 (cellsOf e) vs r w) same-values a));
   }
@@ -165,7 +168,18 @@ module _ (marks s t r : List ℕ) (f : ℕ) (erased : List ℕ) (short : length 
       same-values : valuesOf e ≡ values gf256 field256 (cellsOf e) r
       same-values =
           ap (λ (m : ℕ). take m (e .values)) (K .count) ∙ K .values
-          ∙ ap (solve.unweighed gf256 field256 xs)
-          (solve.solve-near gf256 field256 xs (at s) (sumsOf gf256 r)
-          (λ m l. sum-at s r es m (omega (arith, filter.length-map (placeOf (length marks)) (take count cells), length-take-le count cells (omega (arith, L .few, L .room)), L .few))))
-          ∙ ap₂ (λ (n : ℕ) (ps : List ℕ). solve.unweighed gf256 field256 (map (placeOf n) ps) (solve.solve gf256 field256 (map (placeOf n) ps) (sumsOf gf256 r))) (sym er) (sym same-list)
+          ∙ ap (unweighed gf256 xs)
+          (solve-near gf256 field256 inverseOf xs (at s) (sumsOf gf256 r)
+          (λ m l.
+          sum-at s r es m
+          (omega (
+            arith,
+            filter.length-map (placeOf (length marks)) (take count cells),
+            length-take-le count cells (omega (arith, L .few, L .room)),
+            L .few,
+          ))))
+          ∙ ap₂ (λ (n : ℕ) (ps : List ℕ). unweighed gf256 (map (placeOf n) ps) (solve gf256 inverseOf (map (placeOf n) ps) (sumsOf gf256 r)))
+          (sym er) (sym same-list)
+          ∙ ap (λ (inv : ℕ → ℕ). unweighed gf256 (map (placeOf (length r)) (cellsOf e))
+          (solve gf256 inv (map (placeOf (length r)) (cellsOf e)) (sumsOf gf256 r)))
+          (sym inv-is)

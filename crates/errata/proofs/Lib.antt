@@ -1,4 +1,3 @@
-pub mod Halves
 pub mod Sums
 pub mod Marks
 pub mod Values

@@ -5,13 +5,11 @@ use mathlib.Core.List.{List, [], _∷_, _++_, append-assoc, append-nil}
 use Prim.Native.Nat.{ℕ, zero, suc, _+_, _-_, _<_, _≤_}
 use native.Mathlib.Numerals.{add-one}
 use native.Mathlib.Omega.{arith}
-use lib.Dec.{T, eqb}
-use lib.ListN.{length, getD, take, set, length-set, length-append}
-use lib.Seq.{take-suc-set, length-take-le}
+use lib.ListN.{length, getD, take, set, length-set}
+use lib.Seq.{take-suc-set}
 use borrow.Author.Tests.{eq-eqb, ne-eqb}
 use Rattle.account.specs.Reach.{isMarked}
-use Rattle.account.proofs.Cells.{places, addIf}
-use Rattle.account.proofs.Search.{erasures}
+use Rattle.account.specs.Search.{addIf, places, erasures}
 use Rattle.errata.specs.Errata.{Pushed, Gathered}
 
 pub marked-true : (marks : List ℕ) (j : ℕ) → (getD marks j 0 ≡ 0 → ⊥) → isMarked marks j ≡ true
@@ -40,7 +38,8 @@ pub some-left : (marks : List ℕ) (f : ℕ) (p : List ℕ) (k j : ℕ) → Gath
 some-left marks f p k zero G l = absurd (omega (arith, G .total))
 some-left marks f p k (suc j) G l = omega arith
 
-step : (marks : List ℕ) (f : ℕ) (p q : List ℕ) (k r j : ℕ) → k < f → Gathering marks f p k (suc j) → Pushed (isMarked marks j) p k j q r → Gathering marks f q r j
+step : (marks : List ℕ) (f : ℕ) (p q : List ℕ) (k r j : ℕ) → k < f → Gathering marks f p k (suc j) → Pushed (isMarked marks j) p k j q r
+    → Gathering marks f q r j
 step marks f p q k r j h G u = go (isMarked marks j) (G .list) (G .total) u
   where
     go : (b : Bool) → take k p ++ addIf b j (places (isMarked marks) j) ≡ erasures marks → k + length (addIf b j (places (isMarked marks) j)) ≡ f
@@ -79,7 +78,9 @@ gather-goes marks f p q k r j h G = step marks f p q k r (j - 1) h (subst (Gathe
 pub gather-ends : (marks : List ℕ) (f : ℕ) (p : List ℕ) (k j : ℕ) → f ≤ k → Gathering marks f p k j → Gathered marks p f
 gather-ends marks f p k j h G = record {
   room = G .room;
-  list = ap (λ (m : ℕ). take m p) same ∙ sym (append-nil (take k p)) ∙ ap (λ (l : List ℕ). take k p ++ l) (sym (none (places (isMarked marks) j) (omega (arith, G .total)))) ∙ G .list;
+  list =
+      ap (λ (m : ℕ). take m p) same ∙ sym (append-nil (take k p))
+      ∙ ap (λ (l : List ℕ). take k p ++ l) (sym (none (places (isMarked marks) j) (omega (arith, G .total)))) ∙ G .list;
 }
   where
     same : f ≡ k

@@ -1,21 +1,19 @@
 -- The filter on five sums, and cells filtered out one after the other.
 use mathlib.Core.Path.{_≡_, refl, sym, ap, ap₂, _∙_, subst}
-use mathlib.Core.Bool.{Bool, true, false}
 use mathlib.Core.List.{List, [], _∷_, _++_, map}
-use Prim.Native.Nat.{ℕ, zero, suc, _+_, _-_, _<_, _≤_}
+use Prim.Native.Nat.{ℕ, zero, suc, _+_, _<_}
 use native.Mathlib.Numerals.{add-one}
 use native.Mathlib.Omega.{arith}
 use native.Mathlib.Decide.{ℕ-discrete}
 use lib.Bits.{bitXor}
 use lib.ListN.{length, getD, take, length-append}
 use lib.Seq.{take-suc, getD-take, length-take-le}
+use Rattle.account.specs.Errata.{filt}
+use Rattle.account.specs.Search.{Zeros}
 use Rattle.account.proofs.Cells.{below-at}
 use Rattle.account.proofs.Filter as filter
-use Rattle.account.proofs.Filter.{filt}
-use Rattle.account.proofs.Search.{Zeros}
 use Rattle.gf256.specs.Gf256.{gf256, times}
 use Rattle.gf256.specs.Tables.{placeOf}
-use Rattle.rules.specs.Says.{Says}
 use Rattle.errata.specs.Errata.{at, Filtered, Listed, Drained}
 
 pub filtered : (x a b c d : ℕ) (s : List ℕ) → a ≡ bitXor (at s 1) (times x (at s 0)) → b ≡ bitXor (at s 2) (times x (at s 1))
@@ -58,7 +56,8 @@ drain-starts n cells s = record { sum = λ m l. refl }
 
 pub cell-below : (n : ℕ) (cells : List ℕ) (k : ℕ) → Listed n cells k → (i : ℕ) → i < k → getD cells i 0 < n
 cell-below n cells k L i h =
-    subst (λ (x : ℕ). x < n) (getD-take k cells i 0 h) (below-at (take k cells) n i (L .below) (omega (arith, length-take-le k cells (omega (arith, L .few, L .room)))))
+    subst (λ (x : ℕ). x < n) (getD-take k cells i 0 h)
+    (below-at (take k cells) n i (L .below) (omega (arith, length-take-le k cells (omega (arith, L .few, L .room)))))
 
 pub drain-goes : (n : ℕ) (cells s r u : List ℕ) (i x : ℕ) → i < length cells → Drained n (take i cells) s r → x ≡ placeOf n (getD cells i 0)
     → Filtered x r u → Drained n (take (i + 1) cells) s u
@@ -76,7 +75,8 @@ drain-goes n cells s r u i x l D ex f = subst (λ (ps : List ℕ). Drained n ps 
     sum : (m : ℕ) → m + length (ps ++ p ∷ []) < 5 → at u m ≡ filt gf256 (map (placeOf n) (ps ++ p ∷ [])) (at s) m
     sum m h =
         f .sum m (omega (arith, length-append ps (p ∷ [])))
-        ∙ ap₂ (λ (a b : ℕ). bitXor a (times x b)) (D .sum (suc m) (omega (arith, length-append ps (p ∷ [])))) (D .sum m (omega (arith, length-append ps (p ∷ []))))
+        ∙ ap₂ (λ (a b : ℕ). bitXor a (times x b)) (D .sum (suc m) (omega (arith, length-append ps (p ∷ []))))
+        (D .sum m (omega (arith, length-append ps (p ∷ []))))
         ∙ ap (λ (z : ℕ). bitXor (filt gf256 (map (placeOf n) ps) (at s) (suc m)) (times z (filt gf256 (map (placeOf n) ps) (at s) m))) ex
         ∙ sym (filter.filt-append gf256 (map (placeOf n) ps) (placeOf n p ∷ []) (at s) m)
         ∙ ap (λ (l : List ℕ). filt gf256 l (at s) m) (sym (filter.map-append (placeOf n) ps (p ∷ [])))

@@ -1,5 +1,5 @@
 -- The values at listed cells, by loops and by recursion.
-use mathlib.Core.Path.{_≡_, refl, sym, ap, ap₂, _∙_, subst}
+use mathlib.Core.Path.{_≡_, refl, sym, ap, ap₂, _∙_}
 use mathlib.Core.Logic.{_≢_}
 use mathlib.Core.List.{List, [], _∷_, _++_, map, append-assoc, append-nil}
 use Prim.Native.Nat.{ℕ, zero, suc, _+_, _-_, _<_, _≤_}
@@ -7,29 +7,28 @@ use native.Mathlib.Numerals.{add-one}
 use native.Mathlib.Omega.{arith}
 use lib.Bits.{bitXor}
 use lib.ListN.{length, getD, take, drop, set, length-set}
-use lib.Seq.{slice, slice-empty, slice-cons, length-slice, take-suc-set, take-set-lt, take-set-le, drop-set-lt, drop-append-le, getD-set-same, length-take-le, getD-take, take-suc}
-use Rattle.account.proofs.Cells.{Distinct, Outside, outside-right}
-use Rattle.account.proofs.Laws as laws
+use lib.Seq.{slice, slice-empty, slice-cons, length-slice, take-suc-set, take-set-lt, drop-set-lt, drop-append-le, getD-set-same, length-take-le, getD-take}
+use Rattle.account.specs.Errata.{Outside, Distinct, total, divided, solve, unweighed}
 use Rattle.account.proofs.Powers as powers
 use Rattle.account.proofs.Filter as filter
-use Rattle.account.proofs.Solve as solve
-use Rattle.account.proofs.Solve.{total}
+use Rattle.account.proofs.Solve.{solve-near}
 use Rattle.gf256.specs.Gf256.{gf256, times}
-use Rattle.gf256.specs.Tables.{placeOf}
-use Rattle.gf256.proofs.Field256.{field256}
+use Rattle.gf256.specs.Tables.{placeOf, inverseOf}
+use Rattle.gf256.proofs.Field256.{field256, inverse-right}
 use Rattle.errata.specs.Errata.{at, Filtered, Listed, Divided, Solved, Unweighed}
 use Rattle.errata.proofs.Sums.{cell-below}
 
 abbrev div : ℕ → List ℕ → List ℕ → List ℕ
-div = solve.divided gf256 field256
+div = divided gf256 inverseOf
 
 -- dividing by a is multiplying with any inverse of it
-same-quotient : (u a i : ℕ) → a < 256 → a ≢ 0 → times a i ≡ 1 → times u i ≡ times u (field256 .inv a)
+same-quotient : (u a i : ℕ) → a < 256 → a ≢ 0 → times a i ≡ 1 → times u i ≡ times u (inverseOf a)
 same-quotient u a i ha na e =
-    sym (field256 .mul-one (times u i) (field256 .in-mul u i)) ∙ ap (times (times u i)) (sym (field256 .mul-inv a ha na))
-    ∙ field256 .mul-assoc u i (times a (field256 .inv a))
-    ∙ ap (times u) (sym (field256 .mul-assoc i a (field256 .inv a)) ∙ ap (λ (y : ℕ). times y (field256 .inv a)) (field256 .mul-comm i a ∙ e) ∙ field256 .mul-comm 1 (field256 .inv a))
-    ∙ sym (field256 .mul-assoc u (field256 .inv a) 1) ∙ field256 .mul-one (times u (field256 .inv a)) (field256 .in-mul u (field256 .inv a))
+    sym (field256 .mul-one (times u i) (field256 .in-mul u i)) ∙ ap (times (times u i)) (sym (inverse-right a ha na))
+    ∙ field256 .mul-assoc u i (times a (inverseOf a))
+    ∙ ap (times u) (sym (field256 .mul-assoc i a (inverseOf a)) ∙ ap (λ (y : ℕ). times y (inverseOf a)) (field256 .mul-comm i a ∙ e)
+    ∙ field256 .mul-comm 1 (inverseOf a))
+    ∙ sym (field256 .mul-assoc u (inverseOf a) 1) ∙ field256 .mul-one (times u (inverseOf a)) (field256 .in-mul u (inverseOf a))
 
 -- ---- parts of a list that is written to
 
@@ -75,7 +74,7 @@ abbrev ys : ℕ → List ℕ → ℕ → ℕ → List ℕ
 ys n cells k j = map (placeOf n) (slice j k cells)
 
 abbrev unw : List ℕ → List ℕ → List ℕ
-unw = solve.unweighed gf256 field256
+unw = unweighed gf256
 
 -- the cells before j are divided
 pub record Dividing (n : ℕ) (cells : List ℕ) (k i : ℕ) (v : List ℕ) (s0 : ℕ) (r : List ℕ) (sum j : ℕ) : Type 0 where
@@ -83,7 +82,8 @@ pub record Dividing (n : ℕ) (cells : List ℕ) (k i : ℕ) (v : List ℕ) (s0 
   pub high : j ≤ k
   pub room : length r ≡ 5
   pub list : slice (i + 1) j r ++ div (P n cells i) (ys n cells k j) (slice j k r) ≡ div (P n cells i) (ys n cells k (i + 1)) (slice (i + 1) k v)
-  pub rest : bitXor sum (total gf256 (div (P n cells i) (ys n cells k j) (slice j k r))) ≡ bitXor s0 (total gf256 (div (P n cells i) (ys n cells k (i + 1)) (slice (i + 1) k v)))
+  pub rest : bitXor sum (total gf256 (div (P n cells i) (ys n cells k j) (slice j k r)))
+      ≡ bitXor s0 (total gf256 (div (P n cells i) (ys n cells k (i + 1)) (slice (i + 1) k v)))
 
 -- the cells before j have their weights off
 pub record Unweighing (n : ℕ) (cells : List ℕ) (k : ℕ) (u r : List ℕ) (j : ℕ) : Type 0 where
@@ -122,14 +122,16 @@ module _ (n : ℕ) (cells : List ℕ) (k : ℕ) (L : Listed n cells k) where
     rest = refl;
   }
 
-  pub divide-goes : (i : ℕ) (v : List ℕ) (s0 : ℕ) (r : List ℕ) (sum j x y iv u : ℕ) → j < k → Dividing n cells k i v s0 r sum j → x ≡ P n cells i → y ≡ P n cells j
+  pub divide-goes : (i : ℕ) (v : List ℕ) (s0 : ℕ) (r : List ℕ) (sum j x y iv u : ℕ) → j < k → Dividing n cells k i v s0 r sum j → x ≡ P n cells i
+      → y ≡ P n cells j
       → times (bitXor y x) iv ≡ 1 → u ≡ times (getD r j 0) iv → Dividing n cells k i v s0 (set r j u) (bitXor sum u) (j + 1)
   divide-goes i v s0 r sum j x y iv u l D ex ey ei eu = record {
     low = omega (arith, D .low);
     high = omega arith;
     room = length-set r j u ∙ D .room;
     list =
-        ap₂ (λ (a b : List ℕ). a ++ div (P n cells i) (ys n cells k (j + 1)) b) (up-to (i + 1) j r u (omega (arith, D .low)) (omega (arith, D .room, L .few))) (after j k r u l)
+        ap₂ (λ (a b : List ℕ). a ++ div (P n cells i) (ys n cells k (j + 1)) b)
+        (up-to (i + 1) j r u (omega (arith, D .low)) (omega (arith, D .room, L .few))) (after j k r u l)
         ∙ append-assoc (slice (i + 1) j r) (u ∷ []) rest ∙ ap (λ (b : List ℕ). slice (i + 1) j r ++ b) (sym here) ∙ D .list;
     rest =
         ap (λ (b : List ℕ). bitXor (bitXor sum u) (total gf256 (div (P n cells i) (ys n cells k (j + 1)) b))) (after j k r u l)
@@ -139,9 +141,10 @@ module _ (n : ℕ) (cells : List ℕ) (k : ℕ) (L : Listed n cells k) where
       rest : List ℕ
       rest = div (P n cells i) (ys n cells k (j + 1)) (slice (j + 1) k r)
 
-      quotient : u ≡ times (getD r j 0) (field256 .inv (bitXor (P n cells j) (P n cells i)))
+      quotient : u ≡ times (getD r j 0) (inverseOf (bitXor (P n cells j) (P n cells i)))
       quotient =
-          eu ∙ same-quotient (getD r j 0) (bitXor (P n cells j) (P n cells i)) iv (field256 .in-add (P n cells j) (P n cells i) (P-in j) (P-in i)) (apart i j (D .low) l)
+          eu ∙ same-quotient (getD r j 0) (bitXor (P n cells j) (P n cells i)) iv (field256 .in-add (P n cells j) (P n cells i) (P-in j) (P-in i))
+          (apart i j (D .low) l)
           (ap₂ (λ (a b : ℕ). times (bitXor a b) iv) (sym ey) (sym ex) ∙ ei)
 
       here : div (P n cells i) (ys n cells k j) (slice j k r) ≡ u ∷ rest
@@ -149,7 +152,8 @@ module _ (n : ℕ) (cells : List ℕ) (k : ℕ) (L : Listed n cells k) where
           ap₂ (div (P n cells i)) (ys-cons j l) (from j k r l (omega (arith, D .room, L .few)))
           ∙ ap (λ (a : ℕ). a ∷ rest) (sym quotient)
 
-  pub divide-ends : (i : ℕ) (v : List ℕ) (s0 : ℕ) (r : List ℕ) (sum j : ℕ) → i < k → k ≤ j → Dividing n cells k i v s0 r sum j → Divided n cells i k v s0 (set r i sum)
+  pub divide-ends : (i : ℕ) (v : List ℕ) (s0 : ℕ) (r : List ℕ) (sum j : ℕ) → i < k → k ≤ j → Dividing n cells k i v s0 r sum j
+      → Divided n cells i k v s0 (set r i sum)
   divide-ends i v s0 r sum j h g D =
       set-from i k r sum h (omega (arith, D .room, L .few))
       ∙ ap₂ (λ (a : ℕ) (b : List ℕ). a ∷ b)
@@ -168,7 +172,7 @@ module _ (n : ℕ) (cells : List ℕ) (k : ℕ) (L : Listed n cells k) where
   -- ---- solving
 
   pub solve-none : (i : ℕ) (s r : List ℕ) → k ≤ i → i ≤ k → Solved n cells i k s r
-  solve-none i s r h g = none r ∙ sym (ap (λ (l : List ℕ). solve.solve gf256 field256 (map (placeOf n) l) (at s)) (none cells))
+  solve-none i s r h g = none r ∙ sym (ap (λ (l : List ℕ). solve gf256 inverseOf (map (placeOf n) l) (at s)) (none cells))
     where
       same : i ≡ k
       same = omega arith
@@ -180,12 +184,17 @@ module _ (n : ℕ) (cells : List ℕ) (k : ℕ) (L : Listed n cells k) where
       → Solved n cells i k s r
   solve-step i x s t v r h ex f S D =
       D ∙ ap (λ (vs : List ℕ). bitXor (at s 0) (total gf256 (div (P n cells i) (ys n cells k (i + 1)) vs)) ∷ div (P n cells i) (ys n cells k (i + 1)) vs) inner
-      ∙ ap (λ (xs : List ℕ). solve.solve gf256 field256 xs (at s)) (sym (ys-cons i h))
+      ∙ ap (λ (xs : List ℕ). solve gf256 inverseOf xs (at s)) (sym (ys-cons i h))
     where
-      inner : slice (i + 1) k v ≡ solve.solve gf256 field256 (ys n cells k (i + 1)) (λ m. bitXor (at s (suc m)) (times (P n cells i) (at s m)))
+      inner : slice (i + 1) k v ≡ solve gf256 inverseOf (ys n cells k (i + 1)) (λ m. bitXor (at s (suc m)) (times (P n cells i) (at s m)))
       inner =
-          S ∙ solve.solve-near gf256 field256 (ys n cells k (i + 1)) (at t) (λ m. bitXor (at s (suc m)) (times (P n cells i) (at s m)))
-          (λ m l. f .sum m (omega (arith, filter.length-map (placeOf n) (slice (i + 1) k cells), length-slice (i + 1) k cells (omega (arith, L .few, L .room)), L .few))
+          S ∙ solve-near gf256 field256 inverseOf (ys n cells k (i + 1)) (at t) (λ m. bitXor (at s (suc m)) (times (P n cells i) (at s m)))
+          (λ m l. f .sum m (omega (
+            arith,
+            filter.length-map (placeOf n) (slice (i + 1) k cells),
+            length-slice (i + 1) k cells (omega (arith, L .few, L .room)),
+            L .few,
+          ))
           ∙ ap (λ (z : ℕ). bitXor (at s (suc m)) (times z (at s m))) ex)
 
   -- ---- the weights taken off
@@ -193,7 +202,8 @@ module _ (n : ℕ) (cells : List ℕ) (k : ℕ) (L : Listed n cells k) where
   pub unweigh-starts : (u : List ℕ) → length u ≡ 5 → Unweighing n cells k u u 0
   unweigh-starts u e = record { high = omega arith; room = e; list = refl }
 
-  pub unweigh-goes : (u r : List ℕ) (j x v w : ℕ) → j < k → Unweighing n cells k u r j → x ≡ P n cells j → v ≡ times (getD r j 0) x → w ≡ times v x → Unweighing n cells k u (set r j w) (j + 1)
+  pub unweigh-goes : (u r : List ℕ) (j x v w : ℕ) → j < k → Unweighing n cells k u r j → x ≡ P n cells j → v ≡ times (getD r j 0) x → w ≡ times v x
+      → Unweighing n cells k u (set r j w) (j + 1)
   unweigh-goes u r j x v w l U ex ev ew = record {
     high = omega arith;
     room = length-set r j w ∙ U .room;

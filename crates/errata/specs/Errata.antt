@@ -8,16 +8,10 @@ use lib.ListN.{length, getD, take, set}
 use lib.Seq.{slice}
 use Rattle.account.specs.Code.{Cells, Clean, syndrome}
 use Rattle.account.specs.Reach.{Reach}
-use Rattle.account.proofs.Cells.{Below, Distinct}
-use Rattle.account.proofs.Filter.{filt}
-use Rattle.account.proofs.Solve as solve
-use Rattle.account.proofs.Solve.{total}
-use Rattle.account.proofs.Decode.{Applied}
-use Rattle.account.proofs.Search.{Zeros, Fits, erasures}
-use Rattle.account.proofs.Locate.{CellOf, Found1, Found2, Joined, Halves, Splits}
+use Rattle.account.specs.Errata.{Below, Distinct, filt, total, divided, solve, unweighed, Applied}
+use Rattle.account.specs.Search.{erasures, Zeros, Fits, CellOf, Found1, Found2, Joined, Splits}
 use Rattle.gf256.specs.Gf256.{gf256, times}
-use Rattle.gf256.specs.Tables.{placeOf}
-use Rattle.gf256.proofs.Field256.{field256}
+use Rattle.gf256.specs.Tables.{placeOf, inverseOf}
 use Rattle.errata.specs.declared.Errata.{Errata}
 use Rattle.errata.specs.declared.Pair.{Pair}
 
@@ -56,25 +50,22 @@ pub record Gathered (marks cells : List ℕ) (f : ℕ) : Type 0 where
 -- ---- wrong cells
 
 abbrev pub CellAt : ℕ → List ℕ → ℕ → Type 0
-CellAt = CellOf gf256 field256
+CellAt = CellOf gf256
 
-abbrev pub FitsAlone : List ℕ → ℕ → List ℕ → ℕ → Type 0
-FitsAlone t k marks p = Fits gf256 field256 marks (at t) k (p ∷ [])
+abbrev pub NoneAlone : List ℕ → ℕ → List ℕ → Type 0
+NoneAlone t k marks = (p : ℕ) → p < length marks → Fits gf256 marks (at t) k (p ∷ []) → ⊥
 
 abbrev pub One : List ℕ → ℕ → List ℕ → ℕ → Type 0
-One t = Found1 gf256 field256 (at t)
+One t = Found1 gf256 (at t)
 
 abbrev pub Two : List ℕ → ℕ → List ℕ → Pair → Type 0
-Two t k marks r = Found2 gf256 field256 (at t) k marks (r .p) (r .q)
+Two t k marks r = Found2 gf256 (at t) k marks (r .p) (r .q)
 
 abbrev pub Both : ℕ → ℕ → List ℕ → ℕ → List ℕ → Pair → Type 0
-Both x y t k marks r = Joined gf256 field256 x y (at t) k marks (r .p) (r .q)
-
-abbrev pub Halving : List ℕ → Type 0
-Halving = Halves gf256 field256
+Both x y t k marks r = Joined gf256 x y (at t) k marks (r .p) (r .q)
 
 abbrev pub Split : ℕ → ℕ → ℕ → Type 0
-Split = Splits gf256 field256
+Split = Splits gf256
 
 -- t are the sums that are left when the f marked cells are filtered out. A guess of wrong cells that fits, listed after the marked ones
 pub record Guess (marks t : List ℕ) (f count : ℕ) (cells : List ℕ) : Type 0 where
@@ -82,16 +73,28 @@ pub record Guess (marks t : List ℕ) (f count : ℕ) (cells : List ℕ) : Type 
   pub below : Below wrong (length marks)
   pub distinct : Distinct wrong
   pub few : 2 * length wrong + f ≤ 5
-  pub fits : Fits gf256 field256 marks (at t) (5 - f - length wrong) wrong
+  pub fits : Fits gf256 marks (at t) (5 - f - length wrong) wrong
   pub counted : count ≡ f + length wrong
   pub room : length cells ≡ 5
   pub list : take count cells ≡ erasures marks ++ wrong
 
+-- something is wrong
+abbrev pub NotNone : List ℕ → ℕ → Type 0
+NotNone t f = Zeros (5 - f) (at t) → ⊥
+
+-- no cell fits alone
+abbrev pub NotOne : List ℕ → List ℕ → ℕ → Type 0
+NotOne marks t f = NoneAlone t (5 - f - 1) marks
+
+-- no two cells fit
+abbrev pub NotTwo : List ℕ → List ℕ → ℕ → Type 0
+NotTwo marks t f = (p q : ℕ) → p < length marks → q < p → Fits gf256 marks (at t) (5 - f - 2) (p ∷ q ∷ []) → ⊥
+
 -- no guess of none, one or two cells fits, where so many may be wrong
 pub record NoGuess (marks t : List ℕ) (f : ℕ) : Type 0 where
-  pub not-none : Zeros (5 - f) (at t) → ⊥
-  pub not-one : 2 + f ≤ 5 → (p : ℕ) → p < length marks → Fits gf256 field256 marks (at t) (5 - f - 1) (p ∷ []) → ⊥
-  pub not-two : 4 + f ≤ 5 → (p q : ℕ) → p < length marks → q < p → Fits gf256 field256 marks (at t) (5 - f - 2) (p ∷ q ∷ []) → ⊥
+  pub not-none : NotNone t f
+  pub not-one : 2 + f ≤ 5 → NotOne marks t f
+  pub not-two : 4 + f ≤ 5 → NotTwo marks t f
 
 abbrev pub GuessedAs : Bool → List ℕ → List ℕ → ℕ → ℕ → List ℕ → Type 0
 GuessedAs true marks t f count cells = Guess marks t f count cells
@@ -102,14 +105,14 @@ GuessedAs false marks t f count cells = NoGuess marks t f
 -- the values at the cells after i, divided, and before them what is left of the first sum
 abbrev pub Divided : ℕ → List ℕ → ℕ → ℕ → List ℕ → ℕ → List ℕ → Type 0
 Divided n cells i k v s0 r =
-    slice i k r ≡ bitXor s0 (total gf256 (solve.divided gf256 field256 (placeOf n (getD cells i 0)) (map (placeOf n) (slice (i + 1) k cells)) (slice (i + 1) k v)))
-    ∷ solve.divided gf256 field256 (placeOf n (getD cells i 0)) (map (placeOf n) (slice (i + 1) k cells)) (slice (i + 1) k v)
+    slice i k r ≡ bitXor s0 (total gf256 (divided gf256 inverseOf (placeOf n (getD cells i 0)) (map (placeOf n) (slice (i + 1) k cells)) (slice (i + 1) k v)))
+    ∷ divided gf256 inverseOf (placeOf n (getD cells i 0)) (map (placeOf n) (slice (i + 1) k cells)) (slice (i + 1) k v)
 
 abbrev pub Solved : ℕ → List ℕ → ℕ → ℕ → List ℕ → List ℕ → Type 0
-Solved n cells i k s r = slice i k r ≡ solve.solve gf256 field256 (map (placeOf n) (slice i k cells)) (at s)
+Solved n cells i k s r = slice i k r ≡ solve gf256 inverseOf (map (placeOf n) (slice i k cells)) (at s)
 
 abbrev pub Unweighed : ℕ → List ℕ → ℕ → List ℕ → List ℕ → Type 0
-Unweighed n cells k u r = take k r ≡ solve.unweighed gf256 field256 (map (placeOf n) (take k cells)) (take k u)
+Unweighed n cells k u r = take k r ≡ unweighed gf256 (map (placeOf n) (take k cells)) (take k u)
 
 -- ---- errata
 
@@ -122,7 +125,7 @@ pub record Valued (n : ℕ) (cells : List ℕ) (k : ℕ) (s : List ℕ) (e : Err
   pub count : e .count ≡ k
   pub same-cells : e .cells ≡ cells
   pub room : length (e .values) ≡ 5
-  pub values : take k (e .values) ≡ solve.unweighed gf256 field256 (map (placeOf n) (take k cells)) (solve.solve gf256 field256 (map (placeOf n) (take k cells)) (at s))
+  pub values : take k (e .values) ≡ unweighed gf256 (map (placeOf n) (take k cells)) (solve gf256 inverseOf (map (placeOf n) (take k cells)) (at s))
 
 abbrev pub cellsOf : Errata → List ℕ
 cellsOf e = take (e .count) (e .cells)
@@ -138,17 +141,17 @@ pub record ErrataFor (n : ℕ) (e : Errata) : Type 0 where
   pub below : Below (cellsOf e) n
   pub distinct : Distinct (cellsOf e)
 
--- e mends r: with it, r becomes a clean word within reach
-pub record Mends (marks r : List ℕ) (e : Errata) : Type 0 where
+-- e corrects r: with it, r becomes a clean word within reach
+pub record Corrects (marks r : List ℕ) (e : Errata) : Type 0 where
   pub listed : ErrataFor (length r) e
-  pub mends : (w : List ℕ) → Applied gf256 (cellsOf e) (valuesOf e) r w → Clean gf256 w × Reach marks r w × Cells gf256 w
+  pub corrects : (w : List ℕ) → Applied gf256 (cellsOf e) (valuesOf e) r w → Clean gf256 w × Reach marks r w × Cells gf256 w
 
 -- no clean word is within reach of r
 abbrev pub Beyond : List ℕ → List ℕ → Type 0
 Beyond marks r = (w : List ℕ) → Cells gf256 w → Clean gf256 w → Reach marks r w → ⊥
 
 abbrev pub SearchedAs : Bool → List ℕ → List ℕ → Errata → Type 0
-SearchedAs true marks r e = Mends marks r e
+SearchedAs true marks r e = Corrects marks r e
 SearchedAs false marks r e = Beyond marks r
 
 -- what is found from a syndrome holds of every word that has it

@@ -2,9 +2,8 @@
 use mathlib.Core.Path.{_≡_, refl, sym, ap, _∙_, subst}
 use mathlib.Core.Logic.{_≢_}
 use mathlib.Core.Bool.{not}
-use mathlib.Core.List.{List, [], _∷_}
-use Prim.Native.Nat.{ℕ, zero, suc, _+_, _/_, _%_, _<_}
-use native.Mathlib.Nat.{add-zero, suc-add, add-suc}
+use Prim.Native.Nat.{ℕ, zero, suc, _+_, _-_, _/_, _%_, _<_}
+use native.Mathlib.Nat.{add-zero, suc-add, add-suc, mul-comm}
 use native.Mathlib.Numerals.{one-add}
 use native.Mathlib.Omega.{arith}
 use lib.Dec.{T, T-not, eqb, ltb, eqb→eq, ltb→lt}
@@ -12,15 +11,12 @@ use lib.ListN.{getD}
 use lib.Bits.{bitXor}
 use Rattle.account.specs.Field.{IsField, power}
 use Rattle.account.specs.Product.{timesT, horner, product}
-use Rattle.account.proofs.Test.{upto, upto-at, walk-at, repeated}
+use Rattle.account.proofs.Test.{upto-at, walk-at, repeated}
 use Rattle.account.proofs.Product as laws
+use Rattle.account.proofs.Powers as powers
 use Rattle.gf256.specs.Gf256.{gf256, times}
-
-inverses : List ℕ
-inverses = 0 ∷ 1 ∷ 142 ∷ 244 ∷ 71 ∷ 167 ∷ 122 ∷ 186 ∷ 173 ∷ 157 ∷ 221 ∷ 152 ∷ 61 ∷ 170 ∷ 93 ∷ 150 ∷ 216 ∷ 114 ∷ 192 ∷ 88 ∷ 224 ∷ 62 ∷ 76 ∷ 102 ∷ 144 ∷ 222 ∷ 85 ∷ 128 ∷ 160 ∷ 131 ∷ 75 ∷ 42 ∷ 108 ∷ 237 ∷ 57 ∷ 81 ∷ 96 ∷ 86 ∷ 44 ∷ 138 ∷ 112 ∷ 208 ∷ 31 ∷ 74 ∷ 38 ∷ 139 ∷ 51 ∷ 110 ∷ 72 ∷ 137 ∷ 111 ∷ 46 ∷ 164 ∷ 195 ∷ 64 ∷ 94 ∷ 80 ∷ 34 ∷ 207 ∷ 169 ∷ 171 ∷ 12 ∷ 21 ∷ 225 ∷ 54 ∷ 95 ∷ 248 ∷ 213 ∷ 146 ∷ 78 ∷ 166 ∷ 4 ∷ 48 ∷ 136 ∷ 43 ∷ 30 ∷ 22 ∷ 103 ∷ 69 ∷ 147 ∷ 56 ∷ 35 ∷ 104 ∷ 140 ∷ 129 ∷ 26 ∷ 37 ∷ 97 ∷ 19 ∷ 193 ∷ 203 ∷ 99 ∷ 151 ∷ 14 ∷ 55 ∷ 65 ∷ 36 ∷ 87 ∷ 202 ∷ 91 ∷ 185 ∷ 196 ∷ 23 ∷ 77 ∷ 82 ∷ 141 ∷ 239 ∷ 179 ∷ 32 ∷ 236 ∷ 47 ∷ 50 ∷ 40 ∷ 209 ∷ 17 ∷ 217 ∷ 233 ∷ 251 ∷ 218 ∷ 121 ∷ 219 ∷ 119 ∷ 6 ∷ 187 ∷ 132 ∷ 205 ∷ 254 ∷ 252 ∷ 27 ∷ 84 ∷ 161 ∷ 29 ∷ 124 ∷ 204 ∷ 228 ∷ 176 ∷ 73 ∷ 49 ∷ 39 ∷ 45 ∷ 83 ∷ 105 ∷ 2 ∷ 245 ∷ 24 ∷ 223 ∷ 68 ∷ 79 ∷ 155 ∷ 188 ∷ 15 ∷ 92 ∷ 11 ∷ 220 ∷ 189 ∷ 148 ∷ 172 ∷ 9 ∷ 199 ∷ 162 ∷ 28 ∷ 130 ∷ 159 ∷ 198 ∷ 52 ∷ 194 ∷ 70 ∷ 5 ∷ 206 ∷ 59 ∷ 13 ∷ 60 ∷ 156 ∷ 8 ∷ 190 ∷ 183 ∷ 135 ∷ 229 ∷ 238 ∷ 107 ∷ 235 ∷ 242 ∷ 191 ∷ 175 ∷ 197 ∷ 100 ∷ 7 ∷ 123 ∷ 149 ∷ 154 ∷ 174 ∷ 182 ∷ 18 ∷ 89 ∷ 165 ∷ 53 ∷ 101 ∷ 184 ∷ 163 ∷ 158 ∷ 210 ∷ 247 ∷ 98 ∷ 90 ∷ 133 ∷ 125 ∷ 168 ∷ 58 ∷ 41 ∷ 113 ∷ 200 ∷ 246 ∷ 249 ∷ 67 ∷ 215 ∷ 214 ∷ 16 ∷ 115 ∷ 118 ∷ 120 ∷ 153 ∷ 10 ∷ 25 ∷ 145 ∷ 20 ∷ 63 ∷ 230 ∷ 240 ∷ 134 ∷ 177 ∷ 226 ∷ 241 ∷ 250 ∷ 116 ∷ 243 ∷ 180 ∷ 109 ∷ 33 ∷ 178 ∷ 106 ∷ 227 ∷ 231 ∷ 181 ∷ 234 ∷ 3 ∷ 143 ∷ 211 ∷ 201 ∷ 66 ∷ 212 ∷ 232 ∷ 117 ∷ 127 ∷ 255 ∷ 126 ∷ 253 ∷ []
-
-inv : ℕ → ℕ
-inv a = getD inverses a 0
+use Rattle.gf256.specs.Tables.{inverseOf}
+use Rattle.gf256.proofs.Rules.{powersList, logsList, log-at}
 
 t-lt : (a : ℕ) → a < 256 → timesT 128 0x11D a < 256
 unfolding timesT
@@ -37,11 +33,6 @@ one-times b h = eqb→eq _ b (upto-at (λ x. eqb (horner 128 0x11D 8 1 x) x) 256
 digit : (a : ℕ) → a < 256 → a ≡ bitXor (timesT 128 0x11D (a / 2)) (a % 2)
 unfolding timesT
 digit a h = eqb→eq a _ (upto-at (λ x. eqb x (bitXor (timesT 128 0x11D (x / 2)) (x % 2))) 256 tt a h)
-
-inverse : (a : ℕ) → a < 256 → a ≢ 0 → times a (inv a) ≡ 1
-unfolding product inv inverses
-inverse zero h n = absurd (n refl)
-inverse (suc a) h n = eqb→eq _ 1 (upto-at (λ x. eqb (times (suc x) (inv (suc x))) 1) 255 tt a (omega arith))
 
 -- times α
 next : ℕ → ℕ
@@ -69,6 +60,58 @@ two-back : times 2 0x8E ≡ 1
 unfolding product
 two-back = refl
 
+-- the inverse that the table gives: of the power i the power 255 - i
+found : ℕ → ℕ
+found a = getD powersList (255 - getD logsList a 0) 0
+
+found-right : (a : ℕ) → a < 256 → a ≢ 0 → times a (found a) ≡ 1
+unfolding product found
+found-right zero h n = absurd (n refl)
+found-right (suc a) h n = eqb→eq _ 1 (upto-at (λ x. eqb (times (suc x) (found (suc x))) 1) 255 tt a (omega arith))
+
+pub by-table : IsField gf256
+by-table = laws.is-field 7 0x11D t-lt cancel one-times digit 0x8E 255 found found-right (omega arith) two-back once around
+
+-- one, to any power
+ones : (k : ℕ) → power gf256 1 k ≡ 1
+unfolding power
+ones zero = refl
+ones (suc k) = ap (λ (x : ℕ). times x 1) (ones k) ∙ by-table .mul-one 1 (by-table .in-one)
+
+-- every byte but 0 is a power of α, so its power 255 is 1
+pub inverse-right : (a : ℕ) → a < 256 → a ≢ 0 → times a (inverseOf a) ≡ 1
+unfolding power inverseOf
+inverse-right a h n =
+    by-table .mul-comm a (power gf256 a 254) ∙ ap (λ (x : ℕ). power gf256 x 255) (sym (log-at a (omega arith) h))
+    ∙ powers.pow-mul gf256 by-table 2 i 255 ∙ ap (power gf256 2) (mul-comm i 255) ∙ sym (powers.pow-mul gf256 by-table 2 255 i)
+    ∙ ap (λ (x : ℕ). power gf256 x i) around ∙ ones i
+  where
+    i : ℕ
+    i = getD logsList a 0
+
 -- The field laws of GF(256), its inverses, and that its 255 powers of α are different and non-zero.
-pub field256 : IsField gf256
-field256 = laws.is-field 7 0x11D t-lt cancel one-times digit 0x8E 255 inv inverse (omega arith) two-back once around
+unfoldable pub field256 : IsField gf256
+field256 = record {
+  inv = inverseOf;
+  add-assoc = by-table .add-assoc;
+  add-comm = by-table .add-comm;
+  add-self = by-table .add-self;
+  add-zero = by-table .add-zero;
+  mul-assoc = by-table .mul-assoc;
+  mul-comm = by-table .mul-comm;
+  mul-add = by-table .mul-add;
+  in-zero = by-table .in-zero;
+  in-one = by-table .in-one;
+  in-add = by-table .in-add;
+  in-mul = by-table .in-mul;
+  mul-one = by-table .mul-one;
+  mul-inv = inverse-right;
+  α-in = by-table .α-in;
+  α-inverse = by-table .α-inverse;
+  α-order = by-table .α-order;
+  α-around = by-table .α-around;
+}
+
+pub inv-is : field256 .inv ≡ inverseOf
+unfolding field256
+inv-is = refl

@@ -1,3 +1,4 @@
+pub mod Rules
 pub mod Field256
-pub mod Tables
+pub mod Lookups
 pub mod Signs

@@ -1,4 +1,4 @@
--- "The product is taken modulo t^8 + t^4 + t^3 + t^2 + 1; α is 02", its inverse 8E, and it has 255 powers.
+-- GF(256): polynomials modulo t^8 + t^4 + t^3 + t^2 + 1. α is 02, its inverse is 8E, and it has 255 powers.
 use Prim.Native.Nat.{ℕ}
 use Rattle.account.specs.Field.{Ops}
 use Rattle.account.specs.Product.{product, binary}

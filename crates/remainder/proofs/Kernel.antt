@@ -1,25 +1,22 @@
 -- Horner's rule on packed bytes, the table's rule, and the steps.
 use mathlib.Core.Path.{_≡_, refl, sym, ap, ap₂, _∙_, subst}
 use mathlib.Core.Bool.{Bool, true, false}
-use mathlib.Core.List.{List, [], _∷_, _++_, append-assoc}
-use Prim.Native.Nat.{ℕ, zero, suc, _+_, _*_, _-_, _/_, _%_, _^_, _<_, _≤_}
+use mathlib.Core.List.{List, [], _∷_}
+use Prim.Native.Nat.{ℕ, _+_, _*_, _/_, _%_, _^_, _<_}
 use native.Mathlib.Nat.{mod-lt, zero-lt-suc}
 use native.Mathlib.Omega.{arith}
 use lib.Dec.{T, eqb, ltb, eqb→eq, ltb→lt}
-use lib.IntN.{ℤ, pos, negsuc}
-use lib.Signed.{_≤ℤ_}
 use lib.ListN.{length, getD}
 use lib.Bits.{bitXor, xor-shr, xor-mod, xor-lt, xor-shifted, xor-comm}
 use Rattle.account.specs.Field.{power}
 use Rattle.account.specs.Product.{product}
 use Rattle.account.specs.Code.{alphaTo}
 use Rattle.account.proofs.Laws as laws
-use Rattle.account.proofs.Powers as powers
 use Rattle.account.proofs.Words.{five}
 use Rattle.account.proofs.Test.{both, both-left, both-right, upto, upto-at}
 use Rattle.gf256.specs.Gf256.{gf256, times}
 use Rattle.gf256.proofs.Field256.{field256}
-use Rattle.remainder.specs.Remainder.{unpacked, AtRoots, horn, hornAll, at5, Reduced, Reductions, Moved}
+use Rattle.remainder.specs.Remainder.{packedEnd, unpacked, horn, hornAll, at5, Reduced, Reductions, Moved}
 
 -- all are bytes
 abbrev pub AllBytes : List ℕ → Type 0
@@ -81,18 +78,36 @@ module _ (y : ℕ) where
 -- ---- the table's rule, by one computed test
 
 abbrev pub reductions : List ℕ
-reductions = 0 ∷ 888637148673 ∷ 557570949378 ∷ 340228787971 ∷ 136360959748 ∷ 899147223301 ∷ 680457575942 ∷ 345888018439 ∷ 267955420680 ∷ 1033032298505 ∷ 823336812298 ∷ 486746124555 ∷ 145439334668 ∷ 1027474124557 ∷ 687413764110 ∷ 476404477455 ∷ 0 ∷ 535910841360 ∷ 1067594151968 ∷ 568401036336 ∷ 1018968403264 ∷ 626964140368 ∷ 93124957536 ∷ 452723239280 ∷ 856820729728 ∷ 806257998736 ∷ 274608373664 ∷ 288453378992 ∷ 181483416256 ∷ 371640981200 ∷ 905446478560 ∷ 747694894832 ∷ 0 ∷ 466717150158 ∷ 928939314049 ∷ 776912732239 ∷ 745482098207 ∷ 829879786961 ∷ 506188209566 ∷ 109281121872 ∷ 305905544254 ∷ 187164960752 ∷ 684787050431 ∷ 1047351241841 ∷ 1007896902177 ∷ 575556334063 ∷ 218545205664 ∷ 404948367982 ∷ 0 ∷ 611811088508 ∷ 8129458424 ∷ 616701487236 ∷ 12163972589 ∷ 604110792081 ∷ 13716081941 ∷ 606718825833 ∷ 20251081415 ∷ 596023616187 ∷ 22875949631 ∷ 597559022147 ∷ 27414595370 ∷ 584396693334 ∷ 32321583058 ∷ 592509169582 ∷ 0 ∷ 682647747180 ∷ 145994279384 ∷ 820558304180 ∷ 287356211117 ∷ 945282495937 ∷ 425640863349 ∷ 1090566609945 ∷ 570485867335 ∷ 112262805803 ∷ 709448985247 ∷ 257136890099 ∷ 851281726698 ∷ 381256054406 ∷ 995521701170 ∷ 520652480350 ∷ 0 ∷ 93334477710 ∷ 182189438465 ∷ 274080804239 ∷ 364378876930 ∷ 281010468748 ∷ 544353180163 ∷ 459675877773 ∷ 724528650244 ∷ 811923850122 ∷ 562004487685 ∷ 650171184523 ∷ 1084075127814 ∷ 1004431126408 ∷ 919336878599 ∷ 840598591881 ∷ 0 ∷ 1010597590942 ∷ 874438913569 ∷ 141009459647 ∷ 597757641026 ∷ 413951506140 ∷ 277927112547 ∷ 738632685821 ∷ 48758955908 ∷ 962442684442 ∷ 827902947749 ∷ 187075593787 ∷ 551758814918 ∷ 460554250584 ∷ 326148927719 ∷ 689941170041 ∷ 0 ∷ 97517839125 ∷ 190942889514 ∷ 252355634495 ∷ 381885779028 ∷ 336595955521 ∷ 500887964286 ∷ 421640530283 ∷ 759291970984 ∷ 715075364541 ∷ 673173291906 ∷ 592852639895 ∷ 997027908092 ∷ 1093471480553 ∷ 843263496150 ∷ 905750506691 ∷ []
+reductions =
+    0 ∷ 888637148673 ∷ 557570949378 ∷ 340228787971 ∷ 136360959748 ∷ 899147223301 ∷ 680457575942 ∷ 345888018439
+    ∷ 267955420680 ∷ 1033032298505 ∷ 823336812298 ∷ 486746124555 ∷ 145439334668 ∷ 1027474124557 ∷ 687413764110 ∷ 476404477455
+    ∷ 0 ∷ 535910841360 ∷ 1067594151968 ∷ 568401036336 ∷ 1018968403264 ∷ 626964140368 ∷ 93124957536 ∷ 452723239280
+    ∷ 856820729728 ∷ 806257998736 ∷ 274608373664 ∷ 288453378992 ∷ 181483416256 ∷ 371640981200 ∷ 905446478560 ∷ 747694894832
+    ∷ 0 ∷ 466717150158 ∷ 928939314049 ∷ 776912732239 ∷ 745482098207 ∷ 829879786961 ∷ 506188209566 ∷ 109281121872
+    ∷ 305905544254 ∷ 187164960752 ∷ 684787050431 ∷ 1047351241841 ∷ 1007896902177 ∷ 575556334063 ∷ 218545205664 ∷ 404948367982
+    ∷ 0 ∷ 611811088508 ∷ 8129458424 ∷ 616701487236 ∷ 12163972589 ∷ 604110792081 ∷ 13716081941 ∷ 606718825833
+    ∷ 20251081415 ∷ 596023616187 ∷ 22875949631 ∷ 597559022147 ∷ 27414595370 ∷ 584396693334 ∷ 32321583058 ∷ 592509169582
+    ∷ 0 ∷ 682647747180 ∷ 145994279384 ∷ 820558304180 ∷ 287356211117 ∷ 945282495937 ∷ 425640863349 ∷ 1090566609945
+    ∷ 570485867335 ∷ 112262805803 ∷ 709448985247 ∷ 257136890099 ∷ 851281726698 ∷ 381256054406 ∷ 995521701170 ∷ 520652480350
+    ∷ 0 ∷ 93334477710 ∷ 182189438465 ∷ 274080804239 ∷ 364378876930 ∷ 281010468748 ∷ 544353180163 ∷ 459675877773
+    ∷ 724528650244 ∷ 811923850122 ∷ 562004487685 ∷ 650171184523 ∷ 1084075127814 ∷ 1004431126408 ∷ 919336878599 ∷ 840598591881
+    ∷ 0 ∷ 1010597590942 ∷ 874438913569 ∷ 141009459647 ∷ 597757641026 ∷ 413951506140 ∷ 277927112547 ∷ 738632685821
+    ∷ 48758955908 ∷ 962442684442 ∷ 827902947749 ∷ 187075593787 ∷ 551758814918 ∷ 460554250584 ∷ 326148927719 ∷ 689941170041
+    ∷ 0 ∷ 97517839125 ∷ 190942889514 ∷ 252355634495 ∷ 381885779028 ∷ 336595955521 ∷ 500887964286 ∷ 421640530283
+    ∷ 759291970984 ∷ 715075364541 ∷ 673173291906 ∷ 592852639895 ∷ 997027908092 ∷ 1093471480553 ∷ 843263496150 ∷ 905750506691 ∷ []
 
 -- x is a at the power 5 + k, seen from y
 right : ℕ → ℕ → ℕ → ℕ → Bool
-right k a x y = both (ltb x 1099511627776) (eqb (at5 y x) (times a (power gf256 y (5 + k))))
+right k a x y = both (ltb x packedEnd) (eqb (at5 y x) (times a (power gf256 y (5 + k))))
 
 -- at the five roots
 all : ℕ → ℕ → ℕ → Bool
 all k a x = both (right k a x 71) (both (right k a x 142) (both (right k a x 1) (both (right k a x 2) (right k a x 4))))
 
 row : ℕ → Bool
-row i = both (all (i / 16) (i % 16) (getD reductions (32 * (i / 16) + i % 16) 0)) (all (i / 16) (16 * (i % 16)) (getD reductions (32 * (i / 16) + 16 + i % 16) 0))
+row i =
+    both (all (i / 16) (i % 16) (getD reductions (32 * (i / 16) + i % 16) 0))
+    (all (i / 16) (16 * (i % 16)) (getD reductions (32 * (i / 16) + 16 + i % 16) 0))
 
 tested : T (upto row 64)
 unfolding row all right at5 power product
@@ -107,16 +122,22 @@ five-of true true true false e t = absurd t
 
 reduced-by : (k a x : ℕ) → T (all k a x) → Reduced k a x
 unfolding all right alphaTo power product
-reduced-by k a x t = record { small = ltb→lt x 1099511627776 (small 71 (s .0)); roots = five (λ j. at5 (alphaTo gf256 j) x ≡ times a (power gf256 (alphaTo gf256 j) (5 + k))) (at 71 (s .0)) (at 142 (s .1)) (at 1 (s .2)) (at 2 (s .3)) (at 4 (s .4)) }
+reduced-by k a x t =
+    record {
+      small = ltb→lt x packedEnd (small 71 (s .0));
+      roots =
+          five (λ j. at5 (alphaTo gf256 j) x ≡ times a (power gf256 (alphaTo gf256 j) (5 + k)))
+          (at 71 (s .0)) (at 142 (s .1)) (at 1 (s .2)) (at 2 (s .3)) (at 4 (s .4));
+    }
   where
     s : T (right k a x 71) × T (right k a x 142) × T (right k a x 1) × T (right k a x 2) × T (right k a x 4)
     s = five-of (right k a x 71) (right k a x 142) (right k a x 1) (right k a x 2) (right k a x 4) t
 
-    small : (y : ℕ) → T (right k a x y) → T (ltb x 1099511627776)
-    small y u = both-left (ltb x 1099511627776) (eqb (at5 y x) (times a (power gf256 y (5 + k)))) u
+    small : (y : ℕ) → T (right k a x y) → T (ltb x packedEnd)
+    small y u = both-left (ltb x packedEnd) (eqb (at5 y x) (times a (power gf256 y (5 + k)))) u
 
     at : (y : ℕ) → T (right k a x y) → at5 y x ≡ times a (power gf256 y (5 + k))
-    at y u = eqb→eq (at5 y x) (times a (power gf256 y (5 + k))) (both-right (ltb x 1099511627776) (eqb (at5 y x) (times a (power gf256 y (5 + k)))) u)
+    at y u = eqb→eq (at5 y x) (times a (power gf256 y (5 + k))) (both-right (ltb x packedEnd) (eqb (at5 y x) (times a (power gf256 y (5 + k)))) u)
 
 row-at : (k v : ℕ) → k < 4 → v < 16 → T (all k v (getD reductions (32 * k + v) 0)) × T (all k (16 * v) (getD reductions (32 * k + 16 + v) 0))
 unfolding row
@@ -176,7 +197,7 @@ low x = mod-lt x (zero-lt-suc 255)
 pub bytes5 : (r : ℕ) → AllBytes (unpacked r)
 bytes5 r = (low _, (low _, (low _, (low _, (low _, tt)))))
 
-module _ (r : ℕ) (hr : r < 1099511627776) where
+module _ (r : ℕ) (hr : r < packedEnd) where
   abbrev a4 : ℕ
   a4 = r / 4294967296 % 256
 
@@ -269,7 +290,8 @@ module _ (r : ℕ) (hr : r < 1099511627776) where
         ∙ ap₂ bitXor (ap (hornAll y 0) (shift4 b c d e hb hc hd he))
         (at5-xor y (bitXor x1 x2) (bitXor x3 x4)
         ∙ ap₂ bitXor (at5-xor y x1 x2 ∙ ap₂ bitXor e1 e2) (at5-xor y x3 x4 ∙ ap₂ bitXor e3 (e4 ∙ ap (λ (a : ℕ). times a (power gf256 y 8)) top)))
-        ∙ turned (hornAll y 0 (a0 ∷ b ∷ c ∷ d ∷ e ∷ [])) (times a1 (power gf256 y 5)) (times a2 (power gf256 y 6)) (times a3 (power gf256 y 7)) (times a4 (power gf256 y 8))
+        ∙ turned (hornAll y 0 (a0 ∷ b ∷ c ∷ d ∷ e ∷ [])) (times a1 (power gf256 y 5)) (times a2 (power gf256 y 6)) (times a3 (power gf256 y 7))
+        (times a4 (power gf256 y 8))
         ∙ sym
         (peel y a4 (a3 ∷ a2 ∷ a1 ∷ a0 ∷ b ∷ c ∷ d ∷ e ∷ []) (low _) (low _, (low _, (low _, (low _, rest))))
         ∙ ap (bitXor (times a4 (power gf256 y 8)))

@@ -1,8 +1,7 @@
 -- A word's remainder: nothing only where the word is clean; and the check bytes.
-use mathlib.Core.Path.{_≡_, refl, sym, ap, ap₂, _∙_, subst}
+use mathlib.Core.Path.{_≡_, refl, sym, ap, _∙_, subst}
 use mathlib.Core.List.{List, [], _∷_, _++_, append-assoc, append-nil}
-use Prim.Native.Nat.{ℕ, zero, suc, _+_, _*_, _-_, _/_, _%_, _<_, _≤_}
-use native.Mathlib.Nat.{mod-lt, zero-lt-suc}
+use Prim.Native.Nat.{ℕ, zero, suc, _+_, _/_, _%_, _<_, _≤_}
 use native.Mathlib.Numerals.{add-one}
 use native.Mathlib.Omega.{arith}
 use lib.IntN.{ℤ, pos, negsuc}
@@ -19,7 +18,7 @@ use Rattle.account.proofs.Words.{value, five}
 use Rattle.account.proofs.Decode as decode
 use Rattle.gf256.specs.Gf256.{gf256, times}
 use Rattle.gf256.proofs.Field256.{field256}
-use Rattle.remainder.specs.Remainder.{unpacked, horn, hornAll, at5, Moved, Remains, Checks}
+use Rattle.remainder.specs.Remainder.{packedEnd, unpacked, hornAll, at5, Moved, Remains, Checks}
 use Rattle.remainder.proofs.Kernel.{AllBytes, bytes5, horn-zero, start}
 
 -- ---- sums by Horner's rule
@@ -42,7 +41,8 @@ pub at-five : (y r a1 a2 a3 a4 m1 m2 m3 m4 l0 : ℕ) → a4 ≡ r / 4294967296 %
     → a2 ≡ r / 65536 % 256 → m3 ≡ times (bitXor m2 a2) y → a1 ≡ r / 256 % 256 → m4 ≡ times (bitXor m3 a1) y → l0 ≡ r % 256 → bitXor m4 l0 ≡ at5 y r
 unfolding at5
 at-five y r a1 a2 a3 a4 m1 m2 m3 m4 l0 e4 f1 e3 f2 e2 f3 e1 f4 e0 =
-    rw (f4, f3, f2, f1, e4, e3, e2, e1, e0) (ap (λ (u : ℕ). hornAll y u (r / 16777216 % 256 ∷ r / 65536 % 256 ∷ r / 256 % 256 ∷ r % 256 ∷ [])) (sym (horn-zero y (r / 4294967296 % 256))))
+    rw (f4, f3, f2, f1, e4, e3, e2, e1, e0)
+    (ap (λ (u : ℕ). hornAll y u (r / 16777216 % 256 ∷ r / 65536 % 256 ∷ r / 256 % 256 ∷ r % 256 ∷ [])) (sym (horn-zero y (r / 4294967296 % 256))))
 
 -- ---- the loop
 
@@ -111,7 +111,8 @@ none-clean j l u = begins .sums j l u ∙ sum-none j
 unpacked-none : (r : ℕ) → Clean gf256 (unpacked r) → unpacked r ≡ unpacked 0
 unpacked-none r c =
     decode.same gf256 field256 5 (omega arith) (0 ∷ 1 ∷ 2 ∷ 3 ∷ 4 ∷ []) (unpacked r) (unpacked 0) refl refl
-    (omega arith, (omega arith, (omega arith, (omega arith, (omega arith, tt))))) (omega arith) (cells-of (unpacked r) (bytes5 r)) (cells-of (unpacked 0) (bytes5 0)) c none-clean
+    (omega arith, (omega arith, (omega arith, (omega arith, (omega arith, tt))))) (omega arith) (cells-of (unpacked r) (bytes5 r))
+    (cells-of (unpacked 0) (bytes5 0)) c none-clean
     (λ p l o. absurd (nowhere p l (o .0) (o .1 .0) (o .1 .1 .0) (o .1 .1 .1 .0) (o .1 .1 .1 .1 .0)))
   where
     nowhere : (p : ℕ) → p < 5 → (p ≡ 0 → ⊥) → (p ≡ 1 → ⊥) → (p ≡ 2 → ⊥) → (p ≡ 3 → ⊥) → (p ≡ 4 → ⊥) → ⊥
@@ -122,7 +123,7 @@ unpacked-none r c =
     nowhere (suc (suc (suc (suc zero)))) l a b c d e = e refl
     nowhere (suc (suc (suc (suc (suc p))))) l a b c d e = omega arith
 
-cut4 : (r : ℕ) → r < 1099511627776 → r / 4294967296 % 256 ≡ 0 → r < 4294967296
+cut4 : (r : ℕ) → r < packedEnd → r / 4294967296 % 256 ≡ 0 → r < 4294967296
 cut4 r h e = omega arith
 
 cut3 : (r : ℕ) → r < 4294967296 → r / 16777216 % 256 ≡ 0 → r < 16777216
@@ -137,7 +138,7 @@ cut1 r h e = omega arith
 cut0 : (r : ℕ) → r < 256 → r % 256 ≡ 0 → r ≡ 0
 cut0 r h e = omega arith
 
-packed-none : (r : ℕ) → r < 1099511627776 → unpacked r ≡ unpacked 0 → r ≡ 0
+packed-none : (r : ℕ) → r < packedEnd → unpacked r ≡ unpacked 0 → r ≡ 0
 packed-none r h e = cut0 r (cut1 r (cut2 r (cut3 r (cut4 r h (at 0)) (at 1)) (at 2)) (at 3)) (at 4)
   where
     at : (i : ℕ) → getD (unpacked r) i 0 ≡ getD (unpacked 0) i 0
@@ -183,7 +184,8 @@ checked d r s x R M N = record { small = N .small; clean = λ j l u. at j (alpha
         ∙ sym (horn-value y d (unpacked x) (bytes5 x))
         ∙ start y v (unpacked x) (words.value-in gf256 field256 y d) (bytes5 x)
         ∙ ap (bitXor (times v (power gf256 y 5)))
-        (e ∙ start y v (0 ∷ 0 ∷ 0 ∷ 0 ∷ 0 ∷ []) (words.value-in gf256 field256 y d) (bytes5 0) ∙ ap (bitXor (times v (power gf256 y 5))) (zeros y) ∙ field256 .add-zero (times v (power gf256 y 5)))
+        (e ∙ start y v (0 ∷ 0 ∷ 0 ∷ 0 ∷ 0 ∷ []) (words.value-in gf256 field256 y d) (bytes5 0) ∙ ap (bitXor (times v (power gf256 y 5))) (zeros y)
+        ∙ field256 .add-zero (times v (power gf256 y 5)))
         ∙ field256 .add-self (times v (power gf256 y 5))
       where
         v : ℕ

@@ -11,6 +11,10 @@ use Rattle.account.specs.Code.{alphaTo, Clean, S}
 use Rattle.account.specs.Lanes.{lane}
 use Rattle.gf256.specs.Gf256.{gf256, times}
 
+-- 2^40: five packed bytes are below it
+abbrev pub packedEnd : ℕ
+packedEnd = 1099511627776
+
 -- the five bytes, the highest power first
 abbrev pub unpacked : ℕ → List ℕ
 unpacked r = r / 4294967296 % 256 ∷ r / 16777216 % 256 ∷ r / 65536 % 256 ∷ r / 256 % 256 ∷ r % 256 ∷ []
@@ -34,7 +38,7 @@ at5 y r = hornAll y 0 (unpacked r)
 
 -- x is a at the power 5 + k, modulo the generator
 pub record Reduced (k a x : ℕ) : Type 0 where
-  pub small : x < 1099511627776
+  pub small : x < packedEnd
   pub roots : AtRoots (λ y. at5 y x ≡ times a (power gf256 y (5 + k)))
 
 -- the lent table: half bytes, low ones first, at the powers 5, 6, 7 and 8
@@ -44,17 +48,17 @@ pub record Reductions (t : List ℕ) : Type 0 where
 
 -- x is r with the bytes bs after it, modulo the generator
 pub record Moved (r : ℕ) (bs : List ℕ) (x : ℕ) : Type 0 where
-  pub small : x < 1099511627776
+  pub small : x < packedEnd
   pub roots : AtRoots (λ y. at5 y x ≡ hornAll y (at5 y r) bs)
 
 -- the five sums of r are those of w
 pub record Remains (w : List ℕ) (r : ℕ) : Type 0 where
-  pub small : r < 1099511627776
+  pub small : r < packedEnd
   pub sums : (j : ℤ) → negsuc 1 ≤ℤ j → j ≤ℤ pos 2 → S gf256 j (unpacked r) ≡ S gf256 j w
 
 -- the five packed bytes x complete the data d to a clean word
 pub record Checks (d : List ℕ) (x : ℕ) : Type 0 where
-  pub small : x < 1099511627776
+  pub small : x < packedEnd
   pub clean : Clean gf256 (d ++ unpacked x)
 
 -- ---- the four lanes of the cells s, all at once

@@ -1,149 +1,18 @@
-// The remainder of a word by the generator, and what is made of it: the test and the check bytes. (Document 004 takes the
-// remainder first: the five sums of the remainder are those of the word.) Five bytes are packed in one number, the highest power
-// on top. The table is made once for a word, or for the four lanes of a strip, and lent.
+// The remainder of a word by the generator, and what is made of it: the test and the check bytes. The five sums of the remainder
+// are those of the word. Five bytes are packed in one number, the highest power on top. The table is made once for a word, or for
+// the four lanes of a strip, and lent.
 ghost use mathlib.Core.Path.{_≡_};
 ghost use mathlib.Core.List.{List, _∷_, []};
-ghost use Prim.Native.Nat.{ℕ, _+_, _-_, _*_, _/_, _%_, _<_, _≤_};
-ghost use lib.ListN.{length};
-ghost use lib.Seq.{sets};
-ghost use lib.ListN.{take};
+ghost use Prim.Native.Nat.{ℕ, _+_, _*_, _/_, _%_, _<_};
+ghost use lib.ListN.{length, take};
 ghost use Rattle.account.specs.Code.{syndrome};
 ghost use Rattle.account.specs.Lanes.{lane};
 ghost use Rattle.gf256.specs.Gf256.{gf256};
 ghost use Rattle.gf256.specs.Tables.{Tables};
-ghost use Rattle.remainder.specs.Remainder.{Reductions, Reduced, Moved, Remains, Checks, LanesTo, LanesRemain, LanesCheck, at5, unpacked};
+ghost use Rattle.remainder.specs.Remainder.{packedEnd, Reductions, Reduced, Moved, Remains, Checks, LanesTo, LanesRemain, LanesCheck, at5, unpacked};
+use tables::REDUCTIONS;
 
-// What a half byte v, low or high, at the power 5 + k comes to: entry 32 k + v, or 32 k + 16 + v.
-pub const REDUCTIONS: [u64; 128] = [
-    0,
-    888637148673,
-    557570949378,
-    340228787971,
-    136360959748,
-    899147223301,
-    680457575942,
-    345888018439,
-    267955420680,
-    1033032298505,
-    823336812298,
-    486746124555,
-    145439334668,
-    1027474124557,
-    687413764110,
-    476404477455,
-    0,
-    535910841360,
-    1067594151968,
-    568401036336,
-    1018968403264,
-    626964140368,
-    93124957536,
-    452723239280,
-    856820729728,
-    806257998736,
-    274608373664,
-    288453378992,
-    181483416256,
-    371640981200,
-    905446478560,
-    747694894832,
-    0,
-    466717150158,
-    928939314049,
-    776912732239,
-    745482098207,
-    829879786961,
-    506188209566,
-    109281121872,
-    305905544254,
-    187164960752,
-    684787050431,
-    1047351241841,
-    1007896902177,
-    575556334063,
-    218545205664,
-    404948367982,
-    0,
-    611811088508,
-    8129458424,
-    616701487236,
-    12163972589,
-    604110792081,
-    13716081941,
-    606718825833,
-    20251081415,
-    596023616187,
-    22875949631,
-    597559022147,
-    27414595370,
-    584396693334,
-    32321583058,
-    592509169582,
-    0,
-    682647747180,
-    145994279384,
-    820558304180,
-    287356211117,
-    945282495937,
-    425640863349,
-    1090566609945,
-    570485867335,
-    112262805803,
-    709448985247,
-    257136890099,
-    851281726698,
-    381256054406,
-    995521701170,
-    520652480350,
-    0,
-    93334477710,
-    182189438465,
-    274080804239,
-    364378876930,
-    281010468748,
-    544353180163,
-    459675877773,
-    724528650244,
-    811923850122,
-    562004487685,
-    650171184523,
-    1084075127814,
-    1004431126408,
-    919336878599,
-    840598591881,
-    0,
-    1010597590942,
-    874438913569,
-    141009459647,
-    597757641026,
-    413951506140,
-    277927112547,
-    738632685821,
-    48758955908,
-    962442684442,
-    827902947749,
-    187075593787,
-    551758814918,
-    460554250584,
-    326148927719,
-    689941170041,
-    0,
-    97517839125,
-    190942889514,
-    252355634495,
-    381885779028,
-    336595955521,
-    500887964286,
-    421640530283,
-    759291970984,
-    715075364541,
-    673173291906,
-    592852639895,
-    997027908092,
-    1093471480553,
-    843263496150,
-    905750506691,
-];
+pub mod tables; // what half bytes at high powers come to
 
 fn wide(x: u8) -> u64
     ensures { λ r. ⌜ r ≡ x ⌝ }
@@ -168,7 +37,7 @@ fn reduced(t: &[u64; 128], k: usize, a: usize) -> u64
 
 // One byte more.
 fn step(t: &[u64; 128], r: u64, b: u8) -> u64
-    requires { ⌜ Reductions (now t) × (r < 1099511627776) ⌝ }
+    requires { ⌜ Reductions (now t) × (r < packedEnd) ⌝ }
     ensures { λ x. ⌜ Moved r (b ∷ []) x ⌝ }
 {
     ((r % 4294967296) * 256 + wide(b)) ^ reduced(t, 0, (r / 4294967296) as usize)
@@ -176,7 +45,7 @@ fn step(t: &[u64; 128], r: u64, b: u8) -> u64
 
 // Four bytes more: the four highest bytes of r are reduced at once.
 fn step4(t: &[u64; 128], r: u64, a: u8, b: u8, c: u8, d: u8) -> u64
-    requires { ⌜ Reductions (now t) × (r < 1099511627776) ⌝ }
+    requires { ⌜ Reductions (now t) × (r < packedEnd) ⌝ }
     ensures { λ x. ⌜ Moved r (a ∷ b ∷ c ∷ d ∷ []) x ⌝ }
 {
     let moved = (r % 256) * 4294967296
@@ -297,7 +166,7 @@ pub fn remainders_of(s: &[u8]) -> [u64; 4]
 
 // The five check bytes after data with the remainder r, packed: the remainder of the data with five zeros after it.
 fn finish(t: &[u64; 128], r: u64) -> u64
-    requires { ⌜ Reductions (now t) × (r < 1099511627776) ⌝ }
+    requires { ⌜ Reductions (now t) × (r < packedEnd) ⌝ }
     ensures { λ x. ⌜ ((d : List ℕ) → Remains d r → Checks d x) ⌝ }
 {
     step(t, step4(t, r, 0, 0, 0, 0), 0)
@@ -342,25 +211,25 @@ pub fn lane_checks_of(data: &[u8]) -> [u64; 4]
 }
 
 // The polynomial of the five packed bytes at y.
-fn at(powers: &[u8; 510], logs: &[u8; 256], r: u64, y: u8) -> u8
-    requires { ⌜ Tables (now powers) (now logs) ⌝ }
+fn at(tables: &[u8; 1022], r: u64, y: u8) -> u8
+    requires { ⌜ Tables (now tables) ⌝ }
     ensures { λ v. ⌜ v ≡ at5 y r ⌝ }
 {
-    let a = gf256::product(powers, logs, low(r / 4294967296), y) ^ low(r / 16777216);
-    let b = gf256::product(powers, logs, a, y) ^ low(r / 65536);
-    let c = gf256::product(powers, logs, b, y) ^ low(r / 256);
-    gf256::product(powers, logs, c, y) ^ low(r)
+    let a = gf256::product(tables, low(r / 4294967296), y) ^ low(r / 16777216);
+    let b = gf256::product(tables, a, y) ^ low(r / 65536);
+    let c = gf256::product(tables, b, y) ^ low(r / 256);
+    gf256::product(tables, c, y) ^ low(r)
 }
 
 // The syndrome of the five packed bytes, and so of every word whose remainder they are.
-pub fn syndrome_of(powers: &[u8; 510], logs: &[u8; 256], r: u64) -> [u8; 5]
-    requires { ⌜ Tables (now powers) (now logs) ⌝ }
+pub fn syndrome_of(tables: &[u8; 1022], r: u64) -> [u8; 5]
+    requires { ⌜ Tables (now tables) ⌝ }
     ensures { λ s. ⌜ s ≡ syndrome gf256 (unpacked r) ⌝ }
 {
-    let a = at(powers, logs, r, gf256::alpha_to(powers, -2));
-    let b = at(powers, logs, r, gf256::alpha_to(powers, -1));
-    let c = at(powers, logs, r, gf256::alpha_to(powers, 0));
-    let d = at(powers, logs, r, gf256::alpha_to(powers, 1));
-    let e = at(powers, logs, r, gf256::alpha_to(powers, 2));
+    let a = at(tables, r, gf256::alpha_to(tables, -2));
+    let b = at(tables, r, gf256::alpha_to(tables, -1));
+    let c = at(tables, r, gf256::alpha_to(tables, 0));
+    let d = at(tables, r, gf256::alpha_to(tables, 1));
+    let e = at(tables, r, gf256::alpha_to(tables, 2));
     [a, b, c, d, e]
 }

@@ -15,14 +15,14 @@ use Rattle.gf256.proofs.place.Reads as place-reads
 use Rattle.errata.proofs.+solve.{statement}
 use Rattle.errata.proofs.+solve.Tie.{close}
 
-abbrev μ-solve : Measures 3 solve-kinds.ps ℕ
-μ-solve κs a = a .1 .1 .1 .1 .1 .0 - a .1 .1 .1 .1 .0
+abbrev μ-solve : Measures 2 solve-kinds.ps ℕ
+μ-solve κs a = a .1 .1 .1 .1 .0 - a .1 .1 .1 .0
 
-abbrev solve-at : ℕ → In 3 solve-kinds.ps
-solve-at t = and 3 solve-kinds.ps (is 3 solve-kinds.ps μ-solve t) solve.Pre
+abbrev solve-at : ℕ → In 2 solve-kinds.ps
+solve-at t = and 2 solve-kinds.ps (is 2 solve-kinds.ps μ-solve t) solve.Pre
 
-abbrev solve-below : ℕ → In 3 solve-kinds.ps
-solve-below t = and 3 solve-kinds.ps (falls 3 solve-kinds.ps _<_ μ-solve t) solve.Pre
+abbrev solve-below : ℕ → In 2 solve-kinds.ps
+solve-below t = and 2 solve-kinds.ps (falls 2 solve-kinds.ps _<_ μ-solve t) solve.Pre
 
 solve-returns : (t : ℕ) → solve-lts.Need-returns (
   place-reads.Asked,
@@ -36,7 +36,7 @@ solve-returns : (t : ℕ) → solve-lts.Need-returns (
 ) (solve-at t) solve.Post
 solve-returns t c =
     let s = c .before in
-    solve-none (s .args .n) (s .args .cells .now) (s .args .k) (s .pre .1 .1) (s .args .i) (s .args .t7) (s .args .t7) (c .if1 .taken) (s .pre .1 .2)
+    solve-none (s .args .n) (s .args .cells .now) (s .args .k) (s .pre .1 .1) (s .args .i) (s .args .t6) (s .args .t6) (c .if1 .taken) (s .pre .1 .2)
 
 solve-mul-place : (t : ℕ) → solve-lts.Need-mul-place (
   place-reads.Asked,
@@ -153,9 +153,12 @@ solve-returns-2 : (t : ℕ) → solve-lts.Need-returns-2 (
   divide-reads.Learnt,
 ) (solve-at t) solve.Post
 solve-returns-2 t c =
-    let s = c .before .before .before .before .before .before in
-    solve-step (s .args .n) (s .args .cells .now) (s .args .k) (s .pre .1 .1) (s .args .i) (c .before .before .before .place .result) (s .args .t7) (c .before .before .filter .result) (c .before .solve .result) (c .divide .result)
-    (omega arith) (c .before .before .before .place .ensures) (c .before .before .filter .ensures) (c .before .solve .ensures) (c .divide .ensures)
+    let c2 = c .before .before in
+    let c3 = c2 .before in
+    let s = c3 .before .before .before in
+    solve-step (s .args .n) (s .args .cells .now) (s .args .k) (s .pre .1 .1) (s .args .i) (c3 .place .result) (s .args .t6) (c2 .filter .result)
+    (c .before .solve .result) (c .divide .result)
+    (omega arith) (c3 .place .ensures) (c2 .filter .ensures) (c .before .solve .ensures) (c .divide .ensures)
 
 pub +solve-spec : {M : Type 1} → statement M
 +solve-spec = close μ-solve λ t. solve-lts.spec (

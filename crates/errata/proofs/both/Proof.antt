@@ -1,8 +1,7 @@
-use Prim.Native.Nat.{ℕ}
 use native.Mathlib.Omega.{arith}
 use mathlib.Core.List.{_∷_, []}
-use Rattle.account.proofs.Filter.{filt}
-use Rattle.account.proofs.Search.{Zeros}
+use Rattle.account.specs.Errata.{filt}
+use Rattle.account.specs.Search.{Zeros}
 use Rattle.account.proofs.Locate.{not-first, not-second, do-fit, do-not-fit}
 use Rattle.gf256.specs.Gf256.{gf256}
 use Rattle.gf256.proofs.Field256.{field256}
@@ -40,18 +39,29 @@ zeros-requires c κs = search needs
 
 returns-3 : tie.Need-returns-3
 returns-3 c =
-    let a = c .before .before .before .before .before .before .before .before .before .args in
-    let u = c .before .before .filter2 .result in
-    do-fit gf256 field256 (a .x) (a .y) (at (a .t)) (a .k) (a .marks .now) (c .before .before .before .before .before .before .before .cell .result) (c .before .before .before .before .before .cell2 .result) (c .before .before .before .before .before .before .before .cell .ensures) (c .before .before .before .before .before .cell2 .ensures) (search needs) (search needs)
-    (zeros-to (a .k) (at u) (filt gf256 (a .x ∷ a .y ∷ []) (at (a .t))) (λ m l. filter-two (a .x) (a .y) (a .t) (c .before .before .before .filter .result) u (c .before .before .before .filter .ensures) (c .before .before .filter2 .ensures) m (omega arith))
+    let c2 = c .before .before in
+    let c3 = c2 .before in
+    let c5 = c3 .before .before in
+    let c7 = c5 .before .before in
+    let c9 = c7 .before .before in
+    let a = c9 .args in
+    let u = c2 .filter2 .result in
+    do-fit gf256 field256 (a .x) (a .y) (at (a .t)) (a .k) (a .marks .now) (c7 .cell .result) (c5 .cell2 .result) (c7 .cell .ensures)
+    (c5 .cell2 .ensures) (search needs) (search needs)
+    (zeros-to (a .k) (at u) (filt gf256 (a .x ∷ a .y ∷ []) (at (a .t)))
+    (λ m l. filter-two (a .x) (a .y) (a .t) (c3 .filter .result) u (c3 .filter .ensures) (c2 .filter2 .ensures) m (omega arith))
     (said (Zeros (a .k) (at u)) (c .before .zeros .result) (c .if3 .taken) (c .before .zeros .ensures)))
 
 returns-4 : tie.Need-returns-4
 returns-4 c =
-    let a = c .before .before .before .before .before .before .before .before .before .args in
-    let u = c .before .before .filter2 .result in
+    let c2 = c .before .before in
+    let c3 = c2 .before in
+    let c9 = c3 .before .before .before .before .before .before in
+    let a = c9 .args in
+    let u = c2 .filter2 .result in
     do-not-fit gf256 field256 (a .x) (a .y) (at (a .t)) (a .k) (a .marks .now)
-    (zeros-from (a .k) (at u) (filt gf256 (a .x ∷ a .y ∷ []) (at (a .t))) (λ m l. filter-two (a .x) (a .y) (a .t) (c .before .before .before .filter .result) u (c .before .before .before .filter .ensures) (c .before .before .filter2 .ensures) m (omega arith))
+    (zeros-from (a .k) (at u) (filt gf256 (a .x ∷ a .y ∷ []) (at (a .t)))
+    (λ m l. filter-two (a .x) (a .y) (a .t) (c3 .filter .result) u (c3 .filter .ensures) (c2 .filter2 .ensures) m (omega arith))
     (denied (Zeros (a .k) (at u)) (c .before .zeros .result) (c .if3 .left) (c .before .zeros .ensures)))
 
 pub both-spec : {M : Type 1} → statement M

@@ -12,7 +12,10 @@ log-requires : tie.Need-log-requires
 log-requires c κs = search needs
 
 returns-2 : tie.Need-returns-2
-returns-2 c = far-cell gf256 field256 (c .before .before .before .before .args .marks .now) (c .before .before .before .before .args .x) (c .before .log .result) (search needs) (c .before .log .ensures .small) (c .before .log .ensures .is) (search needs)
+returns-2 c =
+    let c4 = c .before .before .before .before in
+    far-cell gf256 field256 (c4 .args .marks .now) (c4 .args .x) (c .before .log .result) (search needs) (c .before .log .ensures .small)
+    (c .before .log .ensures .is) (search needs)
 
 add-p : tie.Need-add-p
 add-p c = search needs
@@ -24,10 +27,18 @@ shared-slice-read-if3 : tie.Need-shared-slice-read-if3
 shared-slice-read-if3 c = search needs
 
 returns-3 : tie.Need-returns-3
-returns-3 c = marked-cell gf256 field256 (c .before .before .before .before .before .before .args .marks .now) (c .before .before .before .before .before .before .args .x) (c .before .before .before .log .result) (search needs) (c .before .before .before .log .ensures .small) (c .before .before .before .log .ensures .is) (search needs) (c .if3 .taken)
+returns-3 c =
+    let c3 = c .before .before .before in
+    let c6 = c3 .before .before .before in
+    marked-cell gf256 field256 (c6 .args .marks .now) (c6 .args .x) (c3 .log .result) (search needs) (c3 .log .ensures .small) (c3 .log .ensures .is)
+    (search needs) (c .if3 .taken)
 
 returns-4 : tie.Need-returns-4
-returns-4 c = good-cell gf256 field256 (c .before .before .before .before .before .before .args .marks .now) (c .before .before .before .before .before .before .args .x) (c .before .before .before .log .result) (search needs) (c .before .before .before .log .ensures .small) (c .before .before .before .log .ensures .is) (search needs) (c .if3 .left)
+returns-4 c =
+    let c3 = c .before .before .before in
+    let c6 = c3 .before .before .before in
+    good-cell gf256 field256 (c6 .args .marks .now) (c6 .args .x) (c3 .log .result) (search needs) (c3 .log .ensures .small) (c3 .log .ensures .is)
+    (search needs) (c .if3 .left)
 
 pub cell-spec : {M : Type 1} → statement M
 cell-spec =

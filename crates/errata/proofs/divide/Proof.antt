@@ -1,18 +1,16 @@
-use mathlib.Core.Path.{_≡_, sym, ap, ap₂, _∙_}
-use Prim.Native.Nat.{ℕ, _-_, _<_, _≤_}
+use Prim.Native.Nat.{_-_}
 use native.Mathlib.Omega.{arith}
 use borrow.Author.Needs.{needs}
-use lib.Bits.{bitXor}
 use Rattle.errata.proofs.Sums.{cell-below}
 use Rattle.errata.proofs.Values.{Dividing, apart-by, divide-starts, divide-goes, divide-ends}
 use Rattle.errata.proofs.divide.Statement.{statement}
 use Rattle.errata.proofs.divide.Tie as tie
 
 abbrev Inv-loop : tie.InvT-loop
-Inv-loop powers logs cells n i k s0 x r₀ sum₀ j₀ r sum j = Dividing n cells k i r₀ s0 r sum j
+Inv-loop tables cells n i k s0 x r₀ sum₀ j₀ r sum j = Dividing n cells k i r₀ s0 r sum j
 
 abbrev μ-loop : tie.MeasureT-loop
-μ-loop powers logs cells n i k s0 x r₀ sum₀ j₀ r sum j = k - j
+μ-loop tables cells n i k s0 x r₀ sum₀ j₀ r sum j = k - j
 
 mul-place : tie.Need-mul-place Inv-loop μ-loop
 mul-place c = search needs
@@ -49,9 +47,14 @@ array-read-product c = omega (arith, c .before .before .before .before .before .
 
 inverse-requires : tie.Need-inverse-requires Inv-loop μ-loop
 inverse-requires c κs =
-    let s = c .before .before .before .before .before .before in
-    let L = c .before .before .before .loop in
-    (s .pre .0, apart-by (s .args .n) (s .args .cells .now) (s .args .k) (s .pre .1) (s .args .i) (L .j) (c .before .before .before .before .place .result) (c .place2 .result) (L .inv .low) (search needs) (c .before .before .before .before .place .ensures) (c .place2 .ensures))
+    let c3 = c .before .before .before in
+    let c4 = c3 .before in
+    let s = c4 .before .before in
+    let L = c3 .loop in (
+      s .pre .0,
+      apart-by (s .args .n) (s .args .cells .now) (s .args .k) (s .pre .1) (s .args .i) (L .j) (c4 .place .result) (c .place2 .result)
+          (L .inv .low) (search needs) (c4 .place .ensures) (c .place2 .ensures),
+    )
 
 product-requires : tie.Need-product-requires Inv-loop μ-loop
 product-requires c κs = c .before .before .before .before .before .before .before .pre .0
@@ -67,10 +70,14 @@ loop-less c = search needs
 
 loop-again : tie.Need-loop-again Inv-loop μ-loop
 loop-again c =
-    let s = c .before .before .before .before .before .before .before .before in
-    let L = c .before .before .before .before .before .loop in
-    divide-goes (s .args .n) (s .args .cells .now) (s .args .k) (s .pre .1) (s .args .i) (s .args .v) (s .args .s0) (L .r) (L .sum) (L .j) (c .before .before .before .before .before .before .place .result) (c .before .before .place2 .result) (c .before .inverse .result) (c .product .result)
-    (search needs) (L .inv) (c .before .before .before .before .before .before .place .ensures) (c .before .before .place2 .ensures) (c .before .inverse .ensures) (c .product .ensures)
+    let c2 = c .before .before in
+    let c5 = c2 .before .before .before in
+    let c6 = c5 .before in
+    let s = c6 .before .before in
+    let L = c5 .loop in
+    divide-goes (s .args .n) (s .args .cells .now) (s .args .k) (s .pre .1) (s .args .i) (s .args .v) (s .args .s0) (L .r) (L .sum) (L .j)
+    (c6 .place .result) (c2 .place2 .result) (c .before .inverse .result) (c .product .result)
+    (search needs) (L .inv) (c6 .place .ensures) (c2 .place2 .ensures) (c .before .inverse .ensures) (c .product .ensures)
 
 array-write-r-2 : tie.Need-array-write-r-2 Inv-loop μ-loop
 array-write-r-2 c = omega (arith, c .before .before .before .before .pre .1 .few, c .before .before .before .before .pre .2)
@@ -79,7 +86,8 @@ returns : tie.Need-returns Inv-loop μ-loop
 returns c =
     let s = c .before .before .before .before in
     let L = c .before .loop in
-    divide-ends (s .args .n) (s .args .cells .now) (s .args .k) (s .pre .1) (s .args .i) (s .args .v) (s .args .s0) (L .r) (L .sum) (L .j) (s .pre .2) (search needs) (L .inv)
+    divide-ends (s .args .n) (s .args .cells .now) (s .args .k) (s .pre .1) (s .args .i) (s .args .v) (s .args .s0) (L .r) (L .sum) (L .j) (s .pre .2)
+    (search needs) (L .inv)
 
 pub divide-spec : {M : Type 1} → statement M
 divide-spec =

@@ -9,10 +9,10 @@ use Rattle.errata.proofs.drain.Statement.{statement}
 use Rattle.errata.proofs.drain.Tie as tie
 
 abbrev Inv-loop : tie.InvT-loop
-Inv-loop powers logs cells k n t₀ i₀ t i = (i ≤ k) × Drained n (take i cells) t₀ t
+Inv-loop tables cells k n t₀ i₀ t i = (i ≤ k) × Drained n (take i cells) t₀ t
 
 abbrev μ-loop : tie.MeasureT-loop
-μ-loop powers logs cells k n t₀ i₀ t i = k - i
+μ-loop tables cells k n t₀ i₀ t i = k - i
 
 loop-holds : tie.Need-loop-holds Inv-loop μ-loop
 loop-holds c = (search needs, drain-starts (c .args .n) (c .args .cells .now) (c .args .s))
@@ -39,10 +39,12 @@ loop-less c = search needs
 
 loop-again : tie.Need-loop-again Inv-loop μ-loop
 loop-again c =
-    let s = c .before .before .before .before .before in
-    let L = c .before .before .before .before .loop in (
+    let c4 = c .before .before .before .before in
+    let s = c4 .before in
+    let L = c4 .loop in (
       omega arith,
-      drain-goes (s .args .n) (s .args .cells .now) (s .args .s) (L .t) (c .filter .result) (L .i) (c .before .place .result) (omega (arith, s .pre .1 .few, s .pre .1 .room)) (L .inv .1)
+      drain-goes (s .args .n) (s .args .cells .now) (s .args .s) (L .t) (c .filter .result) (L .i) (c .before .place .result)
+          (omega (arith, s .pre .1 .few, s .pre .1 .room)) (L .inv .1)
           (c .before .place .ensures) (c .filter .ensures),
     )
 

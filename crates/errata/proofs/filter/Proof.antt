@@ -1,4 +1,4 @@
-use mathlib.Core.Path.{_≡_, ap}
+use mathlib.Core.Path.{ap}
 use lib.Bits.{bitXor}
 use Rattle.errata.specs.Errata.{at}
 use Rattle.errata.proofs.Sums.{filtered}
@@ -44,8 +44,12 @@ product-requires-4 c κs = search needs
 
 returns : tie.Need-returns
 returns c =
-    let s = c .before .before .before .before .args .t4 in
-    filtered (c .before .before .before .before .args .x) _ _ _ _ s (ap (bitXor (at s 1)) (c .before .before .before .product .ensures)) (ap (bitXor (at s 2)) (c .before .before .product2 .ensures)) (ap (bitXor (at s 3)) (c .before .product3 .ensures))
+    let c2 = c .before .before in
+    let c3 = c2 .before in
+    let c4 = c3 .before in
+    let s = c4 .args .t3 in
+    filtered (c4 .args .x) _ _ _ _ s (ap (bitXor (at s 1)) (c3 .product .ensures)) (ap (bitXor (at s 2)) (c2 .product2 .ensures))
+    (ap (bitXor (at s 3)) (c .before .product3 .ensures))
     (ap (bitXor (at s 4)) (c .product4 .ensures))
 
 pub filter-spec : {M : Type 1} → statement M

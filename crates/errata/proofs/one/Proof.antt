@@ -1,8 +1,7 @@
-use Prim.Native.Nat.{ℕ}
 use native.Mathlib.Omega.{arith}
 use mathlib.Core.List.{_∷_, []}
-use Rattle.account.proofs.Filter.{filt}
-use Rattle.account.proofs.Search.{Zeros}
+use Rattle.account.specs.Errata.{filt}
+use Rattle.account.specs.Search.{Zeros}
 use Rattle.account.proofs.Locate.{first-none, out-of-range, it-fits, it-fails}
 use Rattle.gf256.specs.Gf256.{gf256}
 use Rattle.gf256.proofs.Field256.{field256}
@@ -19,7 +18,7 @@ array-read-if1 c = search needs
 returns : tie.Need-returns
 returns c =
     let s = c .before .before in
-    first-none gf256 field256 (at (s .args .t3)) (s .args .k) (s .args .marks .now) (s .pre .4) (c .if1 .taken)
+    first-none gf256 field256 (at (s .args .t2)) (s .args .k) (s .args .marks .now) (s .pre .4) (c .if1 .taken)
 
 array-read-product : tie.Need-array-read-product
 array-read-product c = search needs
@@ -38,8 +37,11 @@ cell-requires c κs = search needs
 
 returns-2 : tie.Need-returns-2
 returns-2 c =
-    let s = c .before .before .before .before .before .before in
-    out-of-range gf256 field256 (at (s .args .t3)) (s .args .k) (s .args .marks .now) (c .before .before .product .result) (c .before .before .before .inverse .result) (c .before .cell .result) (search needs) (c .before .before .before .inverse .ensures) (c .before .before .product .ensures)
+    let c2 = c .before .before in
+    let c3 = c2 .before in
+    let s = c3 .before .before .before in
+    out-of-range gf256 field256 (at (s .args .t2)) (s .args .k) (s .args .marks .now) (c2 .product .result) (c3 .inverse .result)
+    (c .before .cell .result) (search needs) (c3 .inverse .ensures) (c2 .product .ensures)
     (c .before .cell .ensures) (search needs)
 
 filter-requires : tie.Need-filter-requires
@@ -50,22 +52,32 @@ zeros-requires c κs = search needs
 
 returns-3 : tie.Need-returns-3
 returns-3 c =
-    let s = c .before .before .before .before .before .before .before .before .before in
-    let x = c .before .before .before .before .before .product .result in
-    let u = c .before .before .filter .result in
-    it-fits gf256 field256 (at (s .args .t3)) (s .args .k) (s .args .marks .now) x (c .before .before .before .before .before .before .inverse .result) (c .before .before .before .before .cell .result) (search needs) (c .before .before .before .before .before .before .inverse .ensures) (c .before .before .before .before .before .product .ensures)
-    (c .before .before .before .before .cell .ensures) (search needs)
-    (zeros-to (s .args .k) (at u) (filt gf256 (x ∷ []) (at (s .args .t3))) (λ m l. filter-one x (s .args .t3) u (c .before .before .filter .ensures) m (omega arith))
+    let c2 = c .before .before in
+    let c4 = c2 .before .before in
+    let c5 = c4 .before in
+    let c6 = c5 .before in
+    let s = c6 .before .before .before in
+    let x = c5 .product .result in
+    let u = c2 .filter .result in
+    it-fits gf256 field256 (at (s .args .t2)) (s .args .k) (s .args .marks .now) x (c6 .inverse .result) (c4 .cell .result) (search needs)
+    (c6 .inverse .ensures) (c5 .product .ensures)
+    (c4 .cell .ensures) (search needs)
+    (zeros-to (s .args .k) (at u) (filt gf256 (x ∷ []) (at (s .args .t2))) (λ m l. filter-one x (s .args .t2) u (c2 .filter .ensures) m (omega arith))
     (said (Zeros (s .args .k) (at u)) (c .before .zeros .result) (c .if3 .taken) (c .before .zeros .ensures)))
 
 returns-4 : tie.Need-returns-4
 returns-4 c =
-    let s = c .before .before .before .before .before .before .before .before .before in
-    let x = c .before .before .before .before .before .product .result in
-    let u = c .before .before .filter .result in
-    it-fails gf256 field256 (at (s .args .t3)) (s .args .k) (s .args .marks .now) x (c .before .before .before .before .before .before .inverse .result) (c .before .before .before .before .cell .result) (search needs) (c .before .before .before .before .before .before .inverse .ensures) (c .before .before .before .before .before .product .ensures)
-    (c .before .before .before .before .cell .ensures) (search needs)
-    (zeros-from (s .args .k) (at u) (filt gf256 (x ∷ []) (at (s .args .t3))) (λ m l. filter-one x (s .args .t3) u (c .before .before .filter .ensures) m (omega arith))
+    let c2 = c .before .before in
+    let c4 = c2 .before .before in
+    let c5 = c4 .before in
+    let c6 = c5 .before in
+    let s = c6 .before .before .before in
+    let x = c5 .product .result in
+    let u = c2 .filter .result in
+    it-fails gf256 field256 (at (s .args .t2)) (s .args .k) (s .args .marks .now) x (c6 .inverse .result) (c4 .cell .result) (search needs)
+    (c6 .inverse .ensures) (c5 .product .ensures)
+    (c4 .cell .ensures) (search needs)
+    (zeros-from (s .args .k) (at u) (filt gf256 (x ∷ []) (at (s .args .t2))) (λ m l. filter-one x (s .args .t2) u (c2 .filter .ensures) m (omega arith))
     (denied (Zeros (s .args .k) (at u)) (c .before .zeros .result) (c .if3 .left) (c .before .zeros .ensures)))
 
 pub one-spec : {M : Type 1} → statement M

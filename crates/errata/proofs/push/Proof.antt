@@ -16,10 +16,14 @@ add-result : tie.Need-add-result
 add-result c = search needs
 
 returns : tie.Need-returns
-returns c = pushed-yes (c .before .before .args .marks .now) (c .before .before .args .j) (c .before .before .args .cells .now) (c .before .before .args .k) (c .if1 .taken)
+returns c =
+    pushed-yes (c .before .before .args .marks .now) (c .before .before .args .j) (c .before .before .args .cells .now) (c .before .before .args .k)
+    (c .if1 .taken)
 
 returns-2 : tie.Need-returns-2
-returns-2 c = pushed-no (c .before .before .args .marks .now) (c .before .before .args .j) (c .before .before .args .cells .now) (c .before .before .args .k) (c .if1 .left)
+returns-2 c =
+    pushed-no (c .before .before .args .marks .now) (c .before .before .args .j) (c .before .before .args .cells .now) (c .before .before .args .k)
+    (c .if1 .left)
 
 pub push-spec : {M : Type 1} → statement M
 push-spec =

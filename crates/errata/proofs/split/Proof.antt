@@ -14,20 +14,19 @@ product-requires c κs = search needs
 product-requires-2 : tie.Need-product-requires-2
 product-requires-2 c κs = search needs
 
-cast-product : tie.Need-cast-product
-cast-product c = search needs
-
-element-copy-out-product : tie.Need-element-copy-out-product
-element-copy-out-product c = search needs
+half-requires : tie.Need-half-requires
+half-requires c κs = search needs
 
 product-requires-3 : tie.Need-product-requires-3
 product-requires-3 c κs = search needs
 
 returns : tie.Need-returns
 returns c =
-    let s = c .before .before .before .before .before in
-    splits gf256 field256 (s .args .halves .now) (s .args .u) (s .args .v) (c .before .before .before .before .inverse .result) (c .before .before .before .product .result) (c .before .before .product2 .result) (c .product3 .result) (s .pre .1) (search needs)
-    (c .before .before .before .before .inverse .ensures) (c .before .before .before .product .ensures) (c .before .before .product2 .ensures) (c .product3 .ensures)
+    let b = c .before .before in
+    let s = b .before .before .before in
+    splits gf256 field256 (s .args .u) (s .args .v) (b .before .before .inverse .result) (b .before .product .result) (b .product2 .result)
+    (c .before .half .result) (c .product3 .result)
+    (c .before .half .ensures) (search needs) (b .before .before .inverse .ensures) (b .before .product .ensures) (b .product2 .ensures) (c .product3 .ensures)
 
 pub split-spec : {M : Type 1} → statement M
 split-spec =
@@ -36,7 +35,6 @@ split-spec =
     inverse-requires
     product-requires
     product-requires-2
-    cast-product
-    element-copy-out-product
+    half-requires
     product-requires-3
     returns)

@@ -1,4 +1,4 @@
-use Prim.Native.Nat.{ℕ, _-_, _<_, _≤_}
+use Prim.Native.Nat.{_-_}
 use native.Mathlib.Omega.{arith}
 use borrow.Author.Needs.{needs}
 use Rattle.errata.proofs.Sums.{cell-below}
@@ -7,10 +7,10 @@ use Rattle.errata.proofs.unweigh.Statement.{statement}
 use Rattle.errata.proofs.unweigh.Tie as tie
 
 abbrev Inv-loop : tie.InvT-loop
-Inv-loop powers logs cells n k r₀ j₀ r j = Unweighing n cells k r₀ r j
+Inv-loop tables cells n k r₀ j₀ r j = Unweighing n cells k r₀ r j
 
 abbrev μ-loop : tie.MeasureT-loop
-μ-loop powers logs cells n k r₀ j₀ r j = k - j
+μ-loop tables cells n k r₀ j₀ r j = k - j
 
 loop-holds : tie.Need-loop-holds Inv-loop μ-loop
 loop-holds c = unweigh-starts (c .args .n) (c .args .cells .now) (c .args .k) (c .pre .1) (c .args .u) (search needs)
@@ -46,10 +46,13 @@ loop-less c = search needs
 
 loop-again : tie.Need-loop-again Inv-loop μ-loop
 loop-again c =
-    let s = c .before .before .before .before .before .before in
-    let L = c .before .before .before .before .before .loop in
-    unweigh-goes (s .args .n) (s .args .cells .now) (s .args .k) (s .pre .1) (s .args .u) (L .r) (L .j) (c .before .before .place .result) (c .before .product .result) (c .product2 .result)
-    (search needs) (L .inv) (c .before .before .place .ensures) (c .before .product .ensures) (c .product2 .ensures)
+    let c2 = c .before .before in
+    let c5 = c2 .before .before .before in
+    let s = c5 .before in
+    let L = c5 .loop in
+    unweigh-goes (s .args .n) (s .args .cells .now) (s .args .k) (s .pre .1) (s .args .u) (L .r) (L .j) (c2 .place .result)
+    (c .before .product .result) (c .product2 .result)
+    (search needs) (L .inv) (c2 .place .ensures) (c .before .product .ensures) (c .product2 .ensures)
 
 returns : tie.Need-returns Inv-loop μ-loop
 returns c =

@@ -1,11 +1,9 @@
-use mathlib.Core.Path.{_≡_, refl, ap, _∙_}
-use mathlib.Core.List.{List, map}
-use Prim.Native.Nat.{ℕ}
+use mathlib.Core.Path.{refl, ap, _∙_}
+use mathlib.Core.List.{map}
 use lib.ListN.{take}
-use Rattle.account.proofs.Solve as solving
+use Rattle.account.specs.Errata.{unweighed}
 use Rattle.gf256.specs.Gf256.{gf256}
 use Rattle.gf256.specs.Tables.{placeOf}
-use Rattle.gf256.proofs.Field256.{field256}
 use borrow.Author.Needs.{needs}
 use Rattle.errata.proofs.valued.Statement.{statement}
 use Rattle.errata.proofs.valued.Tie as tie
@@ -23,7 +21,7 @@ returns c =
       count = refl;
       same-cells = search needs;
       room = search needs;
-      values = c .unweigh .ensures ∙ ap (solving.unweighed gf256 field256 (map (placeOf (s .args .n)) (take (s .args .k) (s .args .cells)))) (c .before .before .solve .ensures);
+      values = c .unweigh .ensures ∙ ap (unweighed gf256 (map (placeOf (s .args .n)) (take (s .args .k) (s .args .cells)))) (c .before .before .solve .ensures);
     }
 
 pub valued-spec : {M : Type 1} → statement M

@@ -1,8 +1,7 @@
-use Prim.Native.Nat.{ℕ, _-_, _≤_}
-use mathlib.Core.Path.{_≡_, subst}
+use Prim.Native.Nat.{_-_, _≤_}
 use native.Mathlib.Omega.{arith}
 use borrow.Author.Needs.{needs}
-use Rattle.account.proofs.Search.{Zeros}
+use Rattle.account.specs.Search.{Zeros}
 use Rattle.errata.specs.Errata.{at}
 use Rattle.errata.proofs.Sums.{zeros-more}
 use Rattle.errata.proofs.zeros.Statement.{statement}

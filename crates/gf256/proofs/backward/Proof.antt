@@ -1,5 +1,5 @@
 use borrow.Author.Needs.{needs}
-use Rattle.gf256.proofs.Tables.{backward-by}
+use Rattle.gf256.proofs.Lookups.{backward-by}
 use Rattle.gf256.proofs.backward.Statement.{statement}
 use Rattle.gf256.proofs.backward.Tie as tie
 
@@ -10,7 +10,7 @@ element-copy-out-result : tie.Need-element-copy-out-result
 element-copy-out-result c = search needs
 
 returns : tie.Need-returns
-returns c = backward-by (c .before .args .powers .now) (c .before .pre) (c .before .args .k)
+returns c = backward-by (c .before .args .tables .now) (c .before .pre) (c .before .args .k)
 
 pub backward-spec : {M : Type 1} → statement M
 backward-spec = tie.close (tie.spec sub-result element-copy-out-result returns)

@@ -1,5 +1,5 @@
 use borrow.Author.Needs.{needs}
-use Rattle.gf256.proofs.Tables.{inverse-by}
+use Rattle.gf256.proofs.Lookups.{inverse-by}
 use Rattle.gf256.proofs.inverse.Statement.{statement}
 use Rattle.gf256.proofs.inverse.Tie as tie
 
@@ -15,7 +15,7 @@ element-copy-out-result c = search needs
 returns : tie.Need-returns
 returns c =
     let s = c .before .before in
-    inverse-by (s .args .powers .now) (s .args .logs .now) (s .pre .0) (s .args .a) (c .before .log .result) (c .before .log .ensures)
+    inverse-by (s .args .tables .now) (s .pre .0) (s .args .a) (c .before .log .result) (c .before .log .ensures)
 
 pub inverse-spec : {M : Type 1} → statement M
 inverse-spec = tie.close (tie.spec log-requires sub-result element-copy-out-result returns)

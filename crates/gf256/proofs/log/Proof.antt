@@ -3,6 +3,9 @@ use borrow.Author.Needs.{needs}
 use Rattle.gf256.proofs.log.Statement.{statement}
 use Rattle.gf256.proofs.log.Tie as tie
 
+add-result : tie.Need-add-result
+add-result c = search needs
+
 element-copy-out-result : tie.Need-element-copy-out-result
 element-copy-out-result c = search needs
 
@@ -16,4 +19,4 @@ returns c = record {
 }
 
 pub log-spec : {M : Type 1} → statement M
-log-spec = tie.close (tie.spec element-copy-out-result cast-result returns)
+log-spec = tie.close (tie.spec add-result element-copy-out-result cast-result returns)

@@ -1,10 +1,10 @@
-use mathlib.Core.Path.{_≡_, sym, ap, _∙_}
+use mathlib.Core.Path.{sym, ap, _∙_}
 use Prim.Native.Nat.{ℕ}
 use borrow.Author.Needs.{needs}
 use Rattle.account.proofs.Laws.{zero-mul, mul-zero}
 use Rattle.gf256.specs.Gf256.{gf256, times}
 use Rattle.gf256.proofs.Field256.{field256}
-use Rattle.gf256.proofs.Tables.{product-by}
+use Rattle.gf256.proofs.Lookups.{product-by}
 use Rattle.gf256.proofs.product.Statement.{statement}
 use Rattle.gf256.proofs.product.Tie as tie
 
@@ -29,7 +29,7 @@ element-copy-out-result c = search needs
 returns-3 : tie.Need-returns-3
 returns-3 c =
     let s = c .before .before .before .before .before in
-    product-by (s .args .powers .now) (s .args .logs .now) (s .pre) (s .args .a) (s .args .b) (c .before .before .log .result) (c .before .log2 .result)
+    product-by (s .args .tables .now) (s .pre) (s .args .a) (s .args .b) (c .before .before .log .result) (c .before .log2 .result)
     (c .before .before .log .ensures) (c .before .log2 .ensures)
 
 pub product-spec : {M : Type 1} → statement M

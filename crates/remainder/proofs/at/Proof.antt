@@ -32,13 +32,15 @@ low-requires-5 c κs = search needs
 
 returns : tie.Need-returns
 returns c =
-    let s = c .before .before .before .before .before .before .before .before .before in
-    at-five (s .args .y) (s .args .r) (c .before .before .low4 .result) (c .before .before .before .before .low3 .result) (c .before .before .before .before .before .before .low2 .result)
-    (c .before .before .before .before .before .before .before .before .low .result) (c .before .before .before .before .before .before .before .product .result)
-    (c .before .before .before .before .before .product2 .result) (c .before .before .before .product3 .result) (c .before .product4 .result) (c .low5 .result)
-    (c .before .before .before .before .before .before .before .before .low .ensures) (c .before .before .before .before .before .before .before .product .ensures)
-    (c .before .before .before .before .before .before .low2 .ensures) (c .before .before .before .before .before .product2 .ensures) (c .before .before .before .before .low3 .ensures)
-    (c .before .before .before .product3 .ensures) (c .before .before .low4 .ensures) (c .before .product4 .ensures) (c .low5 .ensures)
+    let c4 = c .before .before in
+    let c3 = c4 .before .before in
+    let c2 = c3 .before .before in
+    let c1 = c2 .before .before in
+    let s = c1 .before in
+    at-five (s .args .y) (s .args .r) (c4 .low4 .result) (c3 .low3 .result) (c2 .low2 .result) (c1 .low .result)
+    (c2 .before .product .result) (c3 .before .product2 .result) (c4 .before .product3 .result) (c .before .product4 .result) (c .low5 .result)
+    (c1 .low .ensures) (c2 .before .product .ensures) (c2 .low2 .ensures) (c3 .before .product2 .ensures) (c3 .low3 .ensures)
+    (c4 .before .product3 .ensures) (c4 .low4 .ensures) (c .before .product4 .ensures) (c .low5 .ensures)
 
 pub at-spec : {M : Type 1} → statement M
 at-spec =

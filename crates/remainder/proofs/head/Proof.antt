@@ -1,8 +1,8 @@
 use borrow.Author.Needs.{needs}
-use Prim.Native.Nat.{ℕ, _+_, _-_, _%_, _≤_, _<_}
+use Prim.Native.Nat.{ℕ, _-_, _%_, _≤_}
 use mathlib.Core.Path.{_≡_, subst}
 use native.Mathlib.Omega.{arith}
-use lib.ListN.{length, take, getD}
+use lib.ListN.{length, take}
 use Rattle.remainder.specs.Remainder.{Remains}
 use Rattle.remainder.proofs.Whole.{begins, one-more}
 use Rattle.remainder.proofs.head.Statement.{statement}
@@ -31,9 +31,15 @@ loop-less c = search needs
 
 loop-again : tie.Need-loop-again Inv-loop μ-loop
 loop-again c =
-    let L = c .before .before .before .loop in
-    let w = c .before .before .before .before .before .args .w .now in
-    (search needs, search needs, one-more w (λ p. omega (arith, c .before .shared-slice-known2 .given p)) (L .k) (L .r) (c .step .result) (omega arith) (L .inv .2) (c .step .ensures))
+    let c3 = c .before .before .before in
+    let c5 = c3 .before .before in
+    let L = c3 .loop in
+    let w = c5 .args .w .now in (
+      search needs,
+      search needs,
+      one-more w (λ p. omega (arith, c .before .shared-slice-known2 .given p)) (L .k) (L .r) (c .step .result)
+          (omega arith) (L .inv .2) (c .step .ensures),
+    )
 
 returns : tie.Need-returns Inv-loop μ-loop
 returns c =

@@ -28,7 +28,10 @@ next-of-requires-3 : tie.Need-next-of-requires-3 Inv-loop μ-loop
 next-of-requires-3 c κs = (c .before .before .before .before .before .pre, omega arith, omega arith, c .before .before .before .loop .inv .2 2 (omega arith))
 
 next-of-requires-4 : tie.Need-next-of-requires-4 Inv-loop μ-loop
-next-of-requires-4 c κs = (c .before .before .before .before .before .before .pre, omega arith, omega arith, c .before .before .before .before .loop .inv .2 3 (omega arith))
+next-of-requires-4 c κs =
+    let c4 = c .before .before .before .before in
+    let c6 = c4 .before .before in
+    (c6 .pre, omega arith, omega arith, c4 .loop .inv .2 3 (omega arith))
 
 add-i : tie.Need-add-i Inv-loop μ-loop
 add-i c = omega arith
@@ -38,11 +41,16 @@ loop-less c = omega arith
 
 loop-again : tie.Need-loop-again Inv-loop μ-loop
 loop-again c =
-    let L = c .before .before .before .before .before .loop in
-    let s = c .before .before .before .before .before .before .before .args .s .now in (
+    let c2 = c .before .before in
+    let c3 = c2 .before in
+    let c5 = c3 .before .before in
+    let c7 = c5 .before .before in
+    let L = c5 .loop in
+    let s = c7 .args .s .now in (
       search needs,
       omega arith,
-      lanes-to s (L .i + 1) (c .before .before .before .next-of .result) (c .before .before .next-of2 .result) (c .before .next-of3 .result) (c .next-of4 .result) (c .before .before .before .next-of .ensures) (c .before .before .next-of2 .ensures) (c .before .next-of3 .ensures) (c .next-of4 .ensures),
+      lanes-to s (L .i + 1) (c3 .next-of .result) (c2 .next-of2 .result) (c .before .next-of3 .result) (c .next-of4 .result) (c3 .next-of .ensures)
+          (c2 .next-of2 .ensures) (c .before .next-of3 .ensures) (c .next-of4 .ensures),
     )
 
 returns : tie.Need-returns Inv-loop μ-loop

@@ -35,8 +35,10 @@ step4-requires c κs = (c .before .before .before .before .before .pre .0, c .be
 
 returns : tie.Need-returns
 returns c =
-    let a = c .before .before .before .before .before .before .args in
-    lane-four (a .s .now) (λ p. omega (arith, c .before .shared-slice-known5 .given p)) (a .j) (a .i) (a .r) (c .step4 .result) (c .before .before .before .before .before .before .pre .2) (c .before .before .before .before .before .before .pre .3) (c .step4 .ensures)
+    let c6 = c .before .before .before .before .before .before in
+    let a = c6 .args in
+    lane-four (a .s .now) (λ p. omega (arith, c .before .shared-slice-known5 .given p)) (a .j) (a .i) (a .r) (c .step4 .result) (c6 .pre .2)
+    (c6 .pre .3) (c .step4 .ensures)
 
 pub next4-of-spec : {M : Type 1} → statement M
 next4-of-spec =

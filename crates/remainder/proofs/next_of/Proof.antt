@@ -17,8 +17,10 @@ step-requires c κs = (c .before .before .pre .0, c .before .before .pre .3 .sma
 
 returns : tie.Need-returns
 returns c =
-    let a = c .before .before .before .args in
-    lane-one (a .s .now) (λ p. omega (arith, c .before .shared-slice-known2 .given p)) (a .j) (a .i) (a .r) (c .step .result) (c .before .before .before .pre .2) (c .before .before .before .pre .3) (c .step .ensures)
+    let c3 = c .before .before .before in
+    let a = c3 .args in
+    lane-one (a .s .now) (λ p. omega (arith, c .before .shared-slice-known2 .given p)) (a .j) (a .i) (a .r) (c .step .result) (c3 .pre .2)
+    (c3 .pre .3) (c .step .ensures)
 
 pub next-of-spec : {M : Type 1} → statement M
 next-of-spec = tie.close (tie.spec mul-step add-step shared-slice-read-step step-requires returns)

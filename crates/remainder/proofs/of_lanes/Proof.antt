@@ -42,10 +42,16 @@ next4-of-requires-2 : tie.Need-next4-of-requires-2 Inv-loop μ-loop
 next4-of-requires-2 c κs = (c .before .before .before .before .before .pre, omega arith, omega arith, c .before .before .loop .inv .3 1 (omega arith))
 
 next4-of-requires-3 : tie.Need-next4-of-requires-3 Inv-loop μ-loop
-next4-of-requires-3 c κs = (c .before .before .before .before .before .before .pre, omega arith, omega arith, c .before .before .before .loop .inv .3 2 (omega arith))
+next4-of-requires-3 c κs =
+    let c3 = c .before .before .before in
+    let c6 = c3 .before .before .before in
+    (c6 .pre, omega arith, omega arith, c3 .loop .inv .3 2 (omega arith))
 
 next4-of-requires-4 : tie.Need-next4-of-requires-4 Inv-loop μ-loop
-next4-of-requires-4 c κs = (c .before .before .before .before .before .before .before .pre, omega arith, omega arith, c .before .before .before .before .loop .inv .3 3 (omega arith))
+next4-of-requires-4 c κs =
+    let c4 = c .before .before .before .before in
+    let c7 = c4 .before .before .before in
+    (c7 .pre, omega arith, omega arith, c4 .loop .inv .3 3 (omega arith))
 
 add-i : tie.Need-add-i Inv-loop μ-loop
 add-i c = omega arith
@@ -55,12 +61,17 @@ loop-less c = omega arith
 
 loop-again : tie.Need-loop-again Inv-loop μ-loop
 loop-again c =
-    let L = c .before .before .before .before .before .loop in
-    let s = c .before .before .before .before .before .before .before .before .args .s .now in (
+    let c2 = c .before .before in
+    let c3 = c2 .before in
+    let c5 = c3 .before .before in
+    let c8 = c5 .before .before .before in
+    let L = c5 .loop in
+    let s = c8 .args .s .now in (
       search needs,
       omega arith,
       omega arith,
-      lanes-to s (L .i + 4) (c .before .before .before .next4-of .result) (c .before .before .next4-of2 .result) (c .before .next4-of3 .result) (c .next4-of4 .result) (c .before .before .before .next4-of .ensures) (c .before .before .next4-of2 .ensures) (c .before .next4-of3 .ensures) (c .next4-of4 .ensures),
+      lanes-to s (L .i + 4) (c3 .next4-of .result) (c2 .next4-of2 .result) (c .before .next4-of3 .result) (c .next4-of4 .result)
+          (c3 .next4-of .ensures) (c2 .next4-of2 .ensures) (c .before .next4-of3 .ensures) (c .next4-of4 .ensures),
     )
 
 returns : tie.Need-returns Inv-loop μ-loop

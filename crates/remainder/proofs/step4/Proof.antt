@@ -53,16 +53,22 @@ reduced-requires-4 c κs = search needs
 
 returns : tie.Need-returns
 returns c =
-    let s = c .before .before .before .before .before .before .before .before in
+    let c2 = c .before .before in
+    let c3 = c2 .before in
+    let c4 = c3 .before in
+    let c5 = c4 .before in
+    let c6 = c5 .before in
+    let c7 = c6 .before in
+    let s = c7 .before in
     rw (
-      c .before .before .before .before .before .before .before .wide .ensures,
-      c .before .before .before .before .before .before .wide2 .ensures,
-      c .before .before .before .before .before .wide3 .ensures,
-      c .before .before .before .before .wide4 .ensures,
+      c7 .wide .ensures,
+      c6 .wide2 .ensures,
+      c5 .wide3 .ensures,
+      c4 .wide4 .ensures,
     )
-    (moved4 (s .args .r) (s .pre .1) (s .args .a) (s .args .b) (s .args .c) (s .args .d) (c .before .before .before .reduced .result) (c .before .before .reduced2 .result)
-    (c .before .reduced3 .result) (c .reduced4 .result) (search needs) (search needs) (search needs) (search needs) (c .before .before .before .reduced .ensures)
-    (c .before .before .reduced2 .ensures) (c .before .reduced3 .ensures) (c .reduced4 .ensures))
+    (moved4 (s .args .r) (s .pre .1) (s .args .a) (s .args .b) (s .args .c) (s .args .d) (c3 .reduced .result) (c2 .reduced2 .result)
+    (c .before .reduced3 .result) (c .reduced4 .result) (search needs) (search needs) (search needs) (search needs) (c3 .reduced .ensures)
+    (c2 .reduced2 .ensures) (c .before .reduced3 .ensures) (c .reduced4 .ensures))
 
 pub step4-spec : {M : Type 1} → statement M
 step4-spec =

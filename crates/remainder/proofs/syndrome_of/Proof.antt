@@ -44,12 +44,16 @@ at-requires-5 c κs = search needs
 
 returns : tie.Need-returns
 returns c =
-    let r = c .before .before .before .before .before .before .before .before .before .before .args .r in
+    let c4 = c .before .before in
+    let c3 = c4 .before .before in
+    let c2 = c3 .before .before in
+    let c1 = c2 .before .before in
+    let r = c1 .before .before .args .r in
     rw (
-      sum (negsuc 1) r (c .before .before .before .before .before .before .before .before .before .alpha-to .result) (c .before .before .before .before .before .before .before .before .at .result) (c .before .before .before .before .before .before .before .before .before .alpha-to .ensures) (c .before .before .before .before .before .before .before .before .at .ensures),
-      sum (negsuc 0) r (c .before .before .before .before .before .before .before .alpha-to2 .result) (c .before .before .before .before .before .before .at2 .result) (c .before .before .before .before .before .before .before .alpha-to2 .ensures) (c .before .before .before .before .before .before .at2 .ensures),
-      sum (pos 0) r (c .before .before .before .before .before .alpha-to3 .result) (c .before .before .before .before .at3 .result) (c .before .before .before .before .before .alpha-to3 .ensures) (c .before .before .before .before .at3 .ensures),
-      sum (pos 1) r (c .before .before .before .alpha-to4 .result) (c .before .before .at4 .result) (c .before .before .before .alpha-to4 .ensures) (c .before .before .at4 .ensures),
+      sum (negsuc 1) r (c1 .before .alpha-to .result) (c1 .at .result) (c1 .before .alpha-to .ensures) (c1 .at .ensures),
+      sum (negsuc 0) r (c2 .before .alpha-to2 .result) (c2 .at2 .result) (c2 .before .alpha-to2 .ensures) (c2 .at2 .ensures),
+      sum (pos 0) r (c3 .before .alpha-to3 .result) (c3 .at3 .result) (c3 .before .alpha-to3 .ensures) (c3 .at3 .ensures),
+      sum (pos 1) r (c4 .before .alpha-to4 .result) (c4 .at4 .result) (c4 .before .alpha-to4 .ensures) (c4 .at4 .ensures),
       sum (pos 2) r (c .before .alpha-to5 .result) (c .at5 .result) (c .before .alpha-to5 .ensures) (c .at5 .ensures),
     )
 

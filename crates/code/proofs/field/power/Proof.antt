@@ -2,12 +2,12 @@ use mathlib.Core.Path.{_≡_, ap, _∙_}
 use mir.Facts.{toZ-ofZ}
 use Rattle.account.specs.Code.{alphaTo}
 use Rattle.gf256.specs.Gf256.{gf256}
-use Rattle.gf256.proofs.Tables.{tables}
+use Rattle.gf256.proofs.Rules.{tables}
 use Rattle.code.proofs.field.power.Statement.{statement}
 use Rattle.code.proofs.field.power.Tie as tie
 
 alpha-to-requires : tie.Need-alpha-to-requires
-alpha-to-requires c κs = tables .powers
+alpha-to-requires c κs = tables
 
 returns : tie.Need-returns
 returns c = c .alpha-to .ensures ∙ ap (alphaTo gf256) (toZ-ofZ (c .before .before .fits .j))

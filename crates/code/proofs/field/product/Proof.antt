@@ -1,4 +1,4 @@
-use Rattle.gf256.proofs.Tables.{tables}
+use Rattle.gf256.proofs.Rules.{tables}
 use borrow.Author.Needs.{needs}
 use Rattle.code.proofs.field.product.Statement.{statement}
 use Rattle.code.proofs.field.product.Tie as tie

@@ -4,7 +4,7 @@ use native.Mathlib.Omega.{arith}
 use borrow.Author.Needs.{needs}
 use lib.ListN.{length}
 use lib.Seq.{slice}
-use Rattle.account.proofs.Decode.{Applied}
+use Rattle.account.specs.Errata.{Applied}
 use Rattle.gf256.specs.Gf256.{gf256}
 use Rattle.code.proofs.Applying.{apply-starts, apply-goes, erratum-below}
 use Rattle.code.proofs.repair.apply.Statement.{statement}

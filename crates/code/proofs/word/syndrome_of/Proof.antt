@@ -1,5 +1,5 @@
 use mathlib.Core.Path.{_≡_, _∙_}
-use Rattle.gf256.proofs.Tables.{tables}
+use Rattle.gf256.proofs.Rules.{tables}
 use Rattle.remainder.proofs.Whole.{syndrome-same}
 use borrow.Author.Needs.{needs}
 use Rattle.code.proofs.word.syndrome_of.Statement.{statement}
@@ -12,7 +12,7 @@ syndrome-of-requires : tie.Need-syndrome-of-requires
 syndrome-of-requires c κs = tables
 
 returns : tie.Need-returns
-returns c = c .syndrome-of .ensures ∙ syndrome-same (c .before .before .before .before .before .args .word .now) (c .before .remainder-of .result) (c .before .remainder-of .ensures)
+returns c = c .syndrome-of .ensures ∙ syndrome-same (c .before .before .before .before .args .word .now) (c .before .remainder-of .result) (c .before .remainder-of .ensures)
 
 pub syndrome-of-spec : {M : Type 1} → statement M
 syndrome-of-spec = tie.close (tie.spec remainder-of-requires syndrome-of-requires returns)

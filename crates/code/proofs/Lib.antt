@@ -4,7 +4,6 @@ pub mod Writing
 pub mod Repairing
 pub mod LaneRepairs
 pub mod Gathering
-pub mod Placing
+pub mod CheckCells
 pub mod Answers
 pub mod Theorems
-pub mod Cells

@@ -1,6 +1,5 @@
 -- The lanes of a strip: tested at once, mended one by one, and their check cells written. R lanes, over any field.
 use mathlib.Core.Path.{_≡_}
-use mathlib.Core.Logic.{_⊎_}
 use mathlib.Core.Bool.{Bool, false}
 use mathlib.Core.List.{List}
 use Prim.Native.Nat.{ℕ, _+_, _*_, _-_, _/_, _%_, _≤_, _<_}
@@ -66,9 +65,3 @@ pub record LaneOf (R l n : ℕ) (s : List ℕ) : Type 0 where
 -- cell p of the five columns after k columns, where c has the packed check bytes of each of R lanes
 abbrev pub checkCell : ℕ → ℕ → List ℕ → ℕ → ℕ
 checkCell R k c p = getD (unpacked (getD c (p % R) 0)) ((p - R * k) / R) 0
-
--- cells from a to b are what v says, the others are as they were
-pub record Placed (a b : ℕ) (v : ℕ → ℕ) (x x' : List ℕ) : Type 0 where
-  pub long : length x' ≡ length x
-  pub inside : (p : ℕ) → a ≤ p → p < b → getD x' p 0 ≡ v p
-  pub outside : (p : ℕ) → (p < a) ⊎ (b ≤ p) → getD x' p 0 ≡ getD x p 0

@@ -3,4 +3,3 @@ pub mod Marks
 pub mod Repair
 pub mod Lane
 pub mod Lanes
-pub mod Cells

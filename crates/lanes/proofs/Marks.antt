@@ -13,7 +13,7 @@ use Rattle.account.specs.Reach.{countTo, isMarked, oneIf}
 use Rattle.account.proofs.Cells.{count-none}
 use Rattle.account.proofs.Lanes.{getD-lane}
 use Rattle.level.specs.Strip.{markedIn}
-use Rattle.level.proofs.Dealing.{lt-or-ge}
+use Rattle.rules.proofs.Numbers.{lt-or-ge}
 
 -- what is counted nowhere is nowhere
 zero-count : (f : ℕ → Bool) (n : ℕ) → countTo f n ≡ 0 → (i : ℕ) → i < n → T (not (f i))

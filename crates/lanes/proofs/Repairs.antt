@@ -14,6 +14,7 @@ use Rattle.gf256.specs.Gf256.{gf256}
 use Rattle.rules.specs.Says.{Says}
 use Rattle.code.specs.Lane.{wordOf}
 use Rattle.code.specs.Lanes.{LaneBecomes, LaneMendsAs, LaneAsked}
+use Rattle.code.proofs.Gathering.{lane-becomes, lane-lost}
 use Rattle.code.specs.declared.lane.Lane.{Lane}
 use Rattle.code.specs.declared.repair.Repaired.{Repaired}
 use Rattle.code.specs.declared.repair.Repaired.the-variants as repaired
@@ -28,9 +29,6 @@ asked s marks j room h rd =
     let c = columns-fit s (rd .legal) in
     record { inside = h; legal = record { from = c .0; to = c .1 }; full = c .2; matched = rd .matched; good = rd .good }
 
-pub becomes : (s marks : List ℕ) (j : ℕ) (w : Lane) (a : Repaired) (e : ℕ) → a ≡ repaired.Mended e → LaneMendsAs gf256 4 j marks s w a → LaneBecomes gf256 4 j marks s w e
-becomes s marks j w a e is A = subst (LaneMendsAs gf256 4 j marks s w) is A
-
 -- a lane that was mended, and put back
 pub yes-lane : (s marks : List ℕ) (j room : ℕ) → Ready 4 s marks room → (w : Lane) (a : Repaired) (e : ℕ) → a ≡ repaired.Mended e → LaneMendsAs gf256 4 j marks s w a
     → (x x' : List ℕ) → Scattered 4 (4 * w .len) j (wordOf w) x x' → OneGood 4 s marks j x x' (record { good = true; mended = e })
@@ -41,7 +39,7 @@ yes-lane s marks j room rd w a e is A x x' sc = record {
 }
   where
     L : LaneBecomes gf256 4 j marks s w e
-    L = becomes s marks j w a e is A
+    L = lane-becomes gf256 4 j marks s w a e is A
 
     size : 4 * w .len ≡ length s
     size = ap (λ (k : ℕ). 4 * k) (L .len) ∙ sym (columns-fit s (rd .legal) .2)
@@ -54,7 +52,7 @@ yes-lane s marks j room rd w a e is A x x' sc = record {
 
 -- and one that cannot be
 pub no-lane : (s marks : List ℕ) (j : ℕ) (w : Lane) (a : Repaired) (c : ℕ) → a ≡ repaired.Refused c → LaneMendsAs gf256 4 j marks s w a → Mendable gf256 4 marks s j → ⊥
-no-lane s marks j w a c is A = subst (LaneMendsAs gf256 4 j marks s w) is A .none
+no-lane s marks j w a c is A = lane-lost gf256 4 j marks s w a c is A .none
 
 -- a lane that is clean stays as it is
 module _ (s marks : List ℕ) (j : ℕ) (x : List ℕ) (same : lane 4 j (take (length s) x) ≡ lane 4 j s) (clean : Clean gf256 (lane 4 j s))

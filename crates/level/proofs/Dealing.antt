@@ -1,7 +1,7 @@
 -- Cells dealt to lanes, over the field and the lane count: what is dealt can be had, is one, and gives its cells back.
 use mathlib.Core.Path.{_≡_, sym, ap, ap₂, _∙_, subst}
 use Prim.Native.Nat.{ℕ, _+_, _*_, _-_, _/_, _%_, _≤_, _<_}
-use native.Mathlib.Nat.{mul-le-mul-left, div-add-mod, mod-lt, eq-zero-or-pos, mul-add-div, mul-add-mod-self-left, mod-eq-of-lt, div-eq-of-lt, mul-suc, mul-add, mul-comm, div-lt-iff-lt-mul, le-div-iff-mul-le, div-mul-le-self}
+use native.Mathlib.Nat.{mul-le-mul-left, div-add-mod, mod-lt, mul-add-div, mul-add-mod-self-left, mod-eq-of-lt, div-eq-of-lt, mul-suc, mul-add, mul-comm, div-lt-iff-lt-mul, le-div-iff-mul-le, div-mul-le-self}
 use native.Mathlib.Omega.{arith}
 use mathlib.Core.List.{List}
 use mathlib.Core.Logic.{_⊎_, inl, inr, ⊎-elim}
@@ -14,11 +14,8 @@ use Rattle.account.specs.Lanes.{lane}
 use Rattle.account.proofs.Lists.{length-listOf, getD-listOf}
 use Rattle.account.proofs.Lanes.{length-lane, getD-lane, bytes-lane, cell, ext-lanes, getD-past, columns-of}
 use Rattle.account.proofs.Theorems.{one-with-data, some-with-data}
+use Rattle.rules.proofs.Numbers.{lt-or-ge}
 use Rattle.level.specs.Strip.{columns, Dealt}
-
--- below, or not
-pub lt-or-ge : (q n : ℕ) → (q < n) ⊎ (n ≤ q)
-lt-or-ge q n = ⊎-elim (λ e. inr (omega arith)) (λ h. inl (omega arith)) (eq-zero-or-pos (n - q))
 
 -- cells have their place within their columns
 pub within : (R : ℕ) → 0 < R → (n : ℕ) → n ≤ R * columns R n

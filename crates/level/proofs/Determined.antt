@@ -10,7 +10,7 @@ use lib.Seq.{ext-getD}
 use Rattle.rules.specs.Bytes.{Bytes}
 use Rattle.level.specs.Level.{Level, IsLevel}
 use Rattle.level.specs.Record.{bitAt, fieldAt, IsRecord}
-use Rattle.level.proofs.Dealing.{lt-or-ge}
+use Rattle.rules.proofs.Numbers.{lt-or-ge}
 use Rattle.level.proofs.Bits.{bit-of}
 
 pub bit-small : (bs : List ℕ) (p : ℕ) → bitAt bs p < 2

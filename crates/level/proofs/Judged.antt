@@ -16,7 +16,8 @@ use Rattle.level.specs.Record.{bitAt, fieldAt, recordLength, IsRecord}
 use Rattle.level.specs.Strip.{columns}
 use Rattle.level.specs.Reading.{tilesIn, tilesOf, levelOf, Shaped, judging}
 use Rattle.level.proofs.Bits.{bit-of}
-use Rattle.level.proofs.Dealing.{lt-or-ge, within}
+use Rattle.rules.proofs.Numbers.{lt-or-ge}
+use Rattle.level.proofs.Dealing.{within}
 use Rattle.level.proofs.Fields.{same-level}
 
 pub length-tiles : (bs : List ℕ) (n : ℕ) → length (tilesIn bs n) ≡ n

@@ -12,7 +12,7 @@ use Rattle.level.specs.Record.{bitAt, fieldAt, recordLength, IsRecord}
 use Rattle.level.proofs.Written.{digit, spelled, recordBit, recordByte, recordOf}
 use Rattle.account.proofs.Lanes.{getD-past}
 use Rattle.account.proofs.Lists.{length-listOf, getD-listOf}
-use Rattle.level.proofs.Dealing.{lt-or-ge}
+use Rattle.rules.proofs.Numbers.{lt-or-ge}
 use Rattle.level.proofs.Determined.{byte-field, bit-small}
 
 pub spelled-below : (n : ℕ) (f : ℕ → ℕ) → ((i : ℕ) → i < n → f i < 2) → spelled n f < 2 ^ n

@@ -15,7 +15,7 @@ use Rattle.account.proofs.Lanes.{length-lane, getD-lane, getD-past, columns-of}
 use Rattle.account.proofs.Theorems.{same-differing, same-reach}
 use Rattle.level.specs.Level.{Level}
 use Rattle.level.specs.Strip.{wrongIn, mendedOf, StripReach, Reached, Mends, Mendable}
-use Rattle.level.proofs.Dealing.{lt-or-ge}
+use Rattle.rules.proofs.Numbers.{lt-or-ge}
 use Rattle.level.proofs.Counts.{sum-cong}
 
 module _ (R : ℕ) (some : 0 < R) (marks r s : List ℕ) (m : ℕ) (full : length r ≡ R * m) (matched : length marks ≡ length r) (same : SameRead marks r s) where

@@ -13,7 +13,7 @@ use Rattle.rules.specs.Says.{Says}
 use Rattle.level.specs.Record.{bitAt, fieldAt}
 use Rattle.level.specs.Strip.{columns}
 use Rattle.level.specs.Reading.{tilesIn, Shaped}
-use Rattle.level.proofs.Dealing.{lt-or-ge}
+use Rattle.rules.proofs.Numbers.{lt-or-ge}
 use Rattle.level.proofs.Judged.{length-tiles, getD-tiles}
 use Rattle.level.proofs.Windows.{field-below, within-byte, across, field-part}
 use Rattle.record.specs.Reading.{Heads, eight, Unpacks}

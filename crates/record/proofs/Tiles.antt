@@ -12,7 +12,7 @@ use lib.Seq.{drop-cons, drop-length}
 use Rattle.level.specs.Tile.{adds, totals}
 use Rattle.level.specs.Level.{Sized, AllTiles}
 use Rattle.level.specs.Record.{recordLength}
-use Rattle.level.proofs.Dealing.{lt-or-ge}
+use Rattle.rules.proofs.Numbers.{lt-or-ge}
 use Rattle.record.specs.Sum.{packed, weighed, weight, Packs}
 
 -- rows are small

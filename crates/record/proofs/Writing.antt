@@ -13,7 +13,7 @@ use Rattle.account.proofs.Lists.{length-listOf}
 use Rattle.level.specs.Level.{Level, AllTiles, IsLevel}
 use Rattle.level.specs.Record.{recordLength, IsRecord}
 use Rattle.level.proofs.Written.{digit, recordBit, recordByte, recordOf}
-use Rattle.level.proofs.Dealing.{lt-or-ge}
+use Rattle.rules.proofs.Numbers.{lt-or-ge}
 use Rattle.level.proofs.RecordOf.{bit-1, bit-2, bit-3, bit-4, bit-5, record-of}
 use Rattle.level.proofs.Windows.{run, run-append, window}
 use Rattle.record.specs.Writing.{headBytes, threeOf, tileByte, RecordPut}

@@ -1,3 +1,4 @@
 pub mod Refusal
 pub mod Says
 pub mod Bytes
+pub mod Placed

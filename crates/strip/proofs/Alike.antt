@@ -19,7 +19,7 @@ use Rattle.rules.proofs.Laws.{first-fixes, all-hold, hold-both, parts, before, 
 use Rattle.level.specs.Level.{Level}
 use Rattle.level.specs.Strip.{columns, Legal, IsStrip, StripReach, Reached, Lowest, Mends, Mendable, mendedOf, wearOf}
 use Rattle.level.specs.Reading.{ReadNumbers, returned, entering, mending, judging, OfMended}
-use Rattle.level.proofs.Dealing.{lt-or-ge}
+use Rattle.rules.proofs.Numbers.{lt-or-ge}
 use Rattle.level.proofs.Strips.{strip-size, same-strip}
 use Rattle.level.proofs.Unread.{same-reached, same-mends, same-mendable, same-mended, turned}
 use Rattle.strip.specs.declared.read.Reading.{Reading}

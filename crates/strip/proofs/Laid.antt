@@ -12,13 +12,15 @@ use Rattle.account.specs.Code.{Cells}
 use Rattle.account.proofs.Lanes.{getD-past, cell}
 use Rattle.gf256.specs.Gf256.{gf256}
 use Rattle.rules.specs.Refusal.{First, asked}
-use Rattle.code.specs.Lanes.{ChecksPut, Placed}
+use Rattle.rules.specs.Placed.{Placed}
+use Rattle.code.specs.Lanes.{ChecksPut}
 use Rattle.code.specs.declared.word.Written.the-variants as written
 use Rattle.level.specs.Level.{Level, IsLevel, lending}
 use Rattle.level.specs.Record.{recordLength}
 use Rattle.level.specs.Strip.{columns, IsStrip}
 use Rattle.level.specs.Writing.{writingLevel}
-use Rattle.level.proofs.Dealing.{lt-or-ge, within}
+use Rattle.rules.proofs.Numbers.{lt-or-ge}
+use Rattle.level.proofs.Dealing.{within}
 use Rattle.record.specs.Writing.{RecordPut}
 use Rattle.record.proofs.Tiles.{area-small}
 use Rattle.strip.specs.Writing.{stripLength, LaidAs, StripWritesAs}

@@ -1,7 +1,7 @@
 // Writing a strip: the record, its filling, and the check cells of each lane.
 ghost use Prim.Native.Nat.{_≤_};
 ghost use lib.ListN.{length};
-ghost use Rattle.code.specs.Lanes.{Placed};
+ghost use Rattle.rules.specs.Placed.{Placed};
 ghost use Rattle.level.specs.Sizes.{stripMost};
 ghost use Rattle.level.specs.Level.{IsLevel};
 ghost use Rattle.level.specs.Writing.{lent};

@@ -1,6 +1,8 @@
 use mathlib.Core.Path.{_≡_}
 use native.Mathlib.Omega.{arith}
-use Rattle.lanes.proofs.Repairs.{asked, becomes, columns-fit, yes-lane, no-lane}
+use Rattle.lanes.proofs.Repairs.{asked, columns-fit, yes-lane, no-lane}
+use Rattle.gf256.specs.Gf256.{gf256}
+use Rattle.code.proofs.Gathering.{lane-becomes}
 use borrow.Author.Needs.{needs}
 use Rattle.lanes.proofs.repair_one.Statement.{statement}
 use Rattle.lanes.proofs.repair_one.Tie as tie
@@ -20,7 +22,7 @@ scatter-requires c κs =
     let p = c .before .before .before .before .before .before .before .before .before .pre in
     let m = c .before .before .before .before .before .mend in
     let z = c .before .before .answer .given in
-    let L = becomes (a .strip .now) (a .marks .now) (a .l) (m .result .lane) (m .result .answer) (z .0 .0) (z .1) (m .ensures) in
+    let L = lane-becomes gf256 4 (a .l) (a .marks .now) (a .strip .now) (m .result .lane) (m .result .answer) (z .0 .0) (z .1) (m .ensures) in
     let f = columns-fit (a .strip .now) (p .1 .legal) in
     (p .0, omega (arith, L .len, f), omega (arith, L .len, f, p .1 .fits))
 

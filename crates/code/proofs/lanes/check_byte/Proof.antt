@@ -1,5 +1,5 @@
 use mathlib.Core.Path.{_∙_}
-use Rattle.code.proofs.Placing.{check-byte-is}
+use Rattle.code.proofs.CheckCells.{check-byte-is}
 use borrow.Author.Needs.{needs}
 use Rattle.code.proofs.lanes.check_byte.Statement.{statement}
 use Rattle.code.proofs.lanes.check_byte.Tie as tie

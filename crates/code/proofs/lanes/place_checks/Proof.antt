@@ -2,8 +2,9 @@ use mathlib.Core.Path.{_≡_, refl, subst}
 use Prim.Native.Nat.{ℕ, _+_, _*_, _-_, _/_, _%_, _≤_}
 use native.Mathlib.Omega.{arith}
 use borrow.Author.Needs.{needs}
-use Rattle.code.specs.Lanes.{Placed, checkCell}
-use Rattle.code.proofs.Placing.{placed-0, placed-more}
+use Rattle.rules.specs.Placed.{Placed}
+use Rattle.code.specs.Lanes.{checkCell}
+use Rattle.rules.proofs.Placing.{placed-0, placed-more}
 use Rattle.code.proofs.lanes.place_checks.Statement.{statement}
 use Rattle.code.proofs.lanes.place_checks.Tie as tie
 

@@ -3,7 +3,7 @@ use Prim.Native.Nat.{ℕ, _*_, _-_}
 use native.Mathlib.Omega.{arith}
 use lib.ListN.{take}
 use Rattle.remainder.specs.Remainder.{LanesCheck}
-use Rattle.code.proofs.Placing.{checks-put}
+use Rattle.code.proofs.CheckCells.{checks-put}
 use borrow.Author.Needs.{needs}
 use Rattle.code.proofs.lanes.put_checks.Statement.{statement}
 use Rattle.code.proofs.lanes.put_checks.Tie as tie

@@ -2,8 +2,8 @@ use mathlib.Core.Path.{_≡_, refl, subst}
 use Prim.Native.Nat.{ℕ, _-_, _≤_}
 use native.Mathlib.Omega.{arith}
 use borrow.Author.Needs.{needs}
-use Rattle.code.specs.Lanes.{Placed}
-use Rattle.code.proofs.Placing.{placed-0, placed-more}
+use Rattle.rules.specs.Placed.{Placed}
+use Rattle.rules.proofs.Placing.{placed-0, placed-more}
 use Rattle.strip.proofs.write.fill.Statement.{statement}
 use Rattle.strip.proofs.write.fill.Tie as tie
 

@@ -1,38 +1,19 @@
--- Cells placed one after the other, and the check cells of four lanes.
-use mathlib.Core.Path.{_≡_, refl, sym, ap, ap₂, _∙_, subst}
-use mathlib.Core.Logic.{_⊎_, inl, inr, ⊎-elim}
+-- The check cells of four lanes.
+use mathlib.Core.Path.{_≡_, refl, sym, ap, ap₂, _∙_}
+use mathlib.Core.Logic.{_⊎_, inl, inr}
 use mathlib.Core.List.{List, _++_}
 use Prim.Native.Nat.{ℕ, zero, suc, _+_, _*_, _-_, _/_, _%_, _^_, _≤_, _<_}
-use native.Mathlib.Nat.{eq-or-lt-of-le, eq-zero-or-pos}
 use native.Mathlib.Omega.{arith}
-use lib.ListN.{length, getD, take, set, length-set, length-append, List·getD-append}
-use lib.Seq.{ext-getD, getD-take, getD-append-add, getD-set-same, getD-set-other, length-take-le}
+use lib.ListN.{length, getD, take, length-append, List·getD-append}
+use lib.Seq.{ext-getD, getD-take, getD-append-add, length-take-le}
 use Rattle.account.specs.Lanes.{lane}
 use Rattle.account.proofs.Lanes.{length-lane, getD-lane}
 use Rattle.gf256.specs.Gf256.{gf256}
 use Rattle.remainder.specs.Remainder.{unpacked, LanesCheck}
-use Rattle.code.specs.Lanes.{ChecksPut, Placed, checkCell}
+use Rattle.rules.specs.Placed.{Placed}
+use Rattle.rules.proofs.Numbers.{lt-or-ge}
+use Rattle.code.specs.Lanes.{ChecksPut, checkCell}
 use Rattle.code.proofs.Writing.{word-of}
-
-lt-or-ge : (q n : ℕ) → (q < n) ⊎ (n ≤ q)
-lt-or-ge q n = ⊎-elim (λ e. inr (omega arith)) (λ h. inl (omega arith)) (eq-zero-or-pos (n - q))
-
-module _ (a : ℕ) (v : ℕ → ℕ) (o : List ℕ) where
-  pub placed-0 : Placed a a v o o
-  placed-0 = record { long = refl; inside = λ p h k. absurd (omega arith); outside = λ p h. refl }
-
-  pub placed-more : (x : List ℕ) (b w : ℕ) → a ≤ b → b < length o → w ≡ v b → Placed a b v o x → Placed a (b + 1) v o (set x b w)
-  placed-more x b w ab h e P = record {
-    long = simp length-set (P .long);
-    inside = λ p g k.
-        ⊎-elim (λ q. subst (λ (i : ℕ). getD (set x b w) i 0 ≡ v i) (sym q) (getD-set-same x b w 0 (omega (arith, P .long)) ∙ e))
-        (λ l. getD-set-other x b p w 0 (λ q. omega (arith, q)) ∙ P .inside p g l) (eq-or-lt-of-le {n = p} {m = b} (omega arith));
-    outside = λ p s. getD-set-other x b p w 0 (λ q. apart p s q) ∙ P .outside p (⊎-elim (λ l. inl l) (λ l. inr (omega arith)) s);
-  }
-    where
-      apart : (p : ℕ) → (p < a) ⊎ (b + 1 ≤ p) → p ≡ b → ⊥
-      apart p (inl l) q = omega arith
-      apart p (inr l) q = omega arith
 
 -- check byte i of five packed ones
 pub check-byte-is : (c i : ℕ) → i < 5 → c / 2 ^ (32 - 8 * i) % 256 ≡ getD (unpacked c) i 0

@@ -1,18 +1,20 @@
 -- A slice copied to a lane and back, and the answers of a lane's repair.
-use mathlib.Core.Path.{_≡_, refl, sym, ap, _∙_}
-use mathlib.Core.Logic.{inl, inr}
+use mathlib.Core.Path.{_≡_, refl, sym, ap, _∙_, subst}
 use mathlib.Core.List.{List, _++_, append-nil}
-use Prim.Native.Nat.{ℕ, _+_, _*_, _-_, _%_, _≤_}
+use Prim.Native.Nat.{ℕ, _-_, _≤_}
 use native.Mathlib.Omega.{arith}
 use lib.ListN.{length, take, drop}
 use lib.Seq.{take-at, drop-length, length-take-le}
-use Rattle.rules.specs.Refusal.{First, refused, Within}
-use Rattle.code.specs.Repair.{repairedNumbers, repairing}
+use Rattle.gf256.specs.Gf256.{gf256}
+use Rattle.rules.specs.Refusal.{First, Within}
+use Rattle.rules.proofs.Laws.{stops}
+use Rattle.code.specs.Repair.{repairedNumbers, RepairTold, repairing, RepairsAs}
 use Rattle.code.specs.Lane.{wordOf, LaneRepairsAs}
+use Rattle.code.specs.declared.repair.Repaired.{Repaired}
 use Rattle.code.specs.declared.repair.Repaired.the-variants as repaired
 use Rattle.code.specs.declared.lane.Lane.{Lane}
 use Rattle.code.specs.declared.lane.LaneRepair.{LaneRepair}
-use Rattle.host.specs.Packed.{packedMended, LaneExport}
+use Rattle.host.specs.Packed.{packedMended, RepairExport}
 
 -- ---- copies
 
@@ -23,59 +25,54 @@ lane-holds s o x e = ap (take (length s)) e ∙ take-at s (drop (length s) o) (l
 -- a lane's word over a slice of its length
 pub slice-holds : (b o x : List ℕ) (n : ℕ) → n ≡ length o → n ≤ length b → x ≡ take (n - 0) b ++ drop (length (take (n - 0) b)) o → x ≡ take n b
 slice-holds b o x n e h p =
-    p ∙ ap (λ (k : ℕ). take k b ++ drop (length (take k b)) o) z ∙ ap (λ (k : ℕ). take n b ++ drop k o) (length-take-le n b h ∙ e) ∙ ap (λ (l : List ℕ). take n b ++ l) (drop-length o)
-    ∙ append-nil (take n b)
+    p ∙ ap (λ (k : ℕ). take k b ++ drop (length (take k b)) o) z ∙ ap (λ (k : ℕ). take n b ++ drop k o) (length-take-le n b h ∙ e)
+    ∙ ap (λ (l : List ℕ). take n b ++ l) (drop-length o) ∙ append-nil (take n b)
   where
     z : n - 0 ≡ n
     z = omega arith
 
 -- ---- answers
 
-none : (marks old : List ℕ) (c r : ℕ) → (c ≡ 0 → ⊥) → First (repairing 96 (length old) (length marks) marks old) c → r ≡ packedMended (refused c)
-    → LaneExport marks old old r
+none : (marks old : List ℕ) (c r : ℕ) → (c ≡ 0 → ⊥) → First (repairing gf256 96 (length old) (length marks) marks old) c
+    → r ≡ packedMended (repairedNumbers (repaired.Refused c)) → RepairExport 96 marks old old r
 none marks old c r n f e = record {
   answer = repaired.Refused c;
-  code = f;
-  clean = λ z. absurd (n z);
-  reach = λ z. absurd (n z);
-  value = λ z. absurd (n z);
-  kept = λ _. refl;
+  kept = record {
+    told = n;
+    code = f;
+    cells = λ z. absurd (n z);
+    clean = λ z. absurd (n z);
+    reach = λ z. absurd (n z);
+    mended = λ z. absurd (n z);
+    kept = λ _. refl;
+  };
   is = e;
 }
 
-pub export-1 : (marks old : List ℕ) (r : ℕ) → (Within 6 96 (length old) → ⊥) → r ≡ packedMended (refused 1) → LaneExport marks old old r
-export-1 marks old r n e = none marks old 1 r (λ z. omega arith) (inl (n, refl)) e
+pub export-1 : (marks old : List ℕ) (r : ℕ) → (Within 6 96 (length old) → ⊥) → r ≡ packedMended (repairedNumbers (repaired.Refused 1)) → RepairExport 96 marks old old r
+export-1 marks old r n e = none marks old 1 r (λ z. omega arith) (stops 0 (repairing gf256 96 (length old) (length marks) marks old) 1 (n, refl)) e
 
-pub export-2 : (marks old : List ℕ) (r : ℕ) → 6 ≤ length old → length old ≤ 96 → (length marks ≡ length old → ⊥) → r ≡ packedMended (refused 2)
-    → LaneExport marks old old r
-export-2 marks old r a b n e = none marks old 2 r (λ z. omega arith) (inr (record { from = a; to = b }, inl (n, refl))) e
-
-code-as : {n n' m m' : ℕ} {marks marks' old old' : List ℕ} (c : ℕ) → n ≡ n' → m ≡ m' → marks ≡ marks' → old ≡ old' → First (repairing 96 n m marks old) c
-    → First (repairing 96 n' m' marks' old') c
-code-as c en em ek eo f = rw (← en, ← em, ← ek, ← eo) f
+pub export-2 : (marks old : List ℕ) (r : ℕ) → 6 ≤ length old → length old ≤ 96 → (length marks ≡ length old → ⊥)
+    → r ≡ packedMended (repairedNumbers (repaired.Refused 2)) → RepairExport 96 marks old old r
+export-2 marks old r a b n e =
+    none marks old 2 r (λ z. omega arith) (stops 1 (repairing gf256 96 (length old) (length marks) marks old) 2 (record { from = a; to = b }, (n, refl))) e
 
 -- what the lane's repair says of the lane, said of the slice
-pub export-lane : (marks old new : List ℕ) (l m : Lane) (x : LaneRepair) (r : ℕ) → l .len ≡ length old → wordOf l ≡ old → m .len ≡ length marks → wordOf m ≡ marks
-    → LaneRepairsAs l m x → new ≡ wordOf (x .lane) → r ≡ packedMended (repairedNumbers (x .answer)) → LaneExport marks old new r
-export-lane marks old new l m x r nl wl nm wm R en e = record {
-  answer = x .answer;
-  code = code-as (repairedNumbers (x .answer) .code) nl nm wm wl (R .code);
-  clean = λ z. rw en (R .clean z);
-  reach = λ z. rw (en, ← wl, ← wm) (R .reach z);
-  value = λ z. rw (en, ← wl, ← wm) (R .value z);
-  kept = λ n. en ∙ ap wordOf (R .kept n) ∙ wl;
-  is = e;
-}
+module _ (marks old : List ℕ) (l m : Lane) (x : LaneRepair) (nl : l .len ≡ length old) (wl : wordOf l ≡ old) (nm : m .len ≡ length marks) (wm : wordOf m ≡ marks)
+    (R : LaneRepairsAs l m x) where
+  as-slice : RepairsAs gf256 96 marks old (wordOf (x .lane)) (x .answer)
+  as-slice = rw (← nl, ← nm, ← wl, ← wm) (R .repairs)
 
--- a refusal is told in the lowest bits
-told : (v r : ℕ) → r ≡ 0 % 32 + v % 64 * 2147483648 → r % 32 ≡ 0
-told v r e = omega (arith, e)
+  pub export-mended : (new : List ℕ) (e r : ℕ) → x .answer ≡ repaired.Mended e → new ≡ wordOf (x .lane) → r ≡ packedMended (repairedNumbers (repaired.Mended e))
+      → RepairExport 96 marks old new r
+  export-mended new e r is en p = record { answer = x .answer; kept = rw en as-slice; is = rw is p }
 
--- where one is told, the lane is as it was
-pub export-kept : (marks old : List ℕ) (l m : Lane) (x : LaneRepair) (r : ℕ) → l .len ≡ length old → wordOf l ≡ old → m .len ≡ length marks → wordOf m ≡ marks
-    → LaneRepairsAs l m x → r ≡ packedMended (repairedNumbers (x .answer)) → (r % 32 ≡ 0 → ⊥) → LaneExport marks old old r
-export-kept marks old l m x r nl wl nm wm R e n =
-    export-lane marks old old l m x r nl wl nm wm R (sym (ap wordOf (R .kept refusal) ∙ wl)) e
-  where
-    refusal : repairedNumbers (x .answer) .code ≡ 0 → ⊥
-    refusal z = n (told (repairedNumbers (x .answer) .value) r (e ∙ ap (λ (k : ℕ). k % 32 + repairedNumbers (x .answer) .value % 64 * 2147483648) z))
+  -- with a refusal the slice keeps its bytes, which are the lane's
+  pub export-refused : (c r : ℕ) → x .answer ≡ repaired.Refused c → r ≡ packedMended (repairedNumbers (repaired.Refused c)) → RepairExport 96 marks old old r
+  export-refused c r is p = record { answer = x .answer; kept = subst (λ (v : List ℕ). RepairsAs gf256 96 marks old v (x .answer)) same as-slice; is = rw is p }
+    where
+      refusal : repairedNumbers (x .answer) .code ≡ 0 → ⊥
+      refusal z = subst RepairTold is (as-slice .told) (sym (ap (λ (a : Repaired). repairedNumbers a .code) is) ∙ z)
+
+      same : wordOf (x .lane) ≡ old
+      same = as-slice .kept refusal

@@ -1,25 +1,21 @@
 -- The numbers of an answer have room in the packed number.
 use mathlib.Core.Path.{_≡_, ap, ap₂, _∙_}
-use mathlib.Core.Logic.{inl, inr}
-use mathlib.Core.List.{List, [], _∷_}
-use Prim.Native.Nat.{ℕ, _+_, _*_, _/_, _%_, _^_, _≤_, _<_}
-use native.Mathlib.Nat.{div-lt-iff-lt-mul}
+use Prim.Native.Nat.{ℕ, _+_, _*_, _/_, _%_, _^_, _<_}
 use native.Mathlib.Omega.{arith}
-use lib.ListN.{length}
-use Rattle.account.specs.Lists.{sumOf}
-use Rattle.account.specs.Lanes.{lane}
-use Rattle.account.specs.Reach.{countTo, differsAt, isMarked}
-use Rattle.account.proofs.Lanes.{length-lane}
-use Rattle.rules.specs.Refusal.{Rule, First, Numbers}
-use Rattle.level.specs.Strip.{StripReach, wrongIn, mendedOf}
+use Rattle.rules.specs.Refusal.{Numbers}
+use Rattle.code.specs.Repair.{RepairNumbers}
 use Rattle.level.specs.Reading.{ReadNumbers}
 use Rattle.host.specs.Packed.{packedLength, packedMended, packedRead, unpackedLength, unpackedMended, unpackedRead}
 
 -- ---- packing and unpacking lose nothing
 
-pub record Room (m : ℕ) (n : Numbers) : Type 0 where
+pub record Room (n : Numbers) : Type 0 where
   pub code : n .code < 32
-  pub value : n .value < m
+  pub value : n .value < 512
+
+pub record RepairRoom (n : RepairNumbers) : Type 0 where
+  pub code : n .code < 32
+  pub mended : n .mended < 64
 
 pub record ReadRoom (n : ReadNumbers) : Type 0 where
   pub code : n .code < 32
@@ -33,7 +29,7 @@ pub record ReadRoom (n : ReadNumbers) : Type 0 where
 abbrev numbers : ℕ → ℕ → Numbers
 numbers c v = record { code = c; value = v }
 
-pub back-length : (n : Numbers) → Room 512 n → unpackedLength (packedLength n) ≡ n
+pub back-length : (n : Numbers) → Room n → unpackedLength (packedLength n) ≡ n
 back-length n h = ap₂ (λ (c v : ℕ). numbers c v) low high
   where
     low : (n .code % 32 + n .value % 512 * 2 ^ 55) % 32 ≡ n .code
@@ -42,14 +38,17 @@ back-length n h = ap₂ (λ (c v : ℕ). numbers c v) low high
     high : (n .code % 32 + n .value % 512 * 2 ^ 55) / 2 ^ 55 % 512 ≡ n .value
     high = omega (arith, h .code, h .value)
 
-pub back-mended : (n : Numbers) → Room 64 n → unpackedMended (packedMended n) ≡ n
-back-mended n h = ap₂ (λ (c v : ℕ). numbers c v) low high
+pub back-mended : (n : RepairNumbers) → RepairRoom n → unpackedMended (packedMended n) ≡ n
+back-mended n h = ap₂ (λ (c v : ℕ). made c v) low high
   where
-    low : (n .code % 32 + n .value % 64 * 2 ^ 31) % 32 ≡ n .code
+    made : ℕ → ℕ → RepairNumbers
+    made c v = record { code = c; mended = v }
+
+    low : (n .code % 32 + n .mended % 64 * 2 ^ 31) % 32 ≡ n .code
     low = omega (arith, h .code)
 
-    high : (n .code % 32 + n .value % 64 * 2 ^ 31) / 2 ^ 31 % 64 ≡ n .value
-    high = omega (arith, h .code, h .value)
+    high : (n .code % 32 + n .mended % 64 * 2 ^ 31) / 2 ^ 31 % 64 ≡ n .mended
+    high = omega (arith, h .code, h .mended)
 
 abbrev reads : ℕ → ℕ → ℕ → ℕ → ℕ → ℕ → ℕ → ReadNumbers
 reads c l w h p m v = record { code = c; lane = l; width = w; height = h; par = p; mended = m; wear = v }
@@ -86,29 +85,3 @@ module _ (n : ReadNumbers) (h : ReadRoom n) where
 
       v : packedRead n / 2 ^ 44 % 64 ≡ n .wear
       v = ap (λ (x : ℕ). x / 17592186044416 % 64) plain ∙ omega (arith, h .code, h .lane, h .width, h .height, h .par, h .mended, h .wear)
-
--- ---- refusals are small
-
-abbrev pub Small : List Rule → Type 0
-Small [] = Unit {0}
-Small (r ∷ rs) = (r .number < 32) × Small rs
-
-pub first-small : (rs : List Rule) (c : ℕ) → Small rs → First rs c → c < 32
-first-small [] c s f = omega (arith, f)
-first-small (r ∷ rs) c s (inl a) = omega (arith, a .1, s .0)
-first-small (r ∷ rs) c s (inr a) = first-small rs c (s .1) (a .1)
-
--- ---- mended and wear
-
-pub mended-few : (marks s t : List ℕ) → StripReach 4 marks s t → mendedOf 4 marks s t ≤ 8
-unfolding mendedOf sumOf
-mended-few marks s t h = omega (arith, each 0 (omega arith), each 1 (omega arith), each 2 (omega arith), each 3 (omega arith))
-  where
-    each : (j : ℕ) → j < 4 → wrongIn 4 marks s t j ≤ 2
-    each j k =
-        let q : 2 * countTo (differsAt (lane 4 j marks) (lane 4 j s) (lane 4 j t)) (length s / 4) + countTo (isMarked (lane 4 j marks)) (length s / 4) ≤ 5 =
-        rw (length-lane 4 (omega arith) j s) at (h .each j k .few) in
-        omega arith
-
-pub wear-small : (m N : ℕ) → m ≤ 8 → 24 ≤ N → 100 * m / N < 64
-wear-small m N h k = let some : 0 < N = omega arith in div-lt-iff-lt-mul {k = N} some .1 (omega arith)

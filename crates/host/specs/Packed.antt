@@ -2,23 +2,18 @@
 use mathlib.Core.Path.{_≡_}
 use mathlib.Core.List.{List}
 use Prim.Native.Nat.{ℕ, _+_, _*_, _/_, _%_, _^_}
-use lib.ListN.{length, getD}
-use Rattle.account.specs.Code.{Clean}
-use Rattle.account.specs.Reach.{differing, Reach}
+use lib.ListN.{getD}
 use Rattle.gf256.specs.Gf256.{gf256}
-use Rattle.rules.specs.Refusal.{First, Numbers}
-use Rattle.code.specs.Word.{writtenNumbers, testedNumbers, WritesAs, TestsAs}
-use Rattle.code.specs.Repair.{repairedNumbers, repairing, RepairsAs}
+use Rattle.rules.specs.Refusal.{Numbers}
+use Rattle.code.specs.Word.{wordMost, writtenNumbers, testedNumbers, WritesAs, TestsAs}
+use Rattle.code.specs.Repair.{RepairNumbers, repairedNumbers, RepairsAs}
+use Rattle.code.specs.Lane.{laneMost}
+use Rattle.level.specs.Level.{Level}
 use Rattle.level.specs.Reading.{ReadNumbers}
 use Rattle.record.specs.Writing.{RecordWritesAs}
-use Rattle.record.specs.Reading.{readNumbers, RecordReadsAs}
-use Rattle.record.specs.declared.read.RecordRead.{RecordRead}
+use Rattle.record.specs.Reading.{recordNumbers, RecordReadsAs}
 use Rattle.strip.specs.Writing.{StripWritesAs}
-use Rattle.strip.specs.Reading as strips
-use Rattle.strip.specs.declared.read.Reading.{Reading}
-use Rattle.code.specs.declared.word.Written.{Written}
-use Rattle.code.specs.declared.word.Tested.{Tested}
-use Rattle.code.specs.declared.repair.Repaired.{Repaired}
+use Rattle.strip.specs.Reading.{stripNumbers, StripReadsAs}
 
 -- the code in bits 0 to 4, and a value below m from bit k on
 abbrev pub packedAt : ℕ → ℕ → ℕ → ℕ → ℕ
@@ -29,8 +24,8 @@ abbrev pub packedLength : Numbers → ℕ
 packedLength a = packedAt 55 512 (a .code) (a .value)
 
 -- mended: bits 31 to 36
-abbrev pub packedMended : Numbers → ℕ
-packedMended a = packedAt 31 64 (a .code) (a .value)
+abbrev pub packedMended : RepairNumbers → ℕ
+packedMended a = packedAt 31 64 (a .code) (a .mended)
 
 -- a reader's numbers: code in bits 0 to 4, lane from 5, width from 11, height from 16, par from 21, mended from 31, wear from 44
 abbrev pub packedRead : ReadNumbers → ℕ
@@ -38,14 +33,11 @@ packedRead n =
     n .code % 32 + n .lane % 16 * 2 ^ 5 + n .width % 32 * 2 ^ 11 + n .height % 32 * 2 ^ 16 + n .par % 1024 * 2 ^ 21 + n .mended % 64 * 2 ^ 31 + n .wear % 64 * 2 ^ 44
 
 -- the numbers taken out again, as the header does
-abbrev pub unpackedAt : ℕ → ℕ → ℕ → Numbers
-unpackedAt k m r = record { code = r % 32; value = r / 2 ^ k % m }
-
 abbrev pub unpackedLength : ℕ → Numbers
-unpackedLength = unpackedAt 55 512
+unpackedLength r = record { code = r % 32; value = r / 2 ^ 55 % 512 }
 
-abbrev pub unpackedMended : ℕ → Numbers
-unpackedMended = unpackedAt 31 64
+abbrev pub unpackedMended : ℕ → RepairNumbers
+unpackedMended r = record { code = r % 32; mended = r / 2 ^ 31 % 64 }
 
 abbrev pub unpackedRead : ℕ → ReadNumbers
 unpackedRead r = record {
@@ -62,48 +54,32 @@ unpackedRead r = record {
 abbrev pub packedSums : List ℕ → ℕ
 packedSums s = getD s 0 0 + getD s 1 0 * 256 + getD s 2 0 * 65536 + getD s 3 0 * 16777216 + getD s 4 0 * 4294967296
 
--- an answer of the entry, and its packing
-pub record WriteExport (d old new : List ℕ) (r : ℕ) : Type 0 where
-  pub answer : Written
-  pub writes : WritesAs d old new answer
-  pub is : r ≡ packedLength (writtenNumbers answer)
+-- ---- what an export promises
 
-pub record TestExport (w : List ℕ) (r : ℕ) : Type 0 where
-  pub answer : Tested
-  pub tests : TestsAs w answer
-  pub is : r ≡ packedLength (testedNumbers answer)
+-- r is the packing of an answer that keeps the entry's promise
+pub record Export {A : Type 0} (keeps : A → Type 0) (packed : A → ℕ) (r : ℕ) : Type 0 where
+  pub answer : A
+  pub kept : keeps answer
+  pub is : r ≡ packed answer
 
-pub record RepairExport (marks old new : List ℕ) (r : ℕ) : Type 0 where
-  pub answer : Repaired
-  pub repairs : RepairsAs marks old new answer
-  pub is : r ≡ packedMended (repairedNumbers answer)
+abbrev pub WriteExport : List ℕ → List ℕ → List ℕ → ℕ → Type 0
+WriteExport d old new = Export (WritesAs d old new) (λ a. packedLength (writtenNumbers a))
 
--- the repair of a word, of at most 96 bytes
-pub record LaneExport (marks old new : List ℕ) (r : ℕ) : Type 0 where
-  pub answer : Repaired
-  pub code : First (repairing 96 (length old) (length marks) marks old) (repairedNumbers answer .code)
-  pub clean : repairedNumbers answer .code ≡ 0 → Clean gf256 new
-  pub reach : repairedNumbers answer .code ≡ 0 → Reach marks old new
-  pub value : repairedNumbers answer .code ≡ 0 → repairedNumbers answer .value ≡ differing marks old new
-  pub kept : (repairedNumbers answer .code ≡ 0 → ⊥) → new ≡ old
-  pub is : r ≡ packedMended (repairedNumbers answer)
+abbrev pub TestExport : List ℕ → ℕ → Type 0
+TestExport w = Export (TestsAs w) (λ a. packedLength (testedNumbers a))
 
-pub record RecordExport (w h par : ℕ) (tiles old new : List ℕ) (r : ℕ) : Type 0 where
-  pub answer : Written
-  pub writes : RecordWritesAs w h par tiles old new answer
-  pub is : r ≡ packedLength (writtenNumbers answer)
+-- a word of at most so many bytes
+abbrev pub RepairExport : ℕ → List ℕ → List ℕ → List ℕ → ℕ → Type 0
+RepairExport most marks old new = Export (RepairsAs gf256 most marks old new) (λ a. packedMended (repairedNumbers a))
 
-pub record RecordReadExport (bs old new : List ℕ) (r : ℕ) : Type 0 where
-  pub answer : RecordRead
-  pub reads : RecordReadsAs bs old new answer
-  pub is : r ≡ packedRead (readNumbers answer)
+abbrev pub RecordExport : Level → List ℕ → List ℕ → ℕ → Type 0
+RecordExport l old new = Export (RecordWritesAs l old new) (λ a. packedLength (writtenNumbers a))
 
-pub record StripExport (w h par : ℕ) (tiles old new : List ℕ) (r : ℕ) : Type 0 where
-  pub answer : Written
-  pub writes : StripWritesAs w h par tiles old new answer
-  pub is : r ≡ packedLength (writtenNumbers answer)
+abbrev pub RecordReadExport : List ℕ → List ℕ → List ℕ → ℕ → Type 0
+RecordReadExport bs old new = Export (RecordReadsAs bs old new) (λ a. packedRead (recordNumbers a))
 
-pub record StripReadExport (s marks tiles tiles' scratch scratch' : List ℕ) (r : ℕ) : Type 0 where
-  pub answer : Reading
-  pub reads : strips.StripReadsAs s marks tiles tiles' scratch scratch' answer
-  pub is : r ≡ packedRead (strips.readNumbers answer)
+abbrev pub StripExport : ℕ → Level → List ℕ → List ℕ → ℕ → Type 0
+StripExport R l old new = Export (StripWritesAs R l old new) (λ a. packedLength (writtenNumbers a))
+
+abbrev pub StripReadExport : ℕ → List ℕ → List ℕ → List ℕ → List ℕ → List ℕ → List ℕ → ℕ → Type 0
+StripReadExport R s marks tiles tiles' scratch scratch' = Export (StripReadsAs R s marks tiles tiles' scratch scratch') (λ a. packedRead (stripNumbers a))

@@ -4,12 +4,14 @@ ghost use Prim.Native.Nat.{_<_, _≤_};
 ghost use lib.ListN.{length};
 ghost use Rattle.account.specs.Code.{alphaTo, syndrome};
 ghost use Rattle.gf256.specs.Gf256.{gf256, times};
-ghost use Rattle.code.specs.Word.{writtenNumbers, testedNumbers};
+ghost use Rattle.code.specs.Word.{wordMost, writtenNumbers, testedNumbers};
 ghost use Rattle.code.specs.Repair.{repairedNumbers};
-ghost use Rattle.code.specs.Lane.{wordOf};
-ghost use Rattle.record.specs.Reading.{readNumbers};
-ghost use Rattle.strip.specs.Reading as strips;
-ghost use Rattle.host.specs.Packed.{packedAt, packedLength, packedMended, packedRead, packedSums, WriteExport, TestExport, RepairExport, LaneExport, RecordExport, RecordReadExport, StripExport, StripReadExport};
+ghost use Rattle.code.specs.Lane.{laneMost, wordOf};
+ghost use Rattle.level.specs.Writing.{lent};
+ghost use Rattle.record.specs.Reading.{recordNumbers};
+ghost use Rattle.strip.specs.Reading.{stripNumbers};
+ghost use Rattle.host.specs.Packed.{packedAt, packedLength, packedMended, packedRead, packedSums, WriteExport, TestExport, RepairExport, RecordExport, RecordReadExport, StripExport, StripReadExport};
+use code::lane::LANE_MOST;
 use code::lane::Lane;
 use code::repair::Repaired;
 use code::word::Tested;
@@ -78,17 +80,17 @@ pub extern "C" fn zav_word_test(word: &[u8]) -> u64
 // Repairs a word in place.
 #[no_mangle]
 pub extern "C" fn zav_word_repair(word: &mut [u8], marks: &[u8]) -> u64
-    ensures { λ r. ⌜ RepairExport (now (marks .entry)) (now (word .entry)) (now (word .exit)) r ⌝ }
+    ensures { λ r. ⌜ RepairExport wordMost (now (marks .entry)) (now (word .entry)) (now (word .exit)) r ⌝ }
 {
     pack_repaired(code::repair::repair(word, marks))
 }
 
 // A slice as a lane by value.
 fn lane_of(s: &[u8]) -> Lane
-    requires { ⌜ length (now s) ≤ 96 ⌝ }
+    requires { ⌜ length (now s) ≤ laneMost ⌝ }
     ensures { λ r. ⌜ (r .len ≡ length (now (s .entry))) × (wordOf r ≡ now (s .entry)) ⌝ }
 {
-    let mut bytes = [0u8; 96];
+    let mut bytes = [0u8; LANE_MOST];
     rules::copy(s, &mut bytes);
     Lane {
         bytes,
@@ -98,7 +100,7 @@ fn lane_of(s: &[u8]) -> Lane
 
 // A lane, written over a slice of its length.
 fn put_back(lane: Lane, s: &mut [u8])
-    requires { ⌜ (lane .len ≡ length (now s)) × (length (now s) ≤ 96) ⌝ }
+    requires { ⌜ (lane .len ≡ length (now s)) × (length (now s) ≤ laneMost) ⌝ }
     ensures { λ _. ⌜ now (s .exit) ≡ wordOf lane ⌝ }
 {
     let n = lane.len;
@@ -109,10 +111,10 @@ fn put_back(lane: Lane, s: &mut [u8])
 // Repairs a lane of at most 96 bytes in place.
 #[no_mangle]
 pub extern "C" fn zav_lane_repair(lane: &mut [u8], marks: &[u8]) -> u64
-    ensures { λ r. ⌜ LaneExport (now (marks .entry)) (now (lane .entry)) (now (lane .exit)) r ⌝ }
+    ensures { λ r. ⌜ RepairExport laneMost (now (marks .entry)) (now (lane .entry)) (now (lane .exit)) r ⌝ }
 {
     let n = lane.len();
-    if 96 < n {
+    if LANE_MOST < n {
         return pack_repaired(Repaired::Refused(1));
     }
     if n < 6 {
@@ -122,14 +124,15 @@ pub extern "C" fn zav_lane_repair(lane: &mut [u8], marks: &[u8]) -> u64
         return pack_repaired(Repaired::Refused(2));
     }
     let r = code::lane::repair_lane(lane_of(lane), lane_of(marks));
-    let mended = r.lane;
     let answer = r.answer;
-    let told = pack_repaired(answer);
-    if told % 32 != 0 {
-        return told;
+    let mended = r.lane;
+    match answer {
+        Repaired::Mended(e) => {
+            put_back(mended, lane);
+            pack_mended(0, e)
+        }
+        Repaired::Refused(c) => pack_mended(c, 0),
     }
-    put_back(mended, lane);
-    told
 }
 
 // The product of two bytes.
@@ -176,7 +179,7 @@ pub extern "C" fn zav_record_write(
     tiles: &[u8],
     record: &mut [u8],
 ) -> u64
-    ensures { λ r. ⌜ RecordExport width height par (now (tiles .entry)) (now («record» .entry)) (now («record» .exit)) r ⌝ }
+    ensures { λ r. ⌜ RecordExport (lent width height par (now (tiles .entry))) (now («record» .entry)) (now («record» .exit)) r ⌝ }
 {
     pack_written(record::write::write(width, height, par, tiles, record))
 }
@@ -203,7 +206,7 @@ fn pack_numbers(
 }
 
 fn pack_level(a: RecordRead) -> u64
-    ensures { λ r. ⌜ r ≡ packedRead (readNumbers a) ⌝ }
+    ensures { λ r. ⌜ r ≡ packedRead (recordNumbers a) ⌝ }
 {
     match a {
         RecordRead::Level { width, height, par } => pack_numbers(0, 0, width, height, par, 0, 0),
@@ -212,7 +215,7 @@ fn pack_level(a: RecordRead) -> u64
 }
 
 fn pack_reading(a: Reading) -> u64
-    ensures { λ r. ⌜ r ≡ packedRead (strips.readNumbers a) ⌝ }
+    ensures { λ r. ⌜ r ≡ packedRead (stripNumbers a) ⌝ }
 {
     match a {
         Reading::Read {
@@ -243,7 +246,7 @@ pub extern "C" fn zav_strip_write(
     tiles: &[u8],
     strip: &mut [u8],
 ) -> u64
-    ensures { λ r. ⌜ StripExport width height par (now (tiles .entry)) (now (strip .entry)) (now (strip .exit)) r ⌝ }
+    ensures { λ r. ⌜ StripExport 4 (lent width height par (now (tiles .entry))) (now (strip .entry)) (now (strip .exit)) r ⌝ }
 {
     pack_written(strip::write::write(width, height, par, tiles, strip))
 }
@@ -256,7 +259,7 @@ pub extern "C" fn zav_strip_read(
     tiles: &mut [u8],
     scratch: &mut [u8],
 ) -> u64
-    ensures { λ r. ⌜ StripReadExport (now (strip .entry)) (now (marks .entry)) (now (tiles .entry)) (now (tiles .exit)) (now (scratch .entry)) (now (scratch .exit)) r ⌝ }
+    ensures { λ r. ⌜ StripReadExport 4 (now (strip .entry)) (now (marks .entry)) (now (tiles .entry)) (now (tiles .exit)) (now (scratch .entry)) (now (scratch .exit)) r ⌝ }
 {
     pack_reading(strip::read::read(strip, marks, tiles, scratch))
 }

@@ -1,4 +1,6 @@
 // Reads a strip followed by as many marks from standard input, and prints one line: the level's numbers, or a refusal's.
+use level::SCRATCH_LEAST;
+use level::TILES_MOST;
 use strip::read::Reading;
 
 fn put(text: &[u8], n: u64) {
@@ -6,7 +8,7 @@ fn put(text: &[u8], n: u64) {
     io::print_decimal(1, n);
 }
 
-// "numbers in decimal .. being width, height, par, mended, wear"; of a refusal "being code and lane"
+// Numbers in decimal: width, height, par, mended, wear; of a refusal its number and lane.
 fn show(a: Reading) {
     match a {
         Reading::Read {
@@ -42,8 +44,8 @@ fn main() {
         show(Reading::Refused { code: 1, lane: 0 });
         return;
     }
-    let mut tiles = [0u8; 961];
-    let mut scratch = [0u8; 384];
+    let mut tiles = [0u8; TILES_MOST];
+    let mut scratch = [0u8; SCRATCH_LEAST];
     let h = n / 2;
     let all = &bytes[..];
     let a = strip::read::read(&all[0..h], &all[h..n], &mut tiles, &mut scratch);

@@ -1,6 +1,6 @@
 use mathlib.Core.Path.{sym, ap, _∙_}
 use Rattle.record.specs.declared.read.RecordRead.{RecordRead}
-use Rattle.record.specs.Reading.{readNumbers}
+use Rattle.record.specs.Reading.{recordNumbers}
 use Rattle.host.specs.Packed.{packedRead}
 use borrow.Author.Needs.{needs}
 use Rattle.host.proofs.pack_level.Statement.{statement}
@@ -19,10 +19,10 @@ pack-numbers-requires-2 : tie.Need-pack-numbers-requires-2
 pack-numbers-requires-2 c κs = search needs
 
 returns : tie.Need-returns
-returns c = c .pack-numbers .ensures ∙ sym (ap (λ (a : RecordRead). packedRead (readNumbers a)) (c .before .before .a .given .1))
+returns c = c .pack-numbers .ensures ∙ sym (ap (λ (a : RecordRead). packedRead (recordNumbers a)) (c .before .before .a .given .1))
 
 returns-2 : tie.Need-returns-2
-returns-2 c = c .pack-numbers2 .ensures ∙ sym (ap (λ (a : RecordRead). packedRead (readNumbers a)) (c .before .before .a2 .given .1))
+returns-2 c = c .pack-numbers2 .ensures ∙ sym (ap (λ (a : RecordRead). packedRead (recordNumbers a)) (c .before .before .a2 .given .1))
 
 pub pack-level-spec : {M : Type 1} → statement M
 pack-level-spec =

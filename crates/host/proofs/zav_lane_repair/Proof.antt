@@ -1,6 +1,6 @@
 use native.Mathlib.Omega.{arith}
 use borrow.Author.Needs.{needs}
-use Rattle.host.proofs.LaneOf.{export-1, export-2, export-lane, export-kept}
+use Rattle.host.proofs.LaneOf.{export-1, export-2, export-mended, export-refused}
 use Rattle.host.proofs.zav_lane_repair.Statement.{statement}
 use Rattle.host.proofs.zav_lane_repair.Tie as tie
 
@@ -37,37 +37,47 @@ lane-of-requires-2 c κs = search needs
 repair-lane-requires : tie.Need-repair-lane-requires
 repair-lane-requires c κs = search needs
 
-pack-repaired-requires-4 : tie.Need-pack-repaired-requires-4
-pack-repaired-requires-4 c κs = search needs
+enum-known-answer : tie.Need-enum-known-answer
+enum-known-answer c = search needs
+
+put-back-requires : tie.Need-put-back-requires
+put-back-requires c κs = search needs
+
+pack-mended-requires : tie.Need-pack-mended-requires
+pack-mended-requires c κs = search needs
+
+enum-known-answer-2 : tie.Need-enum-known-answer-2
+enum-known-answer-2 c = search needs
+
+pack-mended-requires-2 : tie.Need-pack-mended-requires-2
+pack-mended-requires-2 c κs = search needs
 
 same-length : tie.Need-same-length
 same-length c = search needs
 
 returns-4 : tie.Need-returns-4
 returns-4 c =
-    let a = c .before .before .before .before .before .before .before .before .before .before .before .before .args in
-    let l = c .before .before .before .before .before .lane-of in
-    let m = c .before .before .before .before .lane-of2 in
-    let x = c .before .before .before .repair-lane in
-    export-kept (a .marks .now) (a .lane .now) (l .result) (m .result) (x .result) (c .before .pack-repaired4 .result) (l .ensures .0) (l .ensures .1) (m .ensures .0) (m .ensures .1) (x .ensures)
-    (c .before .pack-repaired4 .ensures) (c .if4 .taken)
-
-put-back-requires : tie.Need-put-back-requires
-put-back-requires c κs = search needs
+    let a = c .before .before .before .before .before .before .before .before .before .before .before .before .before .before .before .before .before .before .args in
+    let l = c .before .before .before .before .before .before .before .before .before .before .before .lane-of in
+    let m = c .before .before .before .before .before .before .before .before .before .before .lane-of2 in
+    let x = c .before .before .before .before .before .before .before .before .before .repair-lane in
+    let z = c .before .before .before .before .before .before .answer .given in
+    let p = c .before .before .before .put-back in
+    export-mended (a .marks .now) (a .lane .now) (l .result) (m .result) (x .result) (l .ensures .0) (l .ensures .1) (m .ensures .0) (m .ensures .1) (x .ensures)
+    (p .last .1 .0) (z .0 .0) (c .pack-mended .result) (z .1) (p .ensures) (c .pack-mended .ensures)
 
 same-length-2 : tie.Need-same-length-2
 same-length-2 c = search needs
 
 returns-5 : tie.Need-returns-5
 returns-5 c =
-    let a = c .before .before .before .before .before .before .before .before .before .before .before .before .before .before .before .before .args in
-    let l = c .before .before .before .before .before .before .before .before .before .lane-of in
-    let m = c .before .before .before .before .before .before .before .before .lane-of2 in
-    let x = c .before .before .before .before .before .before .before .repair-lane in
-    let p = c .before .before .put-back in
-    let k = c .before .before .before .before .before .pack-repaired4 in
-    export-lane (a .marks .now) (a .lane .now) (p .last .1 .0) (l .result) (m .result) (x .result) (k .result) (l .ensures .0) (l .ensures .1) (m .ensures .0) (m .ensures .1) (x .ensures)
-    (p .ensures) (k .ensures)
+    let a = c .before .before .before .before .before .before .before .before .before .before .before .before .before .before .args in
+    let l = c .before .before .before .before .before .before .before .lane-of in
+    let m = c .before .before .before .before .before .before .lane-of2 in
+    let x = c .before .before .before .before .before .repair-lane in
+    let z = c .before .before .answer2 .given in
+    export-refused (a .marks .now) (a .lane .now) (l .result) (m .result) (x .result) (l .ensures .0) (l .ensures .1) (m .ensures .0) (m .ensures .1) (x .ensures)
+    (z .0 .0) (c .pack-mended2 .result) (z .1) (c .pack-mended2 .ensures)
 
 pub zav-lane-repair-spec : {M : Type 1} → statement M
 zav-lane-repair-spec =
@@ -82,9 +92,12 @@ zav-lane-repair-spec =
     lane-of-requires
     lane-of-requires-2
     repair-lane-requires
-    pack-repaired-requires-4
+    enum-known-answer
+    put-back-requires
+    pack-mended-requires
+    enum-known-answer-2
+    pack-mended-requires-2
     same-length
     returns-4
-    put-back-requires
     same-length-2
     returns-5)

@@ -51,7 +51,7 @@ word-of d w x C is = record {
   clean = subst (Clean gf256) (sym is) (C .clean);
 }
 
-pub wrote : (d old mid new : List ℕ) (x : ℕ) → 1 ≤ length d → length d ≤ 250 → length old ≡ length d + 5 → Checks d x → mid ≡ d ++ drop (length d) old
+pub wrote : (d old mid new : List ℕ) (x : ℕ) → 1 ≤ length d → length d ≤ dataMost → length old ≡ length d + 5 → Checks d x → mid ≡ d ++ drop (length d) old
     → new ≡ sets mid (length d) (unpacked x) → WritesAs d old new (written.Length (length d + 5))
 wrote d old mid new x l h e C em en = record {
   code = hold-first (writing d old) (record { from = l; to = h }, (e, tt));
@@ -70,7 +70,7 @@ module _ (d old : List ℕ) where
   pub refused-1 : (Within 1 dataMost (length d) → ⊥) → WritesAs d old old (written.Refused 1)
   refused-1 h = none 1 (λ z. omega (arith, z)) (stops 0 (writing d old) 1 (h, refl))
 
-  pub refused-4 : 1 ≤ length d → length d ≤ 250 → length old ≢ length d + 5 → WritesAs d old old (written.Refused 4)
+  pub refused-4 : 1 ≤ length d → length d ≤ dataMost → length old ≢ length d + 5 → WritesAs d old old (written.Refused 4)
   refused-4 low high h = none 4 (λ z. omega (arith, z)) (stops 1 (writing d old) 4 (record { from = low; to = high }, (h, refl)))
 
 -- ---- the test

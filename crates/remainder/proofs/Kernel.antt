@@ -1,22 +1,17 @@
--- Horner's rule on packed bytes, the table's rule, and the steps.
+-- Horner's rule on packed bytes, and the steps.
 use mathlib.Core.Path.{_≡_, refl, sym, ap, ap₂, _∙_, subst}
-use mathlib.Core.Bool.{Bool, true, false}
 use mathlib.Core.List.{List, [], _∷_}
 use Prim.Native.Nat.{ℕ, _+_, _*_, _/_, _%_, _^_, _<_}
 use native.Mathlib.Nat.{mod-lt, zero-lt-suc}
 use native.Mathlib.Omega.{arith}
-use lib.Dec.{T, eqb, ltb, eqb→eq, ltb→lt}
-use lib.ListN.{length, getD}
+use lib.ListN.{length}
 use lib.Bits.{bitXor, xor-shr, xor-mod, xor-lt, xor-shifted, xor-comm}
 use Rattle.account.specs.Field.{power}
-use Rattle.account.specs.Product.{product}
 use Rattle.account.specs.Code.{alphaTo}
 use Rattle.account.proofs.Laws as laws
-use Rattle.account.proofs.Words.{five}
-use Rattle.account.proofs.Test.{both, both-left, both-right, upto, upto-at}
 use Rattle.gf256.specs.Gf256.{gf256, times}
 use Rattle.gf256.proofs.Field256.{field256}
-use Rattle.remainder.specs.Remainder.{packedEnd, unpacked, horn, hornAll, at5, Reduced, Reductions, Moved}
+use Rattle.remainder.specs.Remainder.{packedEnd, unpacked, horn, hornAll, at5, Reduced, Moved}
 
 -- all are bytes
 abbrev pub AllBytes : List ℕ → Type 0
@@ -75,112 +70,20 @@ module _ (y : ℕ) where
   unfolding at5
   at5-xor a b = ap (hornAll y 0) (unpacked-xor a b) ∙ horn-xor 0 0 (unpacked a) (unpacked b) refl
 
--- ---- the table's rule, by one computed test
-
-abbrev pub reductions : List ℕ
-reductions =
-    0 ∷ 888637148673 ∷ 557570949378 ∷ 340228787971 ∷ 136360959748 ∷ 899147223301 ∷ 680457575942 ∷ 345888018439
-    ∷ 267955420680 ∷ 1033032298505 ∷ 823336812298 ∷ 486746124555 ∷ 145439334668 ∷ 1027474124557 ∷ 687413764110 ∷ 476404477455
-    ∷ 0 ∷ 535910841360 ∷ 1067594151968 ∷ 568401036336 ∷ 1018968403264 ∷ 626964140368 ∷ 93124957536 ∷ 452723239280
-    ∷ 856820729728 ∷ 806257998736 ∷ 274608373664 ∷ 288453378992 ∷ 181483416256 ∷ 371640981200 ∷ 905446478560 ∷ 747694894832
-    ∷ 0 ∷ 466717150158 ∷ 928939314049 ∷ 776912732239 ∷ 745482098207 ∷ 829879786961 ∷ 506188209566 ∷ 109281121872
-    ∷ 305905544254 ∷ 187164960752 ∷ 684787050431 ∷ 1047351241841 ∷ 1007896902177 ∷ 575556334063 ∷ 218545205664 ∷ 404948367982
-    ∷ 0 ∷ 611811088508 ∷ 8129458424 ∷ 616701487236 ∷ 12163972589 ∷ 604110792081 ∷ 13716081941 ∷ 606718825833
-    ∷ 20251081415 ∷ 596023616187 ∷ 22875949631 ∷ 597559022147 ∷ 27414595370 ∷ 584396693334 ∷ 32321583058 ∷ 592509169582
-    ∷ 0 ∷ 682647747180 ∷ 145994279384 ∷ 820558304180 ∷ 287356211117 ∷ 945282495937 ∷ 425640863349 ∷ 1090566609945
-    ∷ 570485867335 ∷ 112262805803 ∷ 709448985247 ∷ 257136890099 ∷ 851281726698 ∷ 381256054406 ∷ 995521701170 ∷ 520652480350
-    ∷ 0 ∷ 93334477710 ∷ 182189438465 ∷ 274080804239 ∷ 364378876930 ∷ 281010468748 ∷ 544353180163 ∷ 459675877773
-    ∷ 724528650244 ∷ 811923850122 ∷ 562004487685 ∷ 650171184523 ∷ 1084075127814 ∷ 1004431126408 ∷ 919336878599 ∷ 840598591881
-    ∷ 0 ∷ 1010597590942 ∷ 874438913569 ∷ 141009459647 ∷ 597757641026 ∷ 413951506140 ∷ 277927112547 ∷ 738632685821
-    ∷ 48758955908 ∷ 962442684442 ∷ 827902947749 ∷ 187075593787 ∷ 551758814918 ∷ 460554250584 ∷ 326148927719 ∷ 689941170041
-    ∷ 0 ∷ 97517839125 ∷ 190942889514 ∷ 252355634495 ∷ 381885779028 ∷ 336595955521 ∷ 500887964286 ∷ 421640530283
-    ∷ 759291970984 ∷ 715075364541 ∷ 673173291906 ∷ 592852639895 ∷ 997027908092 ∷ 1093471480553 ∷ 843263496150 ∷ 905750506691 ∷ []
-
--- x is a at the power 5 + k, seen from y
-right : ℕ → ℕ → ℕ → ℕ → Bool
-right k a x y = both (ltb x packedEnd) (eqb (at5 y x) (times a (power gf256 y (5 + k))))
-
--- at the five roots
-all : ℕ → ℕ → ℕ → Bool
-all k a x = both (right k a x 71) (both (right k a x 142) (both (right k a x 1) (both (right k a x 2) (right k a x 4))))
-
-row : ℕ → Bool
-row i =
-    both (all (i / 16) (i % 16) (getD reductions (32 * (i / 16) + i % 16) 0))
-    (all (i / 16) (16 * (i % 16)) (getD reductions (32 * (i / 16) + 16 + i % 16) 0))
-
-tested : T (upto row 64)
-unfolding row all right at5 power product
-tested = tt
-
-five-of : (a b c d e : Bool) → T (both a (both b (both c (both d e)))) → T a × T b × T c × T d × T e
-five-of true true true true e t = (tt, tt, tt, tt, t)
-five-of false b c d e t = absurd t
-five-of true false c d e t = absurd t
-five-of true true false d e t = absurd t
-five-of true true true false e t = absurd t
-
-reduced-by : (k a x : ℕ) → T (all k a x) → Reduced k a x
-unfolding all right alphaTo power product
-reduced-by k a x t =
-    record {
-      small = ltb→lt x packedEnd (small 71 (s .0));
-      roots =
-          five (λ j. at5 (alphaTo gf256 j) x ≡ times a (power gf256 (alphaTo gf256 j) (5 + k)))
-          (at 71 (s .0)) (at 142 (s .1)) (at 1 (s .2)) (at 2 (s .3)) (at 4 (s .4));
-    }
-  where
-    s : T (right k a x 71) × T (right k a x 142) × T (right k a x 1) × T (right k a x 2) × T (right k a x 4)
-    s = five-of (right k a x 71) (right k a x 142) (right k a x 1) (right k a x 2) (right k a x 4) t
-
-    small : (y : ℕ) → T (right k a x y) → T (ltb x packedEnd)
-    small y u = both-left (ltb x packedEnd) (eqb (at5 y x) (times a (power gf256 y (5 + k)))) u
-
-    at : (y : ℕ) → T (right k a x y) → at5 y x ≡ times a (power gf256 y (5 + k))
-    at y u = eqb→eq (at5 y x) (times a (power gf256 y (5 + k))) (both-right (ltb x packedEnd) (eqb (at5 y x) (times a (power gf256 y (5 + k)))) u)
-
-row-at : (k v : ℕ) → k < 4 → v < 16 → T (all k v (getD reductions (32 * k + v) 0)) × T (all k (16 * v) (getD reductions (32 * k + 16 + v) 0))
-unfolding row
-row-at k v hk hv =
-    subst (λ (q : ℕ). T (all q v (getD reductions (32 * q + v) 0)) × T (all q (16 * v) (getD reductions (32 * q + 16 + v) 0))) quotient
-    (subst (λ (p : ℕ). T (all (i / 16) p (getD reductions (32 * (i / 16) + p) 0)) × T (all (i / 16) (16 * p) (getD reductions (32 * (i / 16) + 16 + p) 0))) rest
-    (both-left lo hi t, both-right lo hi t))
-  where
-    i : ℕ
-    i = 16 * k + v
-
-    quotient : i / 16 ≡ k
-    quotient = omega arith
-
-    rest : i % 16 ≡ v
-    rest = omega arith
-
-    lo : Bool
-    lo = all (i / 16) (i % 16) (getD reductions (32 * (i / 16) + i % 16) 0)
-
-    hi : Bool
-    hi = all (i / 16) (16 * (i % 16)) (getD reductions (32 * (i / 16) + 16 + i % 16) 0)
-
-    t : T (both lo hi)
-    t = upto-at row 64 tested i (omega arith)
-
-pub reductions-right : Reductions reductions
-reductions-right = record {
-  low = λ k v hk hv. reduced-by k v (getD reductions (32 * k + v) 0) (row-at k v hk hv .0);
-  high = λ k v hk hv. reduced-by k (16 * v) (getD reductions (32 * k + 16 + v) 0) (row-at k v hk hv .1);
-}
-
 -- ---- the steps
 
--- a byte from its halves
-pub whole-byte : (k a x z : ℕ) → a < 256 → Reduced k (a % 16) x → Reduced k (16 * (a / 16)) z → Reduced k a (bitXor x z)
-whole-byte k a x z h X Z = record {
+-- two bytes at one power, added
+pub joined : (k a b x z : ℕ) → Reduced k a x → Reduced k b z → Reduced k (bitXor a b) (bitXor x z)
+joined k a b x z X Z = record {
   small = xor-lt 40 x z (X .small) (Z .small);
   roots = λ j l u.
       at5-xor (alphaTo gf256 j) x z ∙ ap₂ bitXor (X .roots j l u) (Z .roots j l u)
-      ∙ sym (laws.add-mul gf256 field256 (a % 16) (16 * (a / 16)) (power gf256 (alphaTo gf256 j) (5 + k)))
-      ∙ ap (λ (b : ℕ). times b (power gf256 (alphaTo gf256 j) (5 + k))) halves;
+      ∙ sym (laws.add-mul gf256 field256 a b (power gf256 (alphaTo gf256 j) (5 + k)));
 }
+
+-- a byte from its halves
+pub whole-byte : (k a x z : ℕ) → a < 256 → Reduced k (a % 16) x → Reduced k (16 * (a / 16)) z → Reduced k a (bitXor x z)
+whole-byte k a x z h X Z = subst (λ (b : ℕ). Reduced k b (bitXor x z)) halves (joined k (a % 16) (16 * (a / 16)) x z X Z)
   where
     sixteen : 16 * (a / 16) ≡ a / 16 * 2 ^ 4
     sixteen = omega arith

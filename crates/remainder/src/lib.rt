@@ -12,7 +12,7 @@ ghost use Rattle.gf256.specs.Tables.{Tables};
 ghost use Rattle.remainder.specs.Remainder.{packedEnd, Reductions, Reduced, Moved, Remains, Checks, LanesTo, LanesRemain, LanesCheck, at5, unpacked};
 use tables::REDUCTIONS;
 
-pub mod tables; // what half bytes at high powers come to
+mod tables; // what half bytes at high powers come to
 
 fn wide(x: u8) -> u64
     ensures { λ r. ⌜ r ≡ x ⌝ }

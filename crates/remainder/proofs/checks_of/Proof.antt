@@ -1,10 +1,11 @@
-use Rattle.remainder.proofs.Kernel.{reductions-right}
+use Rattle.remainder.proofs.Rules.{reduces, reductions-right}
 use borrow.Author.Needs.{needs}
 use Rattle.remainder.proofs.checks_of.Statement.{statement}
 use Rattle.remainder.proofs.checks_of.Tie as tie
 
 checks-requires : tie.Need-checks-requires
-checks-requires c κs = reductions-right
+unfolding reduces
+checks-requires c κs = reductions-right _ tt
 
 returns : tie.Need-returns
 returns c = search needs

@@ -1,10 +1,11 @@
 use borrow.Author.Needs.{needs}
-use Rattle.remainder.proofs.Kernel.{reductions-right}
+use Rattle.remainder.proofs.Rules.{reduces, reductions-right}
 use Rattle.remainder.proofs.lane_checks_of.Statement.{statement}
 use Rattle.remainder.proofs.lane_checks_of.Tie as tie
 
 lane-checks-requires : tie.Need-lane-checks-requires
-lane-checks-requires c κs = reductions-right
+unfolding reduces
+lane-checks-requires c κs = reductions-right _ tt
 
 returns : tie.Need-returns
 returns c = search needs

@@ -1,10 +1,11 @@
-use Rattle.remainder.proofs.Kernel.{reductions-right}
+use Rattle.remainder.proofs.Rules.{reduces, reductions-right}
 use borrow.Author.Needs.{needs}
 use Rattle.remainder.proofs.remainder_of.Statement.{statement}
 use Rattle.remainder.proofs.remainder_of.Tie as tie
 
 of-word-requires : tie.Need-of-word-requires
-of-word-requires c κs = reductions-right
+unfolding reduces
+of-word-requires c κs = reductions-right _ tt
 
 returns : tie.Need-returns
 returns c = search needs

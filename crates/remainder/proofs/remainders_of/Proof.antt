@@ -1,10 +1,11 @@
 use borrow.Author.Needs.{needs}
-use Rattle.remainder.proofs.Kernel.{reductions-right}
+use Rattle.remainder.proofs.Rules.{reduces, reductions-right}
 use Rattle.remainder.proofs.remainders_of.Statement.{statement}
 use Rattle.remainder.proofs.remainders_of.Tie as tie
 
 of-lanes-requires : tie.Need-of-lanes-requires
-of-lanes-requires c κs = reductions-right
+unfolding reduces
+of-lanes-requires c κs = reductions-right _ tt
 
 returns : tie.Need-returns
 returns c = search needs

@@ -28,7 +28,7 @@ sumTo O zero f = 0
 sumTo O (suc n) f = O ._⊕_ (sumTo O n f) (f n)
 
 -- The laws of a field whose sum is its own inverse, with 0 and 1 as its nothing and its unit. The ring's laws hold at all
--- numbers, so that they need no side condition; only the unit and the inverse ask for an element.
+-- numbers, so that they need no side condition; only the unit and the inverse ask for an element. Of α: FORMAT 1.6, 1.7 and 1.10.
 module _ (O : Ops) where
   open Ops O using (_⊕_, _⊗_, α, α⁻¹, order)
 

@@ -1,4 +1,4 @@
--- The generator of the code, and its multiples. A word is a polynomial: its first cell has the highest power.
+-- FORMAT 2.8, 2.9: the generator of the code, and its multiples. A word is a polynomial: its first cell has the highest power.
 use mathlib.Core.Path.{_≡_}
 use mathlib.Core.List.{List, [], _∷_, _++_}
 use Prim.Native.Nat.{ℕ, _-_}
@@ -36,11 +36,11 @@ module _ (O : Ops) where
   abbrev pub factor : ℤ → List ℕ
   factor j = 1 ∷ alphaTo O j ∷ []
 
-  -- the product of the t + α^j, for j from -2 to 2
+  -- FORMAT 2.8: the product of the t + α^j, for j from -2 to 2
   unfoldable pub generator : List ℕ
   generator = times (factor (negsuc 1)) (times (factor (negsuc 0)) (times (factor (pos 0)) (times (factor (pos 1)) (factor (pos 2)))))
 
-  -- w is a multiple of the generator
+  -- FORMAT 2.9: w is a multiple of the generator
   pub record Multiple (w : List ℕ) : Type 0 where
     pub quotient : List ℕ
     pub cells : Cells O quotient

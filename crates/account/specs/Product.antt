@@ -1,5 +1,5 @@
--- The fields GF(2^w): the bits of a number below 2^w are a polynomial over the two-element field, the constant lowest. The sum is
--- exclusive or.
+-- FORMAT 1.1, 1.2, for every field GF(2^w): the bits of a number below 2^w are a polynomial over the two-element field, the constant
+-- lowest. The sum is exclusive or.
 use Prim.Native.Nat.{ℕ, zero, suc, _*_, _/_, _%_, _^_}
 use lib.Bits.{bitXor}
 use Rattle.account.specs.Field.{Ops}
@@ -20,11 +20,11 @@ unfolding timesT
 horner top poly zero a b = 0
 horner top poly (suc n) a b = bitXor (timesT top poly (horner top poly n a (b / 2))) (bitTimes (b % 2) a)
 
--- the product modulo poly, a polynomial of degree suc k
+-- FORMAT 1.3: the product modulo poly, a polynomial of degree suc k
 unfoldable pub product : ℕ → ℕ → ℕ → ℕ → ℕ
 unfolding horner
 product k poly a b = horner (2 ^ k) poly (suc k) (a % 2 ^ suc k) (b % 2 ^ suc k)
 
--- the field modulo poly; α is t, that is 2
+-- FORMAT 1.2, 1.3, 1.5: the field modulo poly; α is t, that is 2
 abbrev pub binary : ℕ → ℕ → ℕ → ℕ → Ops
 binary k poly inverse n = record { size = 2 ^ suc k; _⊕_ = bitXor; _⊗_ = product k poly; α = 2; α⁻¹ = inverse; order = n }

@@ -1,4 +1,4 @@
--- Marks, differences and reach.
+-- FORMAT 3: marks, differences and reach.
 use mathlib.Core.Bool.{Bool, true, false, not}
 use mathlib.Core.Path.{_≡_}
 use mathlib.Core.List.{List}
@@ -21,11 +21,11 @@ unfoldable pub countTo : (ℕ → Bool) → ℕ → ℕ
 countTo f zero = 0
 countTo f (suc n) = countTo f n + oneIf (f n)
 
--- each mark is 0 or 1
+-- FORMAT 3.1: each mark is 0 or 1
 abbrev pub GoodMarks : List ℕ → Type 0
 GoodMarks marks = (p : ℕ) → p < length marks → getD marks p 0 ≤ 1
 
--- cell p is marked: 0 is read, 1 unreadable
+-- FORMAT 3.1: cell p is marked: 0 is read, 1 unreadable
 abbrev pub isMarked : List ℕ → ℕ → Bool
 isMarked marks p = not (eqb (getD marks p 0) 0)
 
@@ -33,24 +33,25 @@ isMarked marks p = not (eqb (getD marks p 0) 0)
 abbrev pub differsAt : List ℕ → List ℕ → List ℕ → ℕ → Bool
 differsAt marks r w p = and (not (isMarked marks p)) (not (eqb (getD w p 0) (getD r p 0)))
 
--- f: how many cells are marked; e: how many of the others differ
+-- FORMAT 3.2: f, how many cells are marked
 abbrev pub marked : List ℕ → List ℕ → ℕ
 marked marks r = countTo (isMarked marks) (length r)
 
+-- FORMAT 3.3: e, how many of the others differ
 abbrev pub differing : List ℕ → List ℕ → List ℕ → ℕ
 differing marks r w = countTo (differsAt marks r w) (length r)
 
--- w is within reach of r: a marked cell counts one, a wrong one two, and five are mended
+-- FORMAT 3.4: w is within reach of r: a marked cell counts one, a wrong one two, and five are mended
 pub record Reach (marks r w : List ℕ) : Type 0 where
   pub same-length : length w ≡ length r
   pub few : 2 * differing marks r w + marked marks r ≤ 5
 
--- r and s are the same but for the bytes under marks
+-- FORMAT 3.6: r and s are the same but for the bytes under marks
 pub record SameRead (marks r s : List ℕ) : Type 0 where
   pub same-length : length r ≡ length s
   pub read : (p : ℕ) → isMarked marks p ≡ false → getD r p 0 ≡ getD s p 0
 
--- a clean word of the field within reach of r
+-- FORMAT 3.4: a clean word of the field within reach of r
 pub record Reachable (O : Ops) (marks r : List ℕ) : Type 0 where
   pub word : List ℕ
   pub cells : Cells O word

@@ -1,4 +1,4 @@
--- The lanes of a strip: tested at once, mended one by one, and their check cells written. R lanes, over any field.
+-- The lanes of a strip, for the crates above: tested at once, mended one by one, and their check cells written. R lanes, over any field.
 use mathlib.Core.Path.{_≡_}
 use mathlib.Core.Bool.{Bool, false}
 use mathlib.Core.List.{List}

@@ -1,4 +1,4 @@
--- Marks, tallied.
+-- FORMAT 3.1, 3.2: marks tallied, for the crates above.
 use mathlib.Core.Path.{_≡_}
 use mathlib.Core.List.{List}
 use Prim.Native.Nat.{ℕ, _≤_}

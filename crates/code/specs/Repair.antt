@@ -1,4 +1,4 @@
--- Repair of a word.
+-- FORMAT 4: repair of a word.
 use mathlib.Core.Path.{_≡_}
 use mathlib.Core.Logic.{_≢_}
 use mathlib.Core.Bool.{not}
@@ -15,7 +15,7 @@ use Rattle.code.specs.declared.repair.Repaired.{Repaired}
 use Rattle.code.specs.declared.repair.Repaired.the-variants as repaired
 use Rattle.code.specs.declared.repair.Entered.{Entered}
 
--- the numbers of an answer: its refusal, 0 for none, and how many unmarked cells were mended, 0 with a refusal
+-- FORMAT 4.3, 9.43: the numbers of an answer: its refusal, 0 for none, and how many unmarked cells were mended, 0 with a refusal
 pub record RepairNumbers : Type 0 where
   pub code : ℕ
   pub mended : ℕ
@@ -29,15 +29,16 @@ abbrev pub RepairTold : Repaired → Type 0
 RepairTold (repaired.Mended e) = Unit {0}
 RepairTold (repaired.Refused c) = c ≢ 0
 
--- A word of n bytes with m marks is entered. 1: its length is not legal, 6 to the most; 2: the marks differ from it in length; 3: a mark is above 1.
+-- FORMAT 9.1 to 9.3: a word of n bytes with m marks is entered. 1: its length is not 6 to the most; 2: the marks are not as many; 3: a mark is above 1
 abbrev pub enteringWord : ℕ → ℕ → ℕ → List ℕ → List Rule
 enteringWord most n m marks = unless 1 (Within 6 most n) ∷ unless 2 (m ≡ n) ∷ unless 3 (GoodMarks marks) ∷ []
 
--- and repaired. 6: no clean word is within reach.
+-- FORMAT 9.6: and repaired. 6: no clean word is within reach
 abbrev pub repairing : Ops → ℕ → ℕ → ℕ → List ℕ → List ℕ → List Rule
 repairing O most n m marks r = enteringWord most n m marks ++ unless 6 (Reachable O marks r) ∷ []
 
--- The word `old`, said to have n bytes and m marks, becomes `new`, the clean word within reach, and what differs is told. With a refusal it is kept.
+-- FORMAT 4.1 to 4.3, 10.2: the word `old`, said to have n bytes and m marks, becomes `new`, the clean word within reach, and what differs is
+-- told. With a refusal it is kept.
 pub record Repairs (O : Ops) (most n m : ℕ) (marks old new : List ℕ) (a : Repaired) : Type 0 where
   pub told : RepairTold a
   pub code : First (repairing O most n m marks old) (repairedNumbers a .code)
@@ -47,7 +48,7 @@ pub record Repairs (O : Ops) (most n m : ℕ) (marks old new : List ℕ) (a : Re
   pub mended : repairedNumbers a .code ≡ 0 → repairedNumbers a .mended ≡ differing marks old new
   pub kept : repairedNumbers a .code ≢ 0 → new ≡ old
 
--- the repair of a word of at most so many bytes, in place
+-- FORMAT 8.5: the repair of a word of at most so many bytes, in place
 abbrev pub RepairsAs : Ops → ℕ → List ℕ → List ℕ → List ℕ → Repaired → Type 0
 RepairsAs O most marks old new a = Repairs O most (length old) (length marks) marks old new a
 

@@ -1,4 +1,4 @@
--- Words of bytes: writing and testing.
+-- FORMAT 8.3, 8.4: words of bytes, written and tested.
 use mathlib.Core.Path.{_≡_}
 use mathlib.Core.Logic.{_≢_}
 use mathlib.Core.List.{List, [], _∷_}
@@ -12,11 +12,11 @@ use Rattle.code.specs.declared.word.Written.the-variants as written
 use Rattle.code.specs.declared.word.Tested.{Tested}
 use Rattle.code.specs.declared.word.Tested.the-variants as tested
 
--- how many bytes a word has at most
+-- FORMAT 2.1: how many bytes a word has at most
 abbrev pub wordMost : ℕ
 wordMost = 255
 
--- and how many of them are data
+-- FORMAT 2.2: and how many of them are data
 abbrev pub dataMost : ℕ
 dataMost = 250
 
@@ -26,10 +26,11 @@ abbrev pub writtenNumbers : Written → Numbers
 writtenNumbers (written.Length n) = done n
 writtenNumbers (written.Refused c) = refused c
 
--- 1: the data are not 1 to 250 bytes; 4: the buffer is not five longer
+-- FORMAT 9.1, 9.4. 1: the data are not 1 to 250 bytes; 4: the buffer is not five longer
 abbrev pub writing : List ℕ → List ℕ → List Rule
 writing d old = unless 1 (Within 1 dataMost (length d)) ∷ unless 4 (length old ≡ length d + 5) ∷ []
 
+-- FORMAT 8.3, 10.2: the word of the data, over the whole buffer, and its length; with a refusal the buffer is kept
 pub record WritesAs (d old new : List ℕ) (a : Written) : Type 0 where
   pub code : First (writing d old) (writtenNumbers a .code)
   pub word : writtenNumbers a .code ≡ 0 → WordOf gf256 d new
@@ -49,11 +50,11 @@ TestTold tested.Clean = Unit {0}
 TestTold tested.Damaged = Unit {0}
 TestTold (tested.Refused c) = c ≢ 0
 
--- 1: the length is not 6 to 255
+-- FORMAT 9.1: the length is not 6 to 255
 abbrev pub testing : List ℕ → List Rule
 testing w = unless 1 (Within 6 wordMost (length w)) ∷ []
 
--- clean is answered of a word only if its five sums are zero, and always then
+-- FORMAT 8.4: clean is answered of a word only if its five sums are zero, and always then
 pub record TestsAs (w : List ℕ) (a : Tested) : Type 0 where
   pub told : TestTold a
   pub code : First (testing w) (testedNumbers a .code)

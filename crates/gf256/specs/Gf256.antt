@@ -1,4 +1,4 @@
--- GF(256): polynomials modulo t^8 + t^4 + t^3 + t^2 + 1. α is 02, its inverse is 8E, and it has 255 powers.
+-- FORMAT 1: GF(256), polynomials modulo t^8 + t^4 + t^3 + t^2 + 1. α is 02, its inverse is 8E, and it has 255 powers.
 use Prim.Native.Nat.{ℕ}
 use Rattle.account.specs.Field.{Ops}
 use Rattle.account.specs.Product.{product, binary}
@@ -6,6 +6,6 @@ use Rattle.account.specs.Product.{product, binary}
 abbrev pub gf256 : Ops
 gf256 = binary 7 0x11D 0x8E 255
 
--- the product of two bytes
+-- FORMAT 1.3: the product of two bytes
 abbrev pub times : ℕ → ℕ → ℕ
 times = product 7 0x11D

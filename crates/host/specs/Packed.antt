@@ -1,4 +1,4 @@
--- The numbers of an answer, packed in one.
+-- The numbers of an answer, packed in one as docs/C-INTERFACE.md has it.
 use mathlib.Core.Path.{_≡_}
 use mathlib.Core.List.{List}
 use Prim.Native.Nat.{ℕ, _+_, _*_, _/_, _%_, _^_}

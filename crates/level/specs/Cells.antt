@@ -1,4 +1,4 @@
--- The worked examples that are proved, as one table: products, words, repairs, a record and its strip.
+-- FORMAT 12.1, 12.2, 12.4 to 12.6: the worked examples that are proved, as one table.
 use mathlib.Core.Path.{_≡_}
 use mathlib.Core.List.{List, [], _∷_}
 use Prim.Native.Nat.{ℕ}
@@ -10,15 +10,15 @@ use Rattle.level.specs.Record.{IsRecord}
 use Rattle.level.specs.Strip.{IsStrip}
 
 pub data Cell : Type 0 where
-  -- a times b is c
+  -- FORMAT 12.1: a times b is c
   product : ℕ → ℕ → ℕ → Cell
-  -- data d gives the word w
+  -- FORMAT 12.2: data d gives the word w
   gives : List ℕ → List ℕ → Cell
-  -- r with these marks becomes w, mended e
+  -- FORMAT 12.4: r with these marks becomes w, mended e
   becomes : List ℕ → List ℕ → List ℕ → ℕ → Cell
-  -- r with these marks is refused (6)
+  -- FORMAT 12.4: r with these marks is refused (6)
   refused : List ℕ → List ℕ → Cell
-  -- a level with its record and its strip of four lanes
+  -- FORMAT 12.5, 12.6: a level with its record and its strip of four lanes
   lays : Level → List ℕ → List ℕ → Cell
 
 abbrev pub Holds : Cell → Type 0

@@ -1,4 +1,4 @@
--- Levels: a version, a width, a height, a par and a tile code for each place, within the ranges and the rule of the version.
+-- FORMAT 5: levels, each a version, a width, a height, a par and a tile code for each place, within the ranges and the rule of the version.
 use mathlib.Core.Path.{_≡_}
 use Prim.Native.Nat.{ℕ, _*_, _≤_, _<_}
 use mathlib.Core.List.{List, [], _∷_}
@@ -6,6 +6,7 @@ use lib.ListN.{length, getD}
 use Rattle.rules.specs.Refusal.{Question}
 use Rattle.level.specs.Tile.{Row, totals}
 
+-- FORMAT 5.3, 5.4: the tiles stand row by row; the version is that of its record, 6.4
 pub record Level : Type 0 where
   pub version : ℕ
   pub width : ℕ
@@ -15,15 +16,15 @@ pub record Level : Type 0 where
 
 -- ---- what a version allows
 
--- the versions that there are
+-- FORMAT 6.4: the versions that there are
 abbrev pub Known : ℕ → Type 0
 Known v = v ≡ 1
 
--- the greatest tile code
+-- FORMAT 5.7: the greatest tile code
 abbrev pub codeMost : ℕ → ℕ
 codeMost v = 6
 
--- the rule over what the tiles add
+-- FORMAT 5.8 to 5.10: the rule over what the tiles add
 pub record Playable (v : ℕ) (r : Row) : Type 0 where
   pub one-player : r .player ≡ 1
   pub some-crate : 1 ≤ r .crate'
@@ -31,29 +32,35 @@ pub record Playable (v : ℕ) (r : Row) : Type 0 where
 
 -- ---- what is asked of a level
 
+-- FORMAT 5.5: width and height are 1 to 31
 pub record Sized (w h : ℕ) : Type 0 where
   pub wide : 1 ≤ w
   pub not-wider : w ≤ 31
   pub high : 1 ≤ h
   pub not-higher : h ≤ 31
 
+-- FORMAT 5.5, 5.6, 6.4: version, size and par are within their ranges
 pub record Ranged (l : Level) : Type 0 where
   pub known : Known (l .version)
   pub sized : Sized (l .width) (l .height)
   pub par-small : l .par ≤ 1023
 
+-- FORMAT 5.3: there are as many tiles as the size has places
 abbrev pub Counted : Level → Type 0
 Counted l = length (l .tiles) ≡ l .width * l .height
 
+-- FORMAT 5.7: each tile code is one of the version
 abbrev pub AllTiles : ℕ → List ℕ → Type 0
 AllTiles v ts = (i : ℕ) → i < length ts → getD ts i 0 ≤ codeMost v
 
 abbrev pub Coded : Level → Type 0
 Coded l = AllTiles (l .version) (l .tiles)
 
+-- FORMAT 5.8 to 5.10: the board keeps the rule
 abbrev pub Fair : Level → Type 0
 Fair l = Playable (l .version) (totals (l .tiles))
 
+-- FORMAT 5.3: l is a level
 pub record IsLevel (l : Level) : Type 0 where
   pub ranged : Ranged l
   pub count : Counted l
@@ -62,10 +69,10 @@ pub record IsLevel (l : Level) : Type 0 where
 
 -- ---- the refusals of what is no level
 
--- 9 and 10, for readers and writers alike
+-- FORMAT 9.9, 9.10: for readers and writers alike
 abbrev pub boarding : List (Question Level)
 boarding = record { number = 9; asks = Coded } ∷ record { number = 10; asks = Fair } ∷ []
 
--- 7 to 10 of a level that is lent
+-- FORMAT 9.7 to 9.10: of a level that is lent
 abbrev pub lending : List (Question Level)
 lending = record { number = 7; asks = Ranged } ∷ record { number = 8; asks = Counted } ∷ boarding

@@ -1,4 +1,4 @@
--- Records: the fields of a level, bit-packed, the most significant bit first.
+-- FORMAT 6: records, the fields of a level, bit-packed, the most significant bit first.
 use mathlib.Core.Path.{_≡_}
 use Prim.Native.Nat.{ℕ, zero, suc, _+_, _*_, _-_, _/_, _%_, _^_, _≤_, _<_}
 use mathlib.Core.List.{List}
@@ -6,20 +6,20 @@ use lib.ListN.{length, getD}
 use Rattle.rules.specs.Bytes.{Bytes}
 use Rattle.level.specs.Level.{Level}
 
--- bit p of a run of bytes, the most significant of each byte first
+-- FORMAT 6.1: bit p of a run of bytes, the most significant of each byte first
 unfoldable pub bitAt : List ℕ → ℕ → ℕ
 bitAt bs p = getD bs (p / 8) 0 / 2 ^ (7 - p % 8) % 2
 
--- the number that n bits from bit p on spell
+-- FORMAT 6.2: the number that n bits from bit p on spell
 unfoldable pub fieldAt : List ℕ → ℕ → ℕ → ℕ
 fieldAt bs p zero = 0
 fieldAt bs p (suc n) = 2 * fieldAt bs p n + bitAt bs (p + n)
 
--- three bytes, and the bits of the tiles, rounded up to whole bytes
+-- FORMAT 6.7: three bytes, and the bits of the tiles, rounded up to whole bytes
 abbrev pub recordLength : ℕ → ℕ → ℕ
 recordLength w h = 3 + (3 * (w * h) + 7) / 8
 
--- version 4 bits, width 5, height 5, par 10; the tiles from byte 3 on, row by row, 3 bits each; zero bits to the end
+-- FORMAT 6.3 to 6.6: version 4 bits, width 5, height 5, par 10; the tiles from byte 3 on, row by row, 3 bits each; zero bits to the end
 pub record IsRecord (l : Level) (bs : List ℕ) : Type 0 where
   pub bytes : Bytes bs
   pub size : length bs ≡ recordLength (l .width) (l .height)

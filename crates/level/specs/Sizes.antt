@@ -1,21 +1,21 @@
--- The sizes that levels, records and strips have at the most.
+-- FORMAT 9.49: the sizes that levels, records and strips have at the most; buffers are asked for by these.
 use Prim.Native.Nat.{ℕ}
 
--- tiles of a board: 31 by 31
+-- FORMAT 5.5: tiles of a board, 31 by 31
 abbrev pub tilesMost : ℕ
 tilesMost = 961
 
--- bytes of a record: that of 961 tiles; the least is that of one
+-- FORMAT 6.7: bytes of a record, that of 961 tiles; the least is that of one
 abbrev pub recordMost : ℕ
 recordMost = 364
 
 abbrev pub recordLeast : ℕ
 recordLeast = 4
 
--- cells of a strip of four lanes
+-- FORMAT 7.9: cells of a strip of four lanes
 abbrev pub stripMost : ℕ
 stripMost = 384
 
--- what the strip reader is lent beside
+-- FORMAT 9.5: what the strip reader is lent beside
 abbrev pub scratchLeast : ℕ
 scratchLeast = 384

@@ -1,4 +1,4 @@
--- Strips: cells of a field dealt to R lanes, each lane a word of the code.
+-- FORMAT 7, for R lanes: strips, cells of a field dealt to lanes, each lane a word of the code.
 use mathlib.Core.Path.{_≡_}
 use Prim.Native.Nat.{ℕ, _+_, _*_, _-_, _/_, _%_, _≤_, _<_}
 use mathlib.Core.List.{List}
@@ -15,71 +15,71 @@ use Rattle.level.specs.Record.{recordLength, IsRecord}
 -- ---- over the lanes
 
 module _ (R : ℕ) where
-  -- data cells of a lane, for n cells in all
+  -- FORMAT 7.2: data cells of a lane, for n cells in all
   abbrev pub columns : ℕ → ℕ
   columns n = (n + (R - 1)) / R
 
-  -- R (k + 5) cells, where k is that of the shortest record, of the longest, or between
+  -- FORMAT 7.9: R (k + 5) cells, where k is that of the shortest record, of the longest, or between
   pub record Legal (N : ℕ) : Type 0 where
     pub k : ℕ
     pub from : columns recordLeast ≤ k
     pub to : k ≤ columns recordMost
     pub cells : N ≡ R * (k + 5)
 
-  -- t is within reach of s: lane for lane
+  -- FORMAT 7.14: t is within reach of s, lane for lane
   pub record StripReach (marks s t : List ℕ) : Type 0 where
     pub same-length : length t ≡ length s
     pub each : (j : ℕ) → j < R → Reach (lane R j marks) (lane R j s) (lane R j t)
 
-  -- the unmarked cells of lane j in which t and s differ, and its marked cells
+  -- FORMAT 7.14: the unmarked cells of lane j in which t and s differ, and its marked cells
   abbrev pub wrongIn : List ℕ → List ℕ → List ℕ → ℕ → ℕ
   wrongIn marks s t j = countTo (differsAt (lane R j marks) (lane R j s) (lane R j t)) (length s / R)
 
   abbrev pub markedIn : List ℕ → ℕ → ℕ
   markedIn marks j = countTo (isMarked (lane R j marks)) (length marks / R)
 
-  -- mended: the unmarked cells in which t and s differ, over all lanes
+  -- FORMAT 7.15: mended, the unmarked cells in which t and s differ, over all lanes
   unfoldable pub mendedOf : List ℕ → List ℕ → List ℕ → ℕ
   unfolding sumOf
   mendedOf marks s t = sumOf R (wrongIn marks s t)
 
--- wear: 100 times mended over the cells, rounded down
+-- FORMAT 7.16: wear, 100 times mended over the cells, rounded down
 abbrev pub wearOf : ℕ → ℕ → ℕ
 wearOf mended N = 100 * mended / N
 
 -- ---- over the field and the lanes
 
 module _ (O : Ops) (R : ℕ) where
-  -- the cells cs with zeros after them, dealt to the lanes: cell q is cell q div R of lane q mod R. Each lane is a clean word.
+  -- FORMAT 7.3 to 7.6: the cells cs with zeros after them, dealt to the lanes: cell q is cell q div R of lane q mod R. Each lane is a clean word.
   pub record Dealt (cs s : List ℕ) : Type 0 where
     pub cells : Cells O s
     pub size : length s ≡ R * (columns R (length cs) + 5)
     pub clean : (j : ℕ) → j < R → Clean O (lane R j s)
     pub laid : (q : ℕ) → q < R * columns R (length cs) → getD (lane R (q % R) s) (q / R) 0 ≡ getD cs q 0
 
-  -- the strip of a level: its record, dealt
+  -- FORMAT 7.7: the strip of a level: its record, dealt
   pub record IsStrip (l : Level) (s : List ℕ) : Type 0 where
     pub bs : List ℕ
     pub is-record : IsRecord l bs
     pub dealt : Dealt bs s
 
-  -- a level with its strip, of the same length and within reach
+  -- FORMAT 11.2: a level with its strip, of the same length and within reach
   pub record Reached (marks s : List ℕ) (l : Level) (t : List ℕ) : Type 0 where
     pub is-level : IsLevel l
     pub is-strip : IsStrip l t
     pub reach : StripReach R marks s t
 
-  -- lane j can be mended
+  -- FORMAT 9.6: lane j can be mended
   abbrev pub Mendable : List ℕ → List ℕ → ℕ → Type 0
   Mendable marks s j = Reachable O (lane R j marks) (lane R j s)
 
-  -- t is what s is mended to: each lane is clean and within reach
+  -- FORMAT 9.48: t is what s is mended to: each lane is clean and within reach
   pub record Mends (marks s t : List ℕ) : Type 0 where
     pub cells : Cells O t
     pub clean : (j : ℕ) → j < R → Clean O (lane R j t)
     pub reach : StripReach R marks s t
 
-  -- the lowest lane beyond reach
+  -- FORMAT 9.44: the lowest lane beyond reach
   pub record Lowest (marks s : List ℕ) (j : ℕ) : Type 0 where
     pub lane-below : j < R
     pub beyond : Mendable marks s j → ⊥

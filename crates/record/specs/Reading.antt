@@ -1,4 +1,4 @@
--- Reading a record.
+-- FORMAT 8.11: reading a record.
 use mathlib.Core.Path.{_≡_}
 use mathlib.Core.List.{List, [], _∷_, _++_}
 use Prim.Native.Nat.{ℕ, _+_, _*_, _/_, _%_, _≤_, _<_}
@@ -13,12 +13,12 @@ use Rattle.record.specs.declared.read.RecordRead.the-variants as read
 use Rattle.record.specs.declared.read.Head.{Head}
 use Rattle.record.specs.declared.read.Judged.{Judged}
 
--- a record has no lanes, and nothing in it is mended
+-- the numbers of an answer: a record has no lanes, and nothing in it is mended
 abbrev pub recordNumbers : RecordRead → ReadNumbers
 recordNumbers (read.Level w h p) = record { code = 0; lane = 0; width = w; height = h; par = p; mended = 0; wear = 0 }
 recordNumbers (read.Refused c) = refusedAt c 0
 
--- bs is the record of the level returned; tile bytes past the level keep their value
+-- FORMAT 8.11, 8.14, 10.6: bs is the record of the level returned; tile bytes past the level keep their value
 pub record RecordReadsAs (bs old new : List ℕ) (a : RecordRead) : Type 0 where
   pub code : First (readingRecord bs (length old)) (recordNumbers a .code)
   pub is-level : recordNumbers a .code ≡ 0 → IsLevel (returned (recordNumbers a) new)

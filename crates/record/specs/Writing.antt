@@ -1,4 +1,4 @@
--- Writing a record.
+-- FORMAT 8.10: writing a record.
 use mathlib.Core.Path.{_≡_}
 use mathlib.Core.List.{List, [], _∷_}
 use Prim.Native.Nat.{ℕ, zero, suc, _+_, _*_, _/_, _%_, _≤_}
@@ -11,7 +11,7 @@ use Rattle.level.specs.Writing.{writingLevel}
 use Rattle.code.specs.Word.{writtenNumbers}
 use Rattle.code.specs.declared.word.Written.{Written}
 
--- the record in front, its length returned; what is past it keeps its value
+-- FORMAT 8.10, 10.5: the record in front, its length returned; what is past it keeps its value
 pub record RecordWritesAs (l : Level) (old new : List ℕ) (a : Written) : Type 0 where
   pub code : First (writingLevel recordMost l (length old)) (writtenNumbers a .code)
   pub value : writtenNumbers a .code ≡ 0 → writtenNumbers a .value ≡ recordLength (l .width) (l .height)

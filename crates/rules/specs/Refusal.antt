@@ -12,7 +12,7 @@ pub record Rule : Type 1 where
 abbrev pub unless : ℕ → Type 0 → Rule
 unless n P = record { number = n; holds = P }
 
--- c is the number of the first rule that does not hold, and 0 where all do
+-- FORMAT 9.41, 9.42: c is the number of the first rule that does not hold, and 0 where all do
 abbrev pub First : List Rule → ℕ → Type 0
 First [] c = c ≡ 0
 First (r ∷ rs) c = ((r .holds → ⊥) × (c ≡ r .number)) ⊎ (r .holds × First rs c)
@@ -41,7 +41,7 @@ asked told (q ∷ qs) = unless (q .number) (told (q .asks)) ∷ asked told qs
 
 -- ---- answers
 
--- the numbers that an answer brings: its refusal, 0 for none, and its value, 0 with a refusal
+-- FORMAT 9.43: the numbers that an answer brings: its refusal, 0 for none, and its value, 0 with a refusal
 pub record Numbers : Type 0 where
   pub code : ℕ
   pub value : ℕ

@@ -1,4 +1,4 @@
--- Reading a strip: a level is returned exactly when one has a strip of that length within reach.
+-- FORMAT 8.13, 11.2: reading a strip. A level is returned exactly when one has a strip of that length within reach.
 use mathlib.Core.Path.{_≡_}
 use mathlib.Core.List.{List, _++_}
 use Prim.Native.Nat.{ℕ, _*_}
@@ -20,7 +20,8 @@ abbrev pub stripNumbers : Reading → ReadNumbers
 stripNumbers (reading.Read w h p e v) = record { code = 0; lane = 0; width = w; height = h; par = p; mended = e; wear = v }
 stripNumbers (reading.Refused c j) = refusedAt c j
 
--- The level returned has a strip within reach, and no other level has. Mended counts against that strip; tiles past the level keep their value.
+-- FORMAT 11.4 to 11.7, 10.6: the level returned has a strip within reach, and no other level has. Mended counts against that strip; tiles past
+-- the level keep their value.
 pub record LevelRead (O : Ops) (R : ℕ) (s marks tiles tiles' : List ℕ) (n : ReadNumbers) : Type 0 where
   pub strip : List ℕ
   pub reached : Reached O R marks s (returned n tiles') strip
@@ -29,8 +30,8 @@ pub record LevelRead (O : Ops) (R : ℕ) (s marks tiles tiles' : List ℕ) (n : 
   pub wear-is : n .wear ≡ wearOf (n .mended) (length s)
   pub rest : drop (n .width * n .height) tiles' ≡ drop (n .width * n .height) tiles
 
--- Refused before the picture was looked at, the scratch is kept; refused by the picture, no level is within reach. Only then, and with a
--- level, is the scratch free.
+-- FORMAT 8.13, 9.44, 9.45, 10.2 to 10.4: refused before the picture was looked at, the scratch is kept; refused by the picture, no level is
+-- within reach. Only then, and with a level, is the scratch free.
 pub record StripReadsAs (R : ℕ) (s marks tiles tiles' scratch scratch' : List ℕ) (a : Reading) : Type 0 where
   pub code : First (entering R s marks (length tiles) (length scratch) ++ mending gf256 R s marks) (stripNumbers a .code)
   pub lane : stripNumbers a .code ≡ 6 → Lowest gf256 R marks s (stripNumbers a .lane)

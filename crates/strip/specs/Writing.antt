@@ -1,4 +1,4 @@
--- Writing a strip.
+-- FORMAT 8.12: writing a strip.
 use mathlib.Core.Path.{_≡_}
 use mathlib.Core.List.{List}
 use Prim.Native.Nat.{ℕ, _+_, _*_}
@@ -13,11 +13,11 @@ use Rattle.level.specs.Record.{recordLength}
 use Rattle.level.specs.Strip.{columns, IsStrip}
 use Rattle.level.specs.Writing.{writingLevel}
 
--- the cells of a level's strip
+-- FORMAT 7.6: the cells of a level's strip
 abbrev pub stripLength : ℕ → Level → ℕ
 stripLength R l = R * (columns R (recordLength (l .width) (l .height)) + 5)
 
--- the level's strip in front, its length returned; what is past it keeps its value
+-- FORMAT 8.12, 10.5: the level's strip in front, its length returned; what is past it keeps its value
 pub record StripWritesAs (R : ℕ) (l : Level) (old new : List ℕ) (a : Written) : Type 0 where
   pub code : First (writingLevel stripMost l (length old)) (writtenNumbers a .code)
   pub value : writtenNumbers a .code ≡ 0 → writtenNumbers a .value ≡ stripLength R l

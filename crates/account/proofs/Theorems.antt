@@ -1,4 +1,4 @@
--- What the code is worth: the theorems that demands 2 and 3 rest on, over any field.
+-- What the code is worth, over any field.
 use mathlib.Core.Path.{_≡_, refl, sym, ap, ap₂, _∙_, subst}
 use mathlib.Core.Logic.{_⊎_, inl, inr}
 use mathlib.Core.Bool.{Bool, true, false, not}
@@ -22,7 +22,7 @@ use Rattle.account.proofs.Solve as solve
 use Rattle.account.proofs.Decode as decode
 use Rattle.account.proofs.Decode.{values}
 
--- ---- what stands under a mark does not matter
+-- ---- FORMAT 3.6: what stands under a mark does not matter
 
 pub same-differing : (marks r s w : List ℕ) → SameRead marks r s → differing marks r w ≡ differing marks s w
 same-differing marks r s w same =
@@ -112,7 +112,7 @@ module _ (O : Ops) (F : IsField O) where
             count-places (isMarked marks) (length r),
           )
 
-  -- Two clean words of one length differ in at least six cells or nowhere.
+  -- FORMAT 2.11: two clean words of one length differ in at least six cells or nowhere.
   pub six-apart : (v w : List ℕ) → length v ≤ order → length w ≡ length v → Cells O v → Cells O w → Clean O v → Clean O w
       → (v ≡ w) ⊎ (6 ≤ differing [] v w)
   six-apart v w short e iv iw cv cw = go (decLt (differing [] v w) 6)
@@ -123,7 +123,7 @@ module _ (O : Ops) (F : IsField O) where
           (omega (arith, count-none (differsAt [] v v) (length v) (λ p l. not-differs [] v v p refl), count-none (isMarked []) (length v) (λ p l. tt))) cv cw)
       go (no h) = inr (omega arith)
 
-  -- At most one clean word is within reach of a word with its marks.
+  -- FORMAT 3.5: at most one clean word is within reach of a word with its marks.
   pub one-in-reach : (marks r v w : List ℕ) → length r ≤ order → Cells O v → Cells O w → Clean O v → Clean O w
       → Reach marks r v → Reach marks r w → v ≡ w
   one-in-reach marks r v w short iv iw cv cw hv hw =
@@ -131,7 +131,7 @@ module _ (O : Ops) (F : IsField O) where
       let b = hw .few in
       near marks r v w short iv iw (hv .same-length) (hw .same-length) (omega arith) cv cw
 
-  -- A word at 2e + f = 6 from a clean word has no clean word within reach.
+  -- FORMAT 3.9: a word at 2e + f = 6 from a clean word has no clean word within reach.
   pub none-at-six : (marks r v w : List ℕ) → length r ≤ order → Cells O v → Cells O w → Clean O v → Clean O w
       → length v ≡ length r → 2 * differing marks r v + marked marks r ≡ 6 → Reach marks r w → ⊥
   none-at-six marks r v w short iv iw cv cw ev six hw =
@@ -140,7 +140,7 @@ module _ (O : Ops) (F : IsField O) where
       let f : differing marks r v ≡ differing marks r w = ap (differing marks r) e in
       omega arith
 
-  -- Exactly one clean word has given data in front: no two ..
+  -- FORMAT 2.7: exactly one clean word has given data in front: no two ..
   pub one-with-data : (d v w : List ℕ) → length d + 5 ≤ order → Cells O v → Cells O w → WordOf O d v → WordOf O d w → v ≡ w
   one-with-data d v w short iv iw A B =
       decode.same O F (length d + 5) short (checks (length d)) v w (A .size) (B .size)

@@ -1,4 +1,4 @@
--- What is promised of words of bytes, each with its sentence.
+-- What is promised of words of bytes, each with its number in FORMAT.
 use mathlib.Core.Path.{_≡_, refl, sym, ap, _∙_, subst}
 use mathlib.Core.Logic.{_≢_, _⊎_, inl, inr}
 use mathlib.Core.List.{List, [], _∷_, _++_}
@@ -27,49 +27,49 @@ use Rattle.code.specs.Repair.{Repairs, RepairsAs, repairedNumbers}
 use Rattle.code.specs.Lane.{laneMost, wordOf, LaneRepairsAs}
 use Rattle.code.proofs.Answers.{written-zero, tested-bit, one-repair, one-numbers, one-word, lane-is, lane-same}
 
--- The first 255 powers of α are different from each other, and none is zero.
+-- FORMAT 1.6: the first 255 powers of α are different from each other, and none is zero.
 pub powers-differ : (i j : ℕ) → i < 255 → j < 255 → i ≢ j → power gf256 2 i ≢ power gf256 2 j
 powers-differ = powers.pow-apart gf256 field256
 
 pub powers-nonzero : (i : ℕ) → power gf256 2 i ≢ 0
 powers-nonzero = powers.pow-some gf256 field256
 
--- Two clean words of one length differ in at least six places or nowhere.
+-- FORMAT 2.11: two clean words of one length differ in at least six places or nowhere.
 pub six-apart : (v w : List ℕ) → length v ≤ wordMost → length w ≡ length v → Cells gf256 v → Cells gf256 w → Clean gf256 v → Clean gf256 w
     → (v ≡ w) ⊎ (6 ≤ differing [] v w)
 six-apart = theorems.six-apart gf256 field256
 
--- At most one clean word is within reach of a word with its marks.
+-- FORMAT 3.5: at most one clean word is within reach of a word with its marks.
 pub one-in-reach : (marks r v w : List ℕ) → length r ≤ wordMost → Cells gf256 v → Cells gf256 w → Clean gf256 v → Clean gf256 w
     → Reach marks r v → Reach marks r w → v ≡ w
 one-in-reach = theorems.one-in-reach gf256 field256
 
--- A word at 2e + f = 6 from a clean word has none within reach.
+-- FORMAT 3.9: a word at 2e + f = 6 from a clean word has none within reach.
 pub none-at-six : (marks r v w : List ℕ) → length r ≤ wordMost → Cells gf256 v → Cells gf256 w → Clean gf256 v → Clean gf256 w
     → length v ≡ length r → 2 * differing marks r v + marked marks r ≡ 6 → Reach marks r w → ⊥
 none-at-six = theorems.none-at-six gf256 field256
 
--- At most one clean word has the given data in front.
+-- FORMAT 2.7: at most one clean word has the given data in front.
 pub one-word-with-data : (d v w : List ℕ) → length d + 5 ≤ wordMost → Cells gf256 v → Cells gf256 w → WordOf gf256 d v → WordOf gf256 d w → v ≡ w
 one-word-with-data = theorems.one-with-data gf256 field256
 
--- And there is one.
+-- FORMAT 2.7: and there is one.
 pub some-word-with-data : (d : List ℕ) → length d + 5 ≤ wordMost → Cells gf256 d → (w : List ℕ) × WordOf gf256 d w × Cells gf256 w
 some-word-with-data = theorems.some-with-data gf256 field256
 
--- The generator, with its highest power first.
+-- FORMAT 2.8: the generator, with its highest power first.
 pub generator-is : generator gf256 ≡ 0x01 ∷ 0xCE ∷ 0xE6 ∷ 0xE6 ∷ 0xCE ∷ 0x01 ∷ []
 unfolding generator times plus scale alphaTo power product
 generator-is = refl
 
--- The clean words are the multiples of the generator.
+-- FORMAT 2.9: the clean words are the multiples of the generator.
 pub clean-is-multiple : (w : List ℕ) → Cells gf256 w → 5 ≤ length w → length w ≤ wordMost → Clean gf256 w → Multiple gf256 w
 clean-is-multiple = generators.clean-is-multiple gf256 field256
 
 pub multiple-is-clean : (w : List ℕ) → Multiple gf256 w → Clean gf256 w
 multiple-is-clean = generators.multiple-is-clean gf256 field256
 
--- ---- the promises fix every result and every byte
+-- ---- FORMAT 10.9: the promises fix every result and every byte
 
 -- Writing: there is one word, and one pair of numbers.
 pub writes-fixed : (d old v w : List ℕ) (a b : Written) → Cells gf256 v → Cells gf256 w → WritesAs d old v a → WritesAs d old w b
@@ -109,7 +109,7 @@ pub repairs-fixed : (marks old v w : List ℕ) (a b : Repaired) → RepairsAs gf
     → (v ≡ w) × (repairedNumbers a ≡ repairedNumbers b)
 repairs-fixed marks old v w a b A B = one-repair wordMost (length old) (length marks) marks old v w a b (λ h. h) A B
 
--- The byte under a mark has no influence: what repair answers, and the word it gives, are the same.
+-- FORMAT 4.5: the byte under a mark has no influence: what repair answers, and the word it gives, are the same.
 pub under-marks : (marks r s v w : List ℕ) (a b : Repaired) → SameRead marks r s → RepairsAs gf256 wordMost marks r v a → RepairsAs gf256 wordMost marks s w b
     → (repairedNumbers a ≡ repairedNumbers b) × (repairedNumbers a .code ≡ 0 → v ≡ w)
 under-marks marks r s v w a b same A B = (
@@ -138,7 +138,7 @@ lane-repairs-fixed lane marks r s room A B = (
         one-repair laneMost (lane .len) (marks .len) (wordOf marks) (wordOf lane) (wordOf (r .lane)) (wordOf (s .lane)) (r .answer) (s .answer) short
         (A .repairs) (B .repairs)
 
--- A lane that is refused is kept whole.
+-- FORMAT 10.2: a lane that is refused is kept whole.
 pub lane-kept : (lane marks : Lane) (r : LaneRepair) → LaneRepairsAs lane marks r → repairedNumbers (r .answer) .code ≢ 0 → r .lane ≡ lane
 lane-kept lane marks r A n =
     lane-same (r .lane) lane

@@ -286,7 +286,7 @@ static void test_random_bytes(const struct reader *entry)
     group_end();
 }
 
-/* ---- the paper ---- */
+/* ---- the examples of FORMAT 9 and 12.5 ---- */
 
 static void test_worked_records(const struct reader *entry)
 {
@@ -301,7 +301,7 @@ static void test_worked_records(const struct reader *entry)
         {{0x11, 0x04, 0x05, 0x24}, {.code = 10}},
     };
 
-    group_begin(entry->name, "the records of the paper");
+    group_begin(entry->name, "the records of FORMAT");
     for (size_t k = 0; k < COUNT(worked); k++)
         check_number(packed(entry->check(worked[k].record, 4)),
                      packed(worked[k].result), "reference");

@@ -94,7 +94,7 @@ static void test_lengths_without_levels(void)
     group_end();
 }
 
-/* ---- the paper ---- */
+/* ---- the examples of FORMAT 9 and 12.6 ---- */
 
 static void expect(const struct picture *p, struct ref_result result)
 {
@@ -109,7 +109,7 @@ static void test_worked_strip(void)
                             .scratch_len = REF_SCRATCH_MIN};
     struct picture p;
 
-    group_begin(reader.name, "the strip of the paper, and its refusals");
+    group_begin(reader.name, "the strip of FORMAT, and its refusals");
     memcpy(whole.strip, writers[1].worked, writers[1].worked_len);
     expect(&whole, (struct ref_result){.width = 2, .height = 1, .par = 5});
     p = whole;

@@ -261,7 +261,7 @@ static void test_test_lengths(void)
     group_end();
 }
 
-/* ---- cells worked by hand in the paper ---- */
+/* ---- the worked examples of FORMAT 12 ---- */
 
 static void check_worked_product(uint8_t a, uint8_t b, uint8_t product)
 {
@@ -334,7 +334,7 @@ static void test_worked_cells(void)
     static const uint8_t one_zero[] = {0x01, 0x00, 0x6C, 0xAA,
                                        0x82, 0x8B, 0xCE};
 
-    group_begin("worked cells", "as in the paper, library and reference");
+    group_begin("worked cells", "as in FORMAT, library and reference");
     check_worked_product(0x02, 0x8E, 0x01);
     check_worked_product(0xCE, 0xCE, 0x8A);
     check_worked_product(0xCE, 0xE6, 0x4C);

@@ -231,7 +231,7 @@ static void test_worked(const struct writer *entry)
     const struct ref_result length = {.length = (unsigned)entry->worked_len};
     uint8_t got[BUFFER_ROOM], reference[BUFFER_ROOM];
 
-    group_begin(entry->name, "what the paper works by hand");
+    group_begin(entry->name, "the worked example of FORMAT");
     group_case();
     check_number(entry->run(2, 1, 5, tiles, sizeof tiles, got, sizeof got),
                  packed(length), "library");

@@ -15,7 +15,7 @@ struct writer {
     struct ref_result (*reference)(size_t, size_t, size_t, const uint8_t *,
                                    size_t, uint8_t *, size_t);
     size_t room;           /* the least that the buffer must hold */
-    const uint8_t *worked; /* what the paper works by hand */
+    const uint8_t *worked; /* its worked example, FORMAT 12 */
     size_t worked_len;
 };
 

@@ -66,7 +66,7 @@ static void run(int input, char printed[LINE_ROOM])
     must(waitpid(child, NULL, 0) == child, "waitpid");
 }
 
-/* The line that the paper gives for this result. */
+/* The line for this result: FORMAT 8.21 to 8.23. */
 static void line_of(struct ref_result r, char line[LINE_ROOM])
 {
     if (r.code != 0)
@@ -76,7 +76,7 @@ static void line_of(struct ref_result r, char line[LINE_ROOM])
                  r.width, r.height, r.par, r.mended, r.wear);
 }
 
-/* "an odd count, or over 768 bytes, is refusal 1" */
+/* What the program must answer: FORMAT 8.19 and 8.20. */
 static struct ref_result expected(const uint8_t *bytes, size_t len)
 {
     uint8_t tiles[REF_TILES_MAX];

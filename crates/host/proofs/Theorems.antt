@@ -43,14 +43,24 @@ word-write-told d old new r E =
       code = few (writing d old) (writtenNumbers (E .answer) .code) tt (E .kept .code);
       value =
           either (writtenNumbers (E .answer) .value < 512) (writtenNumbers (E .answer) .code)
-          (λ z. omega (arith, E .kept .value z, E .kept .word z .size, all-hold 10 (writing d old) (writtenNumbers (E .answer) .code) tt (E .kept .code) z .0 .to))
+          (λ z. omega (
+            arith,
+            E .kept .value z,
+            E .kept .word z .size,
+            all-hold 10 (writing d old) (writtenNumbers (E .answer) .code) tt
+                (E .kept .code) z .0 .to,
+          ))
           (λ n. omega (arith, written-zero (E .answer) n));
     })
 
 pub word-test-told : (w : List ℕ) (r : ℕ) (E : TestExport w r) → unpackedLength r ≡ testedNumbers (E .answer)
 word-test-told w r E =
     ap unpackedLength (E .is)
-    ∙ back-length (testedNumbers (E .answer)) (record { code = few (testing w) (testedNumbers (E .answer) .code) tt (E .kept .code); value = small (E .answer) })
+    ∙ back-length (testedNumbers (E .answer)) (record {
+      code = few (testing w) (testedNumbers (E .answer) .code) tt (E .kept .code);
+      value = small
+          (E .answer);
+    })
   where
     small : (a : Tested) → testedNumbers a .value < 512
     small tested.Clean = omega arith

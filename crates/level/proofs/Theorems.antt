@@ -39,10 +39,13 @@ module _ (O : Ops) (F : IsField O) (R : ℕ) (some : 0 < R) where
       r = records.record-of l il
 
       d : (s : List ℕ) × Dealt O R (recordOf l) s
-      d = some-dealt O F R some (recordOf l) (rw (records.record-of l il .size) short) (record { cell = λ p h. omega (arith, room, records.record-of l il .bytes .cell p h) })
+      d =
+          some-dealt O F R some (recordOf l) (rw (records.record-of l il .size) short)
+          (record { cell = λ p h. omega (arith, room, records.record-of l il .bytes .cell p h) })
 
   -- And one.
-  pub one-strip : (l : Level) (s t : List ℕ) → IsLevel l → columns R (recordLength (l .width) (l .height)) + 5 ≤ order → IsStrip O R l s → IsStrip O R l t → s ≡ t
+  pub one-strip : (l : Level) (s t : List ℕ) → IsLevel l → columns R (recordLength (l .width) (l .height)) + 5 ≤ order → IsStrip O R l s → IsStrip O R l t
+      → s ≡ t
   one-strip = strips.one-strip O F R some
 
   -- Two levels with one strip are one level.
@@ -67,5 +70,6 @@ pub wear-most : (R : ℕ) → 0 < R → (marks s t : List ℕ) → Legal R (leng
 wear-most = counts.wear-most
 
 -- Mended is the number of unmarked cells in which the two strips differ.
-pub mended-differing : (R : ℕ) → 0 < R → (marks s t : List ℕ) (m : ℕ) → length s ≡ R * m → length marks ≡ length s → length t ≡ length s → mendedOf R marks s t ≡ differing marks s t
+pub mended-differing : (R : ℕ) → 0 < R → (marks s t : List ℕ) (m : ℕ) → length s ≡ R * m → length marks ≡ length s → length t ≡ length s
+    → mendedOf R marks s t ≡ differing marks s t
 mended-differing = counts.mended-differing

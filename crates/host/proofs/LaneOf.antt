@@ -59,9 +59,8 @@ export-2 marks old r a b n e =
     none marks old 2 r (λ z. omega arith) (stops 1 (repairing gf256 96 (length old) (length marks) marks old) 2 (record { from = a; to = b }, (n, refl))) e
 
 -- what the lane's repair says of the lane, said of the slice
-module _ (marks old : List ℕ) (l m : Lane) (x : LaneRepair) (nl : l .len ≡ length old) (wl : wordOf l ≡ old) (nm : m .len ≡ length marks)
-(wm : wordOf m ≡ marks)
-    (R : LaneRepairsAs l m x) where
+module _ (marks old : List ℕ) (l m : Lane) (x : LaneRepair) (nl : l .len ≡ length old)
+    (wl : wordOf l ≡ old) (nm : m .len ≡ length marks) (wm : wordOf m ≡ marks) (R : LaneRepairsAs l m x) where
   as-slice : RepairsAs gf256 96 marks old (wordOf (x .lane)) (x .answer)
   as-slice = rw (← nl, ← nm, ← wl, ← wm) (R .repairs)
 

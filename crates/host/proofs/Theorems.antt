@@ -98,7 +98,7 @@ strip-write-told l old new r E =
       code = few (writingLevel 384 l (length old)) (writtenNumbers (E .answer) .code) tt (E .kept .code);
       value =
           either (writtenNumbers (E .answer) .value < 512) (writtenNumbers (E .answer) .code)
-          (λ z. omega (arith, E .kept .value z, record-fits l (written-strip-level 4 (omega arith) (omega arith) l old new (E .answer) (E .kept) z)))
+          (λ z. omega (arith, E .kept .value z, record-fits l (written-strip-level 4 (omega arith) l old new (E .answer) (E .kept) z)))
           (λ n. omega (arith, written-zero (E .answer) n));
     })
 
@@ -144,10 +144,10 @@ module _ (s marks tiles tiles' scratch scratch' : List ℕ) (a : Reading) (A : S
   strip-room = either (ReadRoom (stripNumbers a)) (stripNumbers a .code) read refused
     where
       few-mended : stripNumbers a .mended < 64
-      few-mended = omega (arith, mended-most 4 (omega arith) (omega arith) s marks tiles tiles' scratch scratch' a A)
+      few-mended = omega (arith, mended-most 4 (omega arith) s marks tiles tiles' scratch scratch' a A)
 
       few-worn : stripNumbers a .wear < 64
-      few-worn = omega (arith, wear-most 4 (omega arith) (omega arith) s marks tiles tiles' scratch scratch' a A)
+      few-worn = omega (arith, wear-most 4 (omega arith) s marks tiles tiles' scratch scratch' a A)
 
       read : stripNumbers a .code ≡ 0 → ReadRoom (stripNumbers a)
       read z =

@@ -1,4 +1,4 @@
--- What is promised of strips, over the number of lanes R (short: no lane has more than 255 cells). The entries have R = 4.
+-- What is promised of strips, over the number of lanes R, from two on. The entries have four.
 use mathlib.Core.Path.{_≡_, refl, sym, ap, ap₂, _∙_, subst}
 use mathlib.Core.Logic.{_≢_}
 use mathlib.Core.List.{List, _++_}
@@ -18,7 +18,7 @@ use Rattle.level.specs.Record.{recordLength}
 use Rattle.level.specs.Strip.{columns, Legal, IsStrip, StripReach, Reached, wrongIn, markedIn, mendedOf, wearOf}
 use Rattle.level.specs.Reading.{ReadNumbers, returned, entering, mending}
 use Rattle.level.specs.Writing.{writingLevel}
-use Rattle.level.proofs.Dealing.{columns-more}
+use Rattle.level.proofs.Dealing.{columns-more, lanes-short}
 use Rattle.level.proofs.Strips.{same-strip}
 use Rattle.level.proofs.Theorems as levels
 use Rattle.record.proofs.Answers.{written-level, level-written}
@@ -29,7 +29,14 @@ use Rattle.strip.proofs.Laid.{record-fits}
 use Rattle.strip.proofs.Alike as alike
 use Rattle.strip.proofs.Reader.{zeros}
 
-module _ (R : ℕ) (some : 0 < R) (short : columns R 364 + 5 ≤ 255) where
+module _ (R : ℕ) (two : 2 ≤ R) where
+  some : 0 < R
+  some = omega arith
+
+  -- no lane is longer than a word
+  short : columns R 364 + 5 ≤ 255
+  short = lanes-short R two
+
   -- ---- reading
 
   -- Any strip of legal length, whatever its cells hold and whichever are marked, with buffers long enough:

@@ -49,7 +49,8 @@ none marks old c r n f e = record {
   is = e;
 }
 
-pub export-1 : (marks old : List ℕ) (r : ℕ) → (Within 6 96 (length old) → ⊥) → r ≡ packedMended (repairedNumbers (repaired.Refused 1)) → RepairExport 96 marks old old r
+pub export-1 : (marks old : List ℕ) (r : ℕ) → (Within 6 96 (length old) → ⊥) → r ≡ packedMended (repairedNumbers (repaired.Refused 1))
+    → RepairExport 96 marks old old r
 export-1 marks old r n e = none marks old 1 r (λ z. omega arith) (stops 0 (repairing gf256 96 (length old) (length marks) marks old) 1 (n, refl)) e
 
 pub export-2 : (marks old : List ℕ) (r : ℕ) → 6 ≤ length old → length old ≤ 96 → (length marks ≡ length old → ⊥)
@@ -58,8 +59,8 @@ export-2 marks old r a b n e =
     none marks old 2 r (λ z. omega arith) (stops 1 (repairing gf256 96 (length old) (length marks) marks old) 2 (record { from = a; to = b }, (n, refl))) e
 
 -- what the lane's repair says of the lane, said of the slice
-module _ (marks old : List ℕ) (l m : Lane) (x : LaneRepair) (nl : l .len ≡ length old) (wl : wordOf l ≡ old) (nm : m .len ≡ length marks) (wm : wordOf m ≡ marks)
-    (R : LaneRepairsAs l m x) where
+module _ (marks old : List ℕ) (l m : Lane) (x : LaneRepair) (nl : l .len ≡ length old)
+    (wl : wordOf l ≡ old) (nm : m .len ≡ length marks) (wm : wordOf m ≡ marks) (R : LaneRepairsAs l m x) where
   as-slice : RepairsAs gf256 96 marks old (wordOf (x .lane)) (x .answer)
   as-slice = rw (← nl, ← nm, ← wl, ← wm) (R .repairs)
 

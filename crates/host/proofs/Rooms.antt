@@ -60,7 +60,8 @@ module _ (n : ReadNumbers) (h : ReadRoom n) where
 
   pub back-read : unpackedRead (packedRead n) ≡ n
   back-read =
-      ap₂ (λ (c l : ℕ). reads c l (packedRead n / 2 ^ 11 % 32) (packedRead n / 2 ^ 16 % 32) (packedRead n / 2 ^ 21 % 1024) (packedRead n / 2 ^ 31 % 64) (packedRead n / 2 ^ 44 % 64)) c l
+      ap₂ (λ (c l : ℕ). reads c l (packedRead n / 2 ^ 11 % 32) (packedRead n / 2 ^ 16 % 32) (packedRead n / 2 ^ 21 % 1024) (packedRead n / 2 ^ 31 % 64)
+      (packedRead n / 2 ^ 44 % 64)) c l
       ∙ ap₂ (λ (w k : ℕ). reads (n .code) (n .lane) w k (packedRead n / 2 ^ 21 % 1024) (packedRead n / 2 ^ 31 % 64) (packedRead n / 2 ^ 44 % 64)) w k
       ∙ ap₂ (λ (p m : ℕ). reads (n .code) (n .lane) (n .width) (n .height) p m (packedRead n / 2 ^ 44 % 64)) p m
       ∙ ap (λ (v : ℕ). reads (n .code) (n .lane) (n .width) (n .height) (n .par) (n .mended) v) v

@@ -43,14 +43,24 @@ word-write-told d old new r E =
       code = few (writing d old) (writtenNumbers (E .answer) .code) tt (E .kept .code);
       value =
           either (writtenNumbers (E .answer) .value < 512) (writtenNumbers (E .answer) .code)
-          (λ z. omega (arith, E .kept .value z, E .kept .word z .size, all-hold 10 (writing d old) (writtenNumbers (E .answer) .code) tt (E .kept .code) z .0 .to))
+          (λ z. omega (
+            arith,
+            E .kept .value z,
+            E .kept .word z .size,
+            all-hold 10 (writing d old) (writtenNumbers (E .answer) .code) tt
+                (E .kept .code) z .0 .to,
+          ))
           (λ n. omega (arith, written-zero (E .answer) n));
     })
 
 pub word-test-told : (w : List ℕ) (r : ℕ) (E : TestExport w r) → unpackedLength r ≡ testedNumbers (E .answer)
 word-test-told w r E =
     ap unpackedLength (E .is)
-    ∙ back-length (testedNumbers (E .answer)) (record { code = few (testing w) (testedNumbers (E .answer) .code) tt (E .kept .code); value = small (E .answer) })
+    ∙ back-length (testedNumbers (E .answer)) (record {
+      code = few (testing w) (testedNumbers (E .answer) .code) tt (E .kept .code);
+      value = small
+          (E .answer);
+    })
   where
     small : (a : Tested) → testedNumbers a .value < 512
     small tested.Clean = omega arith
@@ -88,7 +98,7 @@ strip-write-told l old new r E =
       code = few (writingLevel 384 l (length old)) (writtenNumbers (E .answer) .code) tt (E .kept .code);
       value =
           either (writtenNumbers (E .answer) .value < 512) (writtenNumbers (E .answer) .code)
-          (λ z. omega (arith, E .kept .value z, record-fits l (written-strip-level 4 (omega arith) (omega arith) l old new (E .answer) (E .kept) z)))
+          (λ z. omega (arith, E .kept .value z, record-fits l (written-strip-level 4 (omega arith) l old new (E .answer) (E .kept) z)))
           (λ n. omega (arith, written-zero (E .answer) n));
     })
 
@@ -134,10 +144,10 @@ module _ (s marks tiles tiles' scratch scratch' : List ℕ) (a : Reading) (A : S
   strip-room = either (ReadRoom (stripNumbers a)) (stripNumbers a .code) read refused
     where
       few-mended : stripNumbers a .mended < 64
-      few-mended = omega (arith, mended-most 4 (omega arith) (omega arith) s marks tiles tiles' scratch scratch' a A)
+      few-mended = omega (arith, mended-most 4 (omega arith) s marks tiles tiles' scratch scratch' a A)
 
       few-worn : stripNumbers a .wear < 64
-      few-worn = omega (arith, wear-most 4 (omega arith) (omega arith) s marks tiles tiles' scratch scratch' a A)
+      few-worn = omega (arith, wear-most 4 (omega arith) s marks tiles tiles' scratch scratch' a A)
 
       read : stripNumbers a .code ≡ 0 → ReadRoom (stripNumbers a)
       read z =

@@ -30,7 +30,8 @@ packedMended a = packedAt 31 64 (a .code) (a .mended)
 -- a reader's numbers: code in bits 0 to 4, lane from 5, width from 11, height from 16, par from 21, mended from 31, wear from 44
 abbrev pub packedRead : ReadNumbers → ℕ
 packedRead n =
-    n .code % 32 + n .lane % 16 * 2 ^ 5 + n .width % 32 * 2 ^ 11 + n .height % 32 * 2 ^ 16 + n .par % 1024 * 2 ^ 21 + n .mended % 64 * 2 ^ 31 + n .wear % 64 * 2 ^ 44
+    n .code % 32 + n .lane % 16 * 2 ^ 5 + n .width % 32 * 2 ^ 11 + n .height % 32 * 2 ^ 16 + n .par % 1024 * 2 ^ 21
+    + n .mended % 64 * 2 ^ 31 + n .wear % 64 * 2 ^ 44
 
 -- the numbers taken out again, as the header does
 abbrev pub unpackedLength : ℕ → Numbers

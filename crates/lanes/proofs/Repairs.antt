@@ -30,7 +30,8 @@ asked s marks j room h rd =
     record { inside = h; legal = record { from = c .0; to = c .1 }; full = c .2; matched = rd .matched; good = rd .good }
 
 -- a lane that was mended, and put back
-pub yes-lane : (s marks : List ℕ) (j room : ℕ) → Ready 4 s marks room → (w : Lane) (a : Repaired) (e : ℕ) → a ≡ repaired.Mended e → LaneMendsAs gf256 4 j marks s w a
+pub yes-lane : (s marks : List ℕ) (j room : ℕ) → Ready 4 s marks room → (w : Lane) (a : Repaired) (e : ℕ) → a ≡ repaired.Mended e
+    → LaneMendsAs gf256 4 j marks s w a
     → (x x' : List ℕ) → Scattered 4 (4 * w .len) j (wordOf w) x x' → OneGood 4 s marks j x x' (record { good = true; mended = e })
 yes-lane s marks j room rd w a e is A x x' sc = record {
   mended-lane = record { clean = rw own (L .clean); reach = rw own (L .reach) };
@@ -51,7 +52,8 @@ yes-lane s marks j room rd w a e is A x x' sc = record {
     own = S .own
 
 -- and one that cannot be
-pub no-lane : (s marks : List ℕ) (j : ℕ) (w : Lane) (a : Repaired) (c : ℕ) → a ≡ repaired.Refused c → LaneMendsAs gf256 4 j marks s w a → Mendable gf256 4 marks s j → ⊥
+pub no-lane : (s marks : List ℕ) (j : ℕ) (w : Lane) (a : Repaired) (c : ℕ) → a ≡ repaired.Refused c → LaneMendsAs gf256 4 j marks s w a
+    → Mendable gf256 4 marks s j → ⊥
 no-lane s marks j w a c is A = lane-lost gf256 4 j marks s w a c is A .none
 
 -- a lane that is clean stays as it is

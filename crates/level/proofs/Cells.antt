@@ -64,7 +64,8 @@ clean3 = five (λ j. S gf256 j (0x01 ∷ 0x00 ∷ 0x6C ∷ 0xAA ∷ 0x82 ∷ 0x8
 clean-cons : (w : List ℕ) → Clean gf256 w → Clean gf256 (0 ∷ w)
 clean-cons w c j l h =
     words.sum-value gf256 field256 j (0 ∷ w) ∙ generators.value-cons gf256 field256 (alphaTo gf256 j) 0 w
-    ∙ ap₂ (λ (a b : ℕ). gf256 ._⊕_ a b) (laws.zero-mul gf256 field256 (power gf256 (alphaTo gf256 j) (length w))) (sym (words.sum-value gf256 field256 j w) ∙ c j l h)
+    ∙ ap₂ (λ (a b : ℕ). gf256 ._⊕_ a b) (laws.zero-mul gf256 field256 (power gf256 (alphaTo gf256 j) (length w)))
+    (sym (words.sum-value gf256 field256 j w) ∙ c j l h)
 
 -- the first cell and the others
 count-cons : (f : ℕ → Bool) (n : ℕ) → countTo f (suc n) ≡ oneIf (f 0) + countTo (λ p. f (suc p)) n
@@ -175,13 +176,15 @@ cells = (
             (
               (clean0, record { same-length = refl; few = omega arith }, refl),
               (
-                at-six none (0x01 ∷ 0xCE ∷ 0xE6 ∷ 0x00 ∷ 0x00 ∷ 0x00 ∷ []) (0x01 ∷ 0xCE ∷ 0xE6 ∷ 0xE6 ∷ 0xCE ∷ 0x01 ∷ []) (omega arith) (bytes-of (0x01 ∷ 0xCE ∷ 0xE6 ∷ 0xE6 ∷ 0xCE ∷ 0x01 ∷ []) tt) clean1 refl refl,
+                at-six none (0x01 ∷ 0xCE ∷ 0xE6 ∷ 0x00 ∷ 0x00 ∷ 0x00 ∷ []) (0x01 ∷ 0xCE ∷ 0xE6 ∷ 0xE6 ∷ 0xCE ∷ 0x01 ∷ []) (omega arith)
+                    (bytes-of (0x01 ∷ 0xCE ∷ 0xE6 ∷ 0xE6 ∷ 0xCE ∷ 0x01 ∷ []) tt) clean1 refl refl,
                 (
                   (clean1, record { same-length = refl; few = omega arith }, refl),
                   (
                     (clean2, record { same-length = refl; few = omega arith }, refl),
                     (
-                      at-six ones (0x02 ∷ 0 ∷ 0 ∷ 0 ∷ 0 ∷ 0 ∷ []) (0x02 ∷ 0x81 ∷ 0xD1 ∷ 0xD1 ∷ 0x81 ∷ 0x02 ∷ []) (omega arith) (bytes-of (0x02 ∷ 0x81 ∷ 0xD1 ∷ 0xD1 ∷ 0x81 ∷ 0x02 ∷ []) tt) clean2 refl refl,
+                      at-six ones (0x02 ∷ 0 ∷ 0 ∷ 0 ∷ 0 ∷ 0 ∷ []) (0x02 ∷ 0x81 ∷ 0xD1 ∷ 0xD1 ∷ 0x81 ∷ 0x02 ∷ []) (omega arith)
+                          (bytes-of (0x02 ∷ 0x81 ∷ 0xD1 ∷ 0xD1 ∷ 0x81 ∷ 0x02 ∷ []) tt) clean2 refl refl,
                       ((clean3, record { same-length = refl; few = omega arith }, refl), (outside, ((is-level, is-record, is-strip), tt))),
                     ),
                   ),
@@ -202,5 +205,6 @@ cells = (
     ones = 1 ∷ 1 ∷ 1 ∷ 1 ∷ 1 ∷ 1 ∷ []
 
     -- a clean word at exactly six refutes every other
-    at-six : (marks r v : List ℕ) → length r ≤ 255 → Cells gf256 v → Clean gf256 v → length v ≡ length r → 2 * differing marks r v + marked marks r ≡ 6 → Reachable gf256 marks r → ⊥
+    at-six : (marks r v : List ℕ) → length r ≤ 255 → Cells gf256 v → Clean gf256 v → length v ≡ length r → 2 * differing marks r v + marked marks r ≡ 6
+        → Reachable gf256 marks r → ⊥
     at-six marks r v short cv kv e six R = none-at-six gf256 field256 marks r v (R .word) short cv (R .cells) kv (R .clean) e six (R .reach)

@@ -64,7 +64,9 @@ module _ (R : ℕ) (some : 0 < R) (marks s t : List ℕ) where
   wear-most legal h = omega (arith, div-lt-iff-lt-mul {k = length s} positive .1 small)
     where
       one-column : 1 ≤ columns R 4
-      one-column = ⊎-elim (λ z. absurd (omega (arith, div-add-mod (4 + (R - 1)) R, mod-lt (4 + (R - 1)) some, ap (λ (q : ℕ). R * q) z, mul-zero R))) (λ p. p) (eq-zero-or-pos (columns R 4))
+      one-column =
+          ⊎-elim (λ z. absurd (omega (arith, div-add-mod (4 + (R - 1)) R, mod-lt (4 + (R - 1)) some, ap (λ (q : ℕ). R * q) z, mul-zero R))) (λ p. p)
+          (eq-zero-or-pos (columns R 4))
 
       long : R * 6 ≤ length s
       long = rw (legal .cells) (mul-le-mul-left R (omega (arith, legal .from, one-column)))

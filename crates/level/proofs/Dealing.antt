@@ -25,6 +25,13 @@ within R some n = omega (arith, div-add-mod (n + (R - 1)) R, mod-lt (n + (R - 1)
 pub columns-more : (R : ℕ) → 0 < R → (m n : ℕ) → m ≤ n → columns R m ≤ columns R n
 columns-more R some m n h = le-div-iff-mul-le some .1 (omega (arith, div-mul-le-self (m + (R - 1)) R))
 
+-- two lanes or more are short enough for words of 255
+pub lanes-short : (R : ℕ) → 2 ≤ R → columns R 364 + 5 ≤ 255
+lanes-short R two = omega (arith, div-lt-iff-lt-mul {k = R} (omega arith) .1 fits)
+  where
+    fits : 364 + (R - 1) < 251 * R
+    fits = omega arith
+
 -- cell i of lane j is cell R i + j
 module _ (R : ℕ) (some : 0 < R) (i j : ℕ) (h : j < R) where
   pub lane-of : (R * i + j) % R ≡ j

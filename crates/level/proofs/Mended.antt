@@ -80,7 +80,8 @@ module _ (O : Ops) (F : IsField O) (bytes : O .size ≤ 256) (R : ℕ) (some : 0
   pub strip-passes : (l : Level) (u : List ℕ) → IsLevel l → IsStrip O R l u → Passes R (dataOf R u) l
   strip-passes l u il st =
       record-passes R some l (st .bs) (dataOf R u) il (st .is-record) long
-      (λ q h. laid-out O F R some (st .bs) u (st .dealt) q (omega (arith, long)) ∙ sym (data-cell u (columns R (length (st .bs))) (st .dealt .size) q (omega (arith, long))))
+      (λ q h. laid-out O F R some (st .bs) u (st .dealt) q (omega (arith, long))
+      ∙ sym (data-cell u (columns R (length (st .bs))) (st .dealt .size) q (omega (arith, long))))
     where
       long : length (dataOf R u) ≡ R * columns R (length (st .bs))
       long = data-length u (columns R (length (st .bs))) (st .dealt .size)
@@ -88,7 +89,8 @@ module _ (O : Ops) (F : IsField O) (bytes : O .size ≤ 256) (R : ℕ) (some : 0
   module _ (marks s t : List ℕ) (m : ℕ) (full : length s ≡ R * (m + 5)) (short : m + 5 ≤ order) (M : Mends O R marks s t) where
     -- a mended strip whose record passes is a level's
     pub level-reached : Hold (asked (λ ask. ask (dataOf R t)) (judging R)) → Reached O R marks s (levelOf (dataOf R t)) t
-    level-reached h = let x = level-strip t m (M .reach .same-length ∙ full) (M .cells) (M .clean) h in record { is-level = x .0; is-strip = x .1; reach = M .reach }
+    level-reached h =
+        let x = level-strip t m (M .reach .same-length ∙ full) (M .cells) (M .clean) h in record { is-level = x .0; is-strip = x .1; reach = M .reach }
 
     -- a level's strip within reach is the mended strip
     pub passing : (l : Level) (u : List ℕ) → Reached O R marks s l u → Passes R (dataOf R t) l

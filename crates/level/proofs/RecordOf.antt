@@ -132,7 +132,8 @@ module _ (l : Level) where
       ap (bitAt (recordOf l)) (sym e)
       ∙ spelled-at 8 (λ i. bitAt (recordOf l) (8 * (p / 8) + i)) (λ i. recordBit l (8 * (p / 8) + i))
       (λ i m. bit-small (recordOf l) (8 * (p / 8) + i)) (λ i m. bits-small (8 * (p / 8) + i))
-      (sym (field-spelled (recordOf l) (8 * (p / 8)) 8) ∙ byte-field (recordOf l) (p / 8) (rw (getD-record (p / 8) k) (byte-below (p / 8))) ∙ getD-record (p / 8) k)
+      (sym (field-spelled (recordOf l) (8 * (p / 8)) 8) ∙ byte-field (recordOf l) (p / 8) (rw (getD-record (p / 8) k) (byte-below (p / 8)))
+      ∙ getD-record (p / 8) k)
       (p % 8) (omega arith)
       ∙ ap (recordBit l) e
 
@@ -147,9 +148,15 @@ module _ (l : Level) where
     bytes = record { cell = λ j h. let k : j < B = omega (arith, length-record) in rw (getD-record j k) (byte-below j) };
     size = length-record;
     version = field-record 0 4 (l .version) (omega arith) (omega (arith, il .ranged .known)) (λ i h. let z : 0 + i ≡ i = omega arith in rw z (bit-1 i h));
-    width = field-record 4 5 (l .width) (omega arith) (omega (arith, il .ranged .sized)) (λ i h. bit-2 (4 + i) (omega arith) (omega arith) ∙ ap (digit 5 (l .width)) (omega arith));
-    height = field-record 9 5 (l .height) (omega arith) (omega (arith, il .ranged .sized)) (λ i h. bit-3 (9 + i) (omega arith) (omega arith) ∙ ap (digit 5 (l .height)) (omega arith));
-    par = field-record 14 10 (l .par) (omega arith) (omega (arith, il .ranged .par-small)) (λ i h. bit-4 (14 + i) (omega arith) (omega arith) ∙ ap (digit 10 (l .par)) (omega arith));
+    width =
+        field-record 4 5 (l .width) (omega arith) (omega (arith, il .ranged .sized))
+        (λ i h. bit-2 (4 + i) (omega arith) (omega arith) ∙ ap (digit 5 (l .width)) (omega arith));
+    height =
+        field-record 9 5 (l .height) (omega arith) (omega (arith, il .ranged .sized))
+        (λ i h. bit-3 (9 + i) (omega arith) (omega arith) ∙ ap (digit 5 (l .height)) (omega arith));
+    par =
+        field-record 14 10 (l .par) (omega arith) (omega (arith, il .ranged .par-small))
+        (λ i h. bit-4 (14 + i) (omega arith) (omega arith) ∙ ap (digit 10 (l .par)) (omega arith));
     tile = λ i h. field-record (24 + 3 * i) 3 (getD (l .tiles) i 0) (omega (arith, il .count)) (omega (arith, il .codes i h)) (λ j k. tiled i j k);
     filling = λ p h k. bits-record p (omega (arith, length-record)) ∙ bit-past p (omega arith) (omega arith);
   }

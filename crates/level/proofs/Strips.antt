@@ -23,8 +23,10 @@ module _ (O : Ops) (F : IsField O) (R : ℕ) (some : 0 < R) where
   strip-size l s st = st .dealt .size ∙ ap (λ (n : ℕ). R * (columns R n + 5)) (st .is-record .size)
 
   -- a level has one strip
-  pub one-strip : (l : Level) (s t : List ℕ) → IsLevel l → columns R (recordLength (l .width) (l .height)) + 5 ≤ order → IsStrip O R l s → IsStrip O R l t → s ≡ t
-  one-strip l s t il short a b = one-dealt O F R some (a .bs) s t (rw (a .is-record .size) short) (a .dealt) (subst (λ (x : List ℕ). Dealt O R x t) (sym recs) (b .dealt))
+  pub one-strip : (l : Level) (s t : List ℕ) → IsLevel l → columns R (recordLength (l .width) (l .height)) + 5 ≤ order → IsStrip O R l s → IsStrip O R l t
+      → s ≡ t
+  one-strip l s t il short a b =
+      one-dealt O F R some (a .bs) s t (rw (a .is-record .size) short) (a .dealt) (subst (λ (x : List ℕ). Dealt O R x t) (sym recs) (b .dealt))
     where
       recs : a .bs ≡ b .bs
       recs = one-record l (a .bs) (b .bs) il (a .is-record) (b .is-record)
@@ -67,6 +69,7 @@ module _ (O : Ops) (F : IsField O) (R : ℕ) (some : 0 < R) where
         → 2 * wrongIn R marks s v j + markedIn R marks j ≡ 6 → Reached O R marks s n t → ⊥
     six-refused l n v t j em st ev h six b =
         none-at-six O F (lane R j marks) (lane R j s) (lane R j v) (lane R j t) (lane-short j)
-        (bytes-lane R some O j v h (st .dealt .cells)) (bytes-lane R some O j t h (b .is-strip .dealt .cells)) (st .dealt .clean j h) (b .is-strip .dealt .clean j h)
+        (bytes-lane R some O j v h (st .dealt .cells)) (bytes-lane R some O j t h (b .is-strip .dealt .cells)) (st .dealt .clean j h)
+        (b .is-strip .dealt .clean j h)
         (length-lane R some j v ∙ ap (λ (x : ℕ). x / R) ev ∙ sym (length-lane R some j s))
         (rw (length-lane R some j s) (rw em at six)) (b .reach .each j h)

@@ -2,15 +2,18 @@
 use mathlib.Core.Path.{_≡_, sym, ap, _∙_}
 use mathlib.Core.List.{List}
 use Prim.Native.Nat.{ℕ, _+_, _*_, _/_, _≤_, _<_}
+use native.Mathlib.Nat.{mul-le-mul}
 use native.Mathlib.Omega.{arith}
 use lib.ListN.{length}
 use Rattle.account.specs.Field.{Ops, IsField}
 use Rattle.account.specs.Reach.{differing}
+use Rattle.gf256.specs.Gf256.{gf256}
+use Rattle.gf256.proofs.Field256.{field256}
 use Rattle.level.specs.Level.{Level, IsLevel}
 use Rattle.level.specs.Record.{recordLength, IsRecord}
 use Rattle.level.specs.Strip.{columns, Legal, Dealt, IsStrip, StripReach, Reached, wrongIn, markedIn, mendedOf, wearOf}
 use Rattle.level.proofs.Written.{recordOf}
-use Rattle.level.proofs.Dealing.{some-dealt}
+use Rattle.level.proofs.Dealing.{some-dealt, columns-more, lanes-short}
 use Rattle.level.proofs.Fields as fields
 use Rattle.level.proofs.Determined as determined
 use Rattle.level.proofs.RecordOf as records
@@ -39,10 +42,13 @@ module _ (O : Ops) (F : IsField O) (R : ℕ) (some : 0 < R) where
       r = records.record-of l il
 
       d : (s : List ℕ) × Dealt O R (recordOf l) s
-      d = some-dealt O F R some (recordOf l) (rw (records.record-of l il .size) short) (record { cell = λ p h. omega (arith, room, records.record-of l il .bytes .cell p h) })
+      d =
+          some-dealt O F R some (recordOf l) (rw (records.record-of l il .size) short)
+          (record { cell = λ p h. omega (arith, room, records.record-of l il .bytes .cell p h) })
 
   -- And one.
-  pub one-strip : (l : Level) (s t : List ℕ) → IsLevel l → columns R (recordLength (l .width) (l .height)) + 5 ≤ order → IsStrip O R l s → IsStrip O R l t → s ≡ t
+  pub one-strip : (l : Level) (s t : List ℕ) → IsLevel l → columns R (recordLength (l .width) (l .height)) + 5 ≤ order → IsStrip O R l s → IsStrip O R l t
+      → s ≡ t
   one-strip = strips.one-strip O F R some
 
   -- Two levels with one strip are one level.
@@ -59,6 +65,17 @@ module _ (O : Ops) (F : IsField O) (R : ℕ) (some : 0 < R) where
         → 2 * wrongIn R marks s v j + markedIn R marks j ≡ 6 → Reached O R marks s n t → ⊥
     six-refused = strips.six-refused O F R some marks s m full short
 
+-- Over bytes each level has a strip of every number of lanes from two on.
+pub every-strip : (R : ℕ) → 2 ≤ R → (l : Level) → IsLevel l → (s : List ℕ) × IsStrip gf256 R l s
+every-strip R two l il =
+    some-strip gf256 field256 R some (omega arith) l il (omega (arith, lanes-short R two, columns-more R some (recordLength (l .width) (l .height)) 364 short))
+  where
+    some : 0 < R
+    some = omega arith
+
+    short : recordLength (l .width) (l .height) ≤ 364
+    short = omega (arith, mul-le-mul (il .ranged .sized .not-wider) (il .ranged .sized .not-higher))
+
 -- At most two cells of each lane are mended, and wear is at most 33.
 pub mended-most : (R : ℕ) → 0 < R → (marks s t : List ℕ) → StripReach R marks s t → mendedOf R marks s t ≤ 2 * R
 mended-most = counts.mended-most
@@ -67,5 +84,6 @@ pub wear-most : (R : ℕ) → 0 < R → (marks s t : List ℕ) → Legal R (leng
 wear-most = counts.wear-most
 
 -- Mended is the number of unmarked cells in which the two strips differ.
-pub mended-differing : (R : ℕ) → 0 < R → (marks s t : List ℕ) (m : ℕ) → length s ≡ R * m → length marks ≡ length s → length t ≡ length s → mendedOf R marks s t ≡ differing marks s t
+pub mended-differing : (R : ℕ) → 0 < R → (marks s t : List ℕ) (m : ℕ) → length s ≡ R * m → length marks ≡ length s → length t ≡ length s
+    → mendedOf R marks s t ≡ differing marks s t
 mended-differing = counts.mended-differing

@@ -98,4 +98,5 @@ module _ (bs part : List ℕ) (k : ℕ) (same : (q : ℕ) → getD part q 0 ≡ 
   pub field-part : (p n : ℕ) → fieldAt part p n ≡ fieldAt bs (8 * k + p) n
   field-part p n =
       field-is part p n (λ i. bitAt part (p + i)) (λ i l. refl)
-      ∙ sym (field-is bs (8 * k + p) n (λ i. bitAt part (p + i)) (λ i l. let z : 8 * k + p + i ≡ 8 * k + (p + i) = omega arith in ap (bitAt bs) z ∙ sym (bit-part (p + i))))
+      ∙ sym (field-is bs (8 * k + p) n (λ i. bitAt part (p + i))
+      (λ i l. let z : 8 * k + p + i ≡ 8 * k + (p + i) = omega arith in ap (bitAt bs) z ∙ sym (bit-part (p + i))))

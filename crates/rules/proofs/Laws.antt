@@ -49,7 +49,8 @@ pub numbered : (a b : ℕ) (rs : List Rule) (c : ℕ) → T (between a b rs) →
 numbered a b [] c t f n = absurd (n f)
 numbered a b (r ∷ rs) c t (inl p) n =
     let x : a ≤ r .number = leb→le a (r .number) (and-left (leb a (r .number)) (and (leb (r .number) b) (between a b rs)) t) in
-    let y : r .number ≤ b = leb→le (r .number) b (and-left (leb (r .number) b) (between a b rs) (and-right (leb a (r .number)) (and (leb (r .number) b) (between a b rs)) t)) in
+    let y : r .number ≤ b = leb→le (r .number) b (and-left (leb (r .number) b) (between a b rs)
+    (and-right (leb a (r .number)) (and (leb (r .number) b) (between a b rs)) t)) in
     (omega (arith, p .1), omega (arith, p .1))
 numbered a b (r ∷ rs) c t (inr p) n =
     numbered a b rs c (and-right (leb (r .number) b) (between a b rs) (and-right (leb a (r .number)) (and (leb (r .number) b) (between a b rs)) t)) (p .1) n
@@ -68,8 +69,11 @@ all-hold b [] c t f z = tt
 all-hold b (r ∷ rs) c t (inl p) z =
     let x : 1 ≤ r .number = leb→le 1 (r .number) (and-left (leb 1 (r .number)) (and (leb (r .number) b) (between 1 b rs)) t) in
     absurd (omega (arith, p .1, z))
-all-hold b (r ∷ rs) c t (inr p) z =
-    (p .0, all-hold b rs c (and-right (leb (r .number) b) (between 1 b rs) (and-right (leb 1 (r .number)) (and (leb (r .number) b) (between 1 b rs)) t)) (p .1) z)
+all-hold b (r ∷ rs) c t (inr p) z = (
+  p .0,
+  all-hold b rs c (and-right (leb (r .number) b) (between 1 b rs) (and-right (leb 1 (r .number)) (and (leb (r .number) b) (between 1 b rs)) t))
+      (p .1) z,
+)
 
 -- ---- two lists, one after the other
 

@@ -29,7 +29,8 @@ use Rattle.strip.proofs.Reader.{zeros}
 
 -- ---- a strip beside itself
 
-pub written-size : (R : ℕ) → 0 < R → (l : Level) (new : List ℕ) → IsStrip gf256 R l (take (stripLength R l) new) → length (take (stripLength R l) new) ≡ stripLength R l
+pub written-size : (R : ℕ) → 0 < R → (l : Level) (new : List ℕ) → IsStrip gf256 R l (take (stripLength R l) new)
+    → length (take (stripLength R l) new) ≡ stripLength R l
 written-size R some l new st = strip-size gf256 field256 R some l (take (stripLength R l) new) st
 
 pub nothing-differs : (marks s : List ℕ) → differing marks s s ≡ 0
@@ -41,7 +42,8 @@ at-home R some marks s none = record { same-length = refl; each = λ j h. each j
     unmarked : (j i : ℕ) → T (not (isMarked (lane R j marks) i))
     unmarked j i =
         subst (λ (m : ℕ). T (not (not (eqb m 0))))
-        (sym (⊎-elim (λ h. getD-lane R some j marks i h ∙ none (R * i + j)) (λ h. getD-past (lane R j marks) i (omega (arith, length-lane R some j marks))) (lt-or-ge i (length marks / R)))) tt
+        (sym (⊎-elim (λ h. getD-lane R some j marks i h ∙ none (R * i + j)) (λ h. getD-past (lane R j marks) i (omega (arith, length-lane R some j marks)))
+        (lt-or-ge i (length marks / R)))) tt
 
     each : (j : ℕ) → Reach (lane R j marks) (lane R j s) (lane R j s)
     each j = record {
@@ -64,8 +66,8 @@ same-numbers x y c l w h p m v =
 
 -- ---- two readings
 
-module _ (R : ℕ) (some : 0 < R) (short : columns R 364 + 5 ≤ 255) (r s marks tiles t1 t2 u u' v v' : List ℕ) (same : SameRead marks r s) (eu : length u ≡ length v)
-    (a b : Reading) (A : StripReadsAs R r marks tiles t1 u u' a) (B : StripReadsAs R s marks tiles t2 v v' b) where
+module _ (R : ℕ) (some : 0 < R) (short : columns R 364 + 5 ≤ 255) (r s marks tiles t1 t2 u u' v v' : List ℕ) (same : SameRead marks r s)
+    (eu : length u ≡ length v) (a b : Reading) (A : StripReadsAs R r marks tiles t1 u u' a) (B : StripReadsAs R s marks tiles t2 v v' b) where
   -- the same is asked before the pictures are looked at
   enter-alike : Alike (entering R r marks (length tiles) (length u)) (entering R s marks (length tiles) (length v))
   enter-alike = (
@@ -127,8 +129,14 @@ module _ (R : ℕ) (some : 0 < R) (short : columns R 364 + 5 ≤ 255) (r s marks
           before (entering R s marks (length tiles) (length v)) (mending gf256 R s marks) (stripNumbers a .code) (λ z. q .0 (entered z))
           (first-alike (entering R r marks (length tiles) (length u)) (entering R s marks (length tiles) (length v)) (stripNumbers a .code) enter-alike (q .1))
       go (inr q) =
-          after (entering R s marks (length tiles) (length v)) (mending gf256 R s marks) (stripNumbers a .code)
-          (subst (Legal R) (same .same-length) (q .0 .0), (q .0 .1 .0 ∙ same .same-length, (q .0 .1 .1 .0, (q .0 .1 .1 .1 .0, (omega (arith, eu, q .0 .1 .1 .1 .1 .0), tt)))))
+          after (entering R s marks (length tiles) (length v)) (mending gf256 R s marks) (stripNumbers a .code) (
+            subst (Legal R) (same .same-length) (q .0 .0),
+            (
+              q .0 .1 .0
+                  ∙ same .same-length,
+              (q .0 .1 .1 .0, (q .0 .1 .1 .1 .0, (omega (arith, eu, q .0 .1 .1 .1 .1 .0), tt))),
+            ),
+          )
           (first-alike (mending gf256 R r marks) (mending gf256 R s marks) (stripNumbers a .code) (mend-alike (q .0)) (q .1))
 
   codes : stripNumbers a .code ≡ stripNumbers b .code
@@ -137,7 +145,8 @@ module _ (R : ℕ) (some : 0 < R) (short : columns R 364 + 5 ≤ 255) (r s marks
   -- the lowest lane is one
   lowest : Hold (entering R r marks (length tiles) (length u)) → (i j : ℕ) → Lowest gf256 R marks r i → Lowest gf256 R marks s j → i ≡ j
   lowest h i j p q =
-      ⊎-elim (λ l. absurd (p .beyond (to-r i (q .below i l)))) (λ g. ⊎-elim (λ l. absurd (q .beyond (to-s j (p .below j l)))) (λ k. omega arith) (lt-or-ge j i)) (lt-or-ge i j)
+      ⊎-elim (λ l. absurd (p .beyond (to-r i (q .below i l))))
+      (λ g. ⊎-elim (λ l. absurd (q .beyond (to-s j (p .below j l)))) (λ k. omega arith) (lt-or-ge j i)) (lt-or-ge i j)
     where
       to-r : (n : ℕ) → Mendable gf256 R marks s n → Mendable gf256 R marks r n
       to-r n = same-mendable R some marks s r (h .0 .k + 5) (full' h) (matched' h) (back h) gf256 n
@@ -180,11 +189,13 @@ module _ (R : ℕ) (some : 0 < R) (short : columns R 364 + 5 ≤ 255) (r s marks
 
     strips : za .strip ≡ zb .strip
     strips =
-        same-strip gf256 field256 R some marks s (h .0 .k + 5) (full' h) (omega (arith, h .0 .to, short)) (returned (stripNumbers a) t1) (returned (stripNumbers b) t2) (za .strip) (zb .strip)
+        same-strip gf256 field256 R some marks s (h .0 .k + 5) (full' h) (omega (arith, h .0 .to, short)) (returned (stripNumbers a) t1)
+        (returned (stripNumbers b) t2) (za .strip) (zb .strip)
         reached (zb .reached)
 
     mendeds : stripNumbers a .mended ≡ stripNumbers b .mended
-    mendeds = za .mended-is ∙ same-mended R some marks r s (h .0 .k + 5) (full h) (matched h) same (za .strip) ∙ ap (mendedOf R marks s) strips ∙ sym (zb .mended-is)
+    mendeds =
+        za .mended-is ∙ same-mended R some marks r s (h .0 .k + 5) (full h) (matched h) same (za .strip) ∙ ap (mendedOf R marks s) strips ∙ sym (zb .mended-is)
 
     wides : stripNumbers a .width ≡ stripNumbers b .width
     wides = ap (λ (l : Level). l .width) level
@@ -213,5 +224,6 @@ module _ (R : ℕ) (some : 0 < R) (short : columns R 364 + 5 ≤ 255) (r s marks
     either (stripNumbers a ≡ stripNumbers b) (stripNumbers a .code) read-numbers (λ n.
         let x = zeros a n in
         let y = zeros b (λ z. n (codes ∙ z)) in
-        same-numbers (stripNumbers a) (stripNumbers b) codes lanes (x .0 ∙ sym (y .0)) (x .1 ∙ sym (y .1)) (x .2 ∙ sym (y .2)) (x .3 ∙ sym (y .3)) (x .4 ∙ sym (y .4))),
+        same-numbers (stripNumbers a) (stripNumbers b) codes lanes (x .0 ∙ sym (y .0)) (x .1 ∙ sym (y .1)) (x .2 ∙ sym (y .2)) (x .3 ∙ sym (y .3))
+        (x .4 ∙ sym (y .4))),
   )

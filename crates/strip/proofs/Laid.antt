@@ -83,18 +83,21 @@ module _ (R : ℕ) (some : 0 < R) (l : Level) (o x1 x2 x3 : List ℕ) (b k : ℕ
       clean = λ j h. checks .words j h .clean;
       laid = λ q h.
           let i : q < R * k = omega (arith, data-wide) in
-          cell R some (take (R * (k + 5)) x3) (k + 5) front q (omega (arith, front, cells)) ∙ getD-take (R * (k + 5)) x3 q 0 (omega (arith, cells)) ∙ data-cell q i;
+          cell R some (take (R * (k + 5)) x3) (k + 5) front q (omega (arith, front, cells)) ∙ getD-take (R * (k + 5)) x3 q 0 (omega (arith, cells))
+          ∙ data-cell q i;
     };
   }
 
   past-cell : (p : ℕ) → b ≤ p → getD x1 p 0 ≡ getD o p 0
   past-cell p h =
       let z : b + (p - b) ≡ p = omega arith in
-      ap (λ (n : ℕ). getD x1 n 0) (sym z) ∙ sym (getD-drop b x1 (p - b) 0) ∙ ap (λ (x : List ℕ). getD x (p - b) 0) (put .past) ∙ getD-drop b o (p - b) 0 ∙ ap (λ (n : ℕ). getD o n 0) z
+      ap (λ (n : ℕ). getD x1 n 0) (sym z) ∙ sym (getD-drop b x1 (p - b) 0) ∙ ap (λ (x : List ℕ). getD x (p - b) 0) (put .past) ∙ getD-drop b o (p - b) 0
+      ∙ ap (λ (n : ℕ). getD o n 0) z
 
   strip-past : drop (R * (k + 5)) x3 ≡ drop (R * (k + 5)) o
   strip-past =
-      ext-getD 0 (drop (R * (k + 5)) x3) (drop (R * (k + 5)) o) (length-drop (R * (k + 5)) x3 ∙ ap (λ (n : ℕ). n - R * (k + 5)) x3-long ∙ sym (length-drop (R * (k + 5)) o)) (λ i h.
+      ext-getD 0 (drop (R * (k + 5)) x3) (drop (R * (k + 5)) o)
+      (length-drop (R * (k + 5)) x3 ∙ ap (λ (n : ℕ). n - R * (k + 5)) x3-long ∙ sym (length-drop (R * (k + 5)) o)) (λ i h.
       getD-drop (R * (k + 5)) x3 i 0 ∙ checks .past (R * (k + 5) + i) (omega arith) ∙ filled .outside (R * (k + 5) + i) (inr (omega (arith, cells)))
       ∙ past-cell (R * (k + 5) + i) (omega (arith, cells, holds)) ∙ sym (getD-drop (R * (k + 5)) o i 0))
 

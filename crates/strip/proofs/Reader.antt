@@ -39,7 +39,8 @@ module _ (R : ℕ) where
       kept = A .kept;
     }
 
-    pub finish-read : (v : ℕ) → j .code ≡ 0 → v ≡ wearOf e N → FinishedAs R bs N e tiles tiles' (stripNumbers (reading.Read (j .width) (j .height) (j .par) e v))
+    pub finish-read : (v : ℕ) → j .code ≡ 0 → v ≡ wearOf e N → FinishedAs R bs N e tiles tiles'
+        (stripNumbers (reading.Read (j .width) (j .height) (j .par) e v))
     finish-read v z ev = record {
       first = subst (First (asked (λ ask. ask bs) (judging R))) z (A .first);
       lane = refl;
@@ -56,7 +57,8 @@ module _ (R : ℕ) where
 
   module _ (s marks tiles scratch : List ℕ) where
     -- refused before the picture is looked at
-    pub early-as : (c : ℕ) → (c ≡ 0 → ⊥) → First (entering R s marks (length tiles) (length scratch)) c → StripReadsAs R s marks tiles tiles scratch scratch (reading.Refused c 0)
+    pub early-as : (c : ℕ) → (c ≡ 0 → ⊥) → First (entering R s marks (length tiles) (length scratch)) c
+        → StripReadsAs R s marks tiles tiles scratch scratch (reading.Refused c 0)
     early-as c n f = record {
       code = before (entering R s marks (length tiles) (length scratch)) (mending gf256 R s marks) c n f;
       lane = λ z. absurd (omega (arith, z, numbered 1 5 (entering R s marks (length tiles) (length scratch)) c tt f n));
@@ -71,7 +73,9 @@ module _ (R : ℕ) where
       -- a lane is beyond reach
       pub lane-as : (j : ℕ) → Lowest gf256 R marks s j → StripReadsAs R s marks tiles tiles scratch scratch' (reading.Refused 6 j)
       lane-as j low = record {
-        code = after (entering R s marks (length tiles) (length scratch)) (mending gf256 R s marks) 6 h (stops 0 (mending gf256 R s marks) 6 ((λ f. low .beyond (f j (low .lane-below))), refl));
+        code =
+            after (entering R s marks (length tiles) (length scratch)) (mending gf256 R s marks) 6 h
+            (stops 0 (mending gf256 R s marks) 6 ((λ f. low .beyond (f j (low .lane-below))), refl));
         lane = λ _. low;
         other-lane = λ n. absurd (n refl);
         level = λ z. absurd (omega arith);
@@ -92,18 +96,24 @@ module _ (R : ℕ) where
         level-as : stripNumbers a .code ≡ 0 → LevelRead gf256 R s marks tiles tiles' (stripNumbers a)
         level-as z = record {
           strip = t;
-          reached = subst (λ (l : Level). Reached gf256 R marks s l t) same (level-reached gf256 field256 (omega arith) R some marks s t (h .0 .k) full shorter M good);
+          reached =
+              subst (λ (l : Level). Reached gf256 R marks s l t) same
+              (level-reached gf256 field256 (omega arith) R some marks s t (h .0 .k) full shorter M good);
           only = λ l u q. sym (passing gf256 field256 (omega arith) R some marks s t (h .0 .k) full shorter M l u q .level) ∙ same;
           mended-is = F .mended z ∙ counted;
           wear-is = F .wear z ∙ ap (λ (x : ℕ). wearOf x (length s)) (sym (F .mended z));
-          rest = tiles-past (dataOf R t) tiles tiles' (stripNumbers a .width) (stripNumbers a .height) (stripNumbers a .par) (F .wide z) (F .high z) (F .par z) (F .tiles-are z);
+          rest =
+              tiles-past (dataOf R t) tiles tiles' (stripNumbers a .width) (stripNumbers a .height) (stripNumbers a .par) (F .wide z) (F .high z) (F .par z)
+              (F .tiles-are z);
         }
           where
             good : Hold (asked (λ ask. ask (dataOf R t)) (judging R))
             good = passed R (dataOf R t) (stripNumbers a .code) z (F .first)
 
             same : levelOf (dataOf R t) ≡ returned (stripNumbers a) tiles'
-            same = level-is (dataOf R t) tiles tiles' (stripNumbers a .width) (stripNumbers a .height) (stripNumbers a .par) (F .wide z) (F .high z) (F .par z) (F .tiles-are z)
+            same =
+                level-is (dataOf R t) tiles tiles' (stripNumbers a .width) (stripNumbers a .height) (stripNumbers a .par) (F .wide z) (F .high z) (F .par z)
+                (F .tiles-are z)
                 (passed R (dataOf R t) (stripNumbers a .code) z (F .first) .0)
 
         pub finished-as : StripReadsAs R s marks tiles tiles' scratch scratch' a
@@ -114,7 +124,13 @@ module _ (R : ℕ) where
                 mendable gf256 field256 R some marks s t M,
                 found gf256 field256 (omega arith) R some marks s t (h .0 .k) full shorter M (stripNumbers a .code) (F .first),
               ));
-          lane = λ z. absurd (omega (arith, z, numbered 7 10 (asked (λ ask. ask (dataOf R t)) (judging R)) (stripNumbers a .code) tt (F .first) (λ y. omega (arith, y, z))));
+          lane =
+              λ z. absurd (omega (
+                arith,
+                z,
+                numbered 7 10 (asked (λ ask. ask (dataOf R t)) (judging R)) (stripNumbers a .code) tt (F .first)
+                    (λ y. omega (arith, y, z)),
+              ));
           other-lane = λ _. F .lane;
           level = level-as;
           no-level = λ _ n. none-reached gf256 field256 (omega arith) R some marks s t (h .0 .k) full shorter M (stripNumbers a .code) n (F .first);

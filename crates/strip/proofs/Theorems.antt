@@ -1,4 +1,4 @@
--- What is promised of strips, over the number of lanes R (short: no lane has more than 255 cells). The entries have R = 4.
+-- What is promised of strips, over the number of lanes R, from two on. The entries have four.
 use mathlib.Core.Path.{_≡_, refl, sym, ap, ap₂, _∙_, subst}
 use mathlib.Core.Logic.{_≢_}
 use mathlib.Core.List.{List, _++_}
@@ -18,7 +18,7 @@ use Rattle.level.specs.Record.{recordLength}
 use Rattle.level.specs.Strip.{columns, Legal, IsStrip, StripReach, Reached, wrongIn, markedIn, mendedOf, wearOf}
 use Rattle.level.specs.Reading.{ReadNumbers, returned, entering, mending}
 use Rattle.level.specs.Writing.{writingLevel}
-use Rattle.level.proofs.Dealing.{columns-more}
+use Rattle.level.proofs.Dealing.{columns-more, lanes-short}
 use Rattle.level.proofs.Strips.{same-strip}
 use Rattle.level.proofs.Theorems as levels
 use Rattle.record.proofs.Answers.{written-level, level-written}
@@ -29,7 +29,14 @@ use Rattle.strip.proofs.Laid.{record-fits}
 use Rattle.strip.proofs.Alike as alike
 use Rattle.strip.proofs.Reader.{zeros}
 
-module _ (R : ℕ) (some : 0 < R) (short : columns R 364 + 5 ≤ 255) where
+module _ (R : ℕ) (two : 2 ≤ R) where
+  some : 0 < R
+  some = omega arith
+
+  -- no lane is longer than a word
+  short : columns R 364 + 5 ≤ 255
+  short = lanes-short R two
+
   -- ---- reading
 
   -- Any strip of legal length, whatever its cells hold and whichever are marked, with buffers long enough:
@@ -45,9 +52,11 @@ module _ (R : ℕ) (some : 0 < R) (short : columns R 364 + 5 ≤ 255) where
 
     -- Where 2e + f, counted against a strip of that length that was written, is 6 in a lane, the strip is refused.
     pub refused-at-six : (l : Level) (old new : List ℕ) (b : Written) → StripWritesAs R l old new b → writtenNumbers b .code ≡ 0
-        → stripLength R l ≡ length s → (j : ℕ) → j < R → 2 * wrongIn R marks s (take (stripLength R l) new) j + markedIn R marks j ≡ 6 → stripNumbers a .code ≢ 0
+        → stripLength R l ≡ length s → (j : ℕ) → j < R → 2 * wrongIn R marks s (take (stripLength R l) new) j + markedIn R marks j ≡ 6
+        → stripNumbers a .code ≢ 0
     refused-at-six l old new b W zb e j hj six z =
-        levels.six-refused gf256 field256 R some marks s (h .0 .k + 5) (h .0 .cells) (omega (arith, h .0 .to, short)) l (returned (stripNumbers a) tiles') (take (stripLength R l) new)
+        levels.six-refused gf256 field256 R some marks s (h .0 .k + 5) (h .0 .cells) (omega (arith, h .0 .to, short)) l (returned (stripNumbers a) tiles')
+        (take (stripLength R l) new)
         (A .level z .strip) j (h .1 .0) (W .strip zb) (alike.written-size R some l new (W .strip zb) ∙ e) hj six (A .level z .reached)
 
   -- Wear is at most 33, and mended at most twice the lanes.
@@ -60,12 +69,14 @@ module _ (R : ℕ) (some : 0 < R) (short : columns R 364 + 5 ≤ 255) where
     pub mended-most : stripNumbers a .mended ≤ 2 * R
     mended-most =
         either (stripNumbers a .mended ≤ 2 * R) (stripNumbers a .code)
-        (λ z. rw (A .level z .mended-is) (levels.mended-most R some marks s (A .level z .strip) (A .level z .reached .reach))) (λ n. omega (arith, zeros a n .3))
+        (λ z. rw (A .level z .mended-is) (levels.mended-most R some marks s (A .level z .strip) (A .level z .reached .reach)))
+        (λ n. omega (arith, zeros a n .3))
 
     pub wear-most : stripNumbers a .wear ≤ 33
     wear-most =
         either (stripNumbers a .wear ≤ 33) (stripNumbers a .code)
-        (λ z. rw (A .level z .wear-is, A .level z .mended-is) (levels.wear-most R some marks s (A .level z .strip) (entered-when-read z .0) (A .level z .reached .reach)))
+        (λ z. rw (A .level z .wear-is, A .level z .mended-is)
+        (levels.wear-most R some marks s (A .level z .strip) (entered-when-read z .0) (A .level z .reached .reach)))
         (λ n. omega (arith, zeros a n .4))
 
   -- The reader's promise fixes every number and every tile byte; neither the scratch's old bytes nor the bytes under marks have an influence.
@@ -74,7 +85,8 @@ module _ (R : ℕ) (some : 0 < R) (short : columns R 364 + 5 ≤ 255) where
   strip-reads-fixed s marks tiles t1 t2 u u' v v' a b eu A B =
       alike.read-alike R some short s s marks tiles t1 t2 u u' v v' (record { same-length = refl; read = λ p e. refl }) eu a b A B
 
-  pub under-marks : (r s marks tiles t1 t2 u u' v v' : List ℕ) (a b : Reading) → SameRead marks r s → length u ≡ length v → StripReadsAs R r marks tiles t1 u u' a
+  pub under-marks : (r s marks tiles t1 t2 u u' v v' : List ℕ) (a b : Reading) → SameRead marks r s → length u ≡ length v
+      → StripReadsAs R r marks tiles t1 u u' a
       → StripReadsAs R s marks tiles t2 v v' b → (t1 ≡ t2) × (stripNumbers a ≡ stripNumbers b)
   under-marks r s marks tiles t1 t2 u u' v v' a b same eu A B = alike.read-alike R some short r s marks tiles t1 t2 u u' v v' same eu a b A B
 
@@ -102,7 +114,8 @@ module _ (R : ℕ) (some : 0 < R) (short : columns R 364 + 5 ≤ 255) where
           ∙ take-append-drop (stripLength R l) v
 
   -- Each level is written, and nothing else is.
-  pub level-strip-written : (l : Level) (old new : List ℕ) (a : Written) → IsLevel l → 384 ≤ length old → StripWritesAs R l old new a → writtenNumbers a .code ≡ 0
+  pub level-strip-written : (l : Level) (old new : List ℕ) (a : Written) → IsLevel l → 384 ≤ length old → StripWritesAs R l old new a
+      → writtenNumbers a .code ≡ 0
   level-strip-written l old new a il room A =
       first-fixes (writingLevel 384 l (length old)) (writtenNumbers a .code) 0 (A .code) (level-written l 384 (length old) room il)
 
@@ -147,15 +160,18 @@ module _ (R : ℕ) (some : 0 < R) (short : columns R 364 + 5 ≤ 255) where
 
     strips : A .level z .strip ≡ take (stripLength R l) new
     strips =
-        same-strip gf256 field256 R some marks s (columns R (recordLength (l .width) (l .height)) + 5) full (omega (arith, fits, short)) (returned (stripNumbers a) tiles') l
+        same-strip gf256 field256 R some marks s (columns R (recordLength (l .width) (l .height)) + 5) full (omega (arith, fits, short))
+        (returned (stripNumbers a) tiles') l
         (A .level z .strip) (take (stripLength R l) new) (A .level z .reached) at
 
-    pub damaged-read-back : (stripNumbers a .code ≡ 0) × (returned (stripNumbers a) tiles' ≡ l) × (stripNumbers a .mended ≡ differing marks s (take (stripLength R l) new))
+    pub damaged-read-back : (stripNumbers a .code ≡ 0) × (returned (stripNumbers a) tiles' ≡ l) ×
+        (stripNumbers a .mended ≡ differing marks s (take (stripLength R l) new))
     damaged-read-back = (
       z,
       sym (A .level z .only l (take (stripLength R l) new) at),
       A .level z .mended-is ∙ ap (mendedOf R marks s) strips
-          ∙ levels.mended-differing R some marks s (take (stripLength R l) new) (columns R (recordLength (l .width) (l .height)) + 5) full matched (reach .same-length),
+          ∙ levels.mended-differing R some marks s (take (stripLength R l) new) (columns R (recordLength (l .width) (l .height)) + 5) full matched
+          (reach .same-length),
     )
 
   -- Reading what was written, with no marks, gives the level back; nothing is mended.

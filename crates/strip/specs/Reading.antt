@@ -37,7 +37,8 @@ pub record StripReadsAs (R : ℕ) (s marks tiles tiles' scratch scratch' : List 
   pub lane : stripNumbers a .code ≡ 6 → Lowest gf256 R marks s (stripNumbers a .lane)
   pub other-lane : (stripNumbers a .code ≡ 6 → ⊥) → stripNumbers a .lane ≡ 0
   pub level : stripNumbers a .code ≡ 0 → LevelRead gf256 R s marks tiles tiles' (stripNumbers a)
-  pub no-level : Hold (entering R s marks (length tiles) (length scratch)) → (stripNumbers a .code ≡ 0 → ⊥) → (l : Level) (t : List ℕ) → Reached gf256 R marks s l t → ⊥
+  pub no-level : Hold (entering R s marks (length tiles) (length scratch)) → (stripNumbers a .code ≡ 0 → ⊥) → (l : Level) (t : List ℕ)
+      → Reached gf256 R marks s l t → ⊥
   pub tiles-kept : (stripNumbers a .code ≡ 0 → ⊥) → tiles' ≡ tiles
   pub scratch-kept : (Hold (entering R s marks (length tiles) (length scratch)) → ⊥) → scratch' ≡ scratch
 

@@ -63,7 +63,8 @@ returns-4 c =
     let x = c .before .before .before .before .before .before .before .before .before .repair-lane in
     let z = c .before .before .before .before .before .before .answer .given in
     let p = c .before .before .before .put-back in
-    export-mended (a .marks .now) (a .lane .now) (l .result) (m .result) (x .result) (l .ensures .0) (l .ensures .1) (m .ensures .0) (m .ensures .1) (x .ensures)
+    export-mended (a .marks .now) (a .lane .now) (l .result) (m .result) (x .result) (l .ensures .0) (l .ensures .1) (m .ensures .0) (m .ensures .1)
+    (x .ensures)
     (p .last .1 .0) (z .0 .0) (c .pack-mended .result) (z .1) (p .ensures) (c .pack-mended .ensures)
 
 same-length-2 : tie.Need-same-length-2
@@ -76,7 +77,8 @@ returns-5 c =
     let m = c .before .before .before .before .before .before .lane-of2 in
     let x = c .before .before .before .before .before .repair-lane in
     let z = c .before .before .answer2 .given in
-    export-refused (a .marks .now) (a .lane .now) (l .result) (m .result) (x .result) (l .ensures .0) (l .ensures .1) (m .ensures .0) (m .ensures .1) (x .ensures)
+    export-refused (a .marks .now) (a .lane .now) (l .result) (m .result) (x .result) (l .ensures .0) (l .ensures .1) (m .ensures .0) (m .ensures .1)
+    (x .ensures)
     (z .0 .0) (c .pack-mended2 .result) (z .1) (c .pack-mended2 .ensures)
 
 pub zav-lane-repair-spec : {M : Type 1} → statement M

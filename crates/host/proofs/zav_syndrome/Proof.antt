@@ -62,7 +62,8 @@ add-result-4 : tie.Need-add-result-4
 add-result-4 c = search needs
 
 returns : tie.Need-returns
-returns c = rw (c .before .before .before .before .wide .ensures .0, c .before .before .before .wide2 .ensures .0, c .before .before .wide3 .ensures .0, c .before .wide4 .ensures .0, c .wide5 .ensures .0) (ap packedSums (c .before .before .before .before .before .syndrome-of .ensures))
+returns c =
+    rw (c .before .before .before .before .wide .ensures .0, c .before .before .before .wide2 .ensures .0, c .before .before .wide3 .ensures .0, c .before .wide4 .ensures .0, c .wide5 .ensures .0) (ap packedSums (c .before .before .before .before .before .syndrome-of .ensures))
 
 pub zav-syndrome-spec : {M : Type 1} → statement M
 zav-syndrome-spec =

@@ -33,7 +33,8 @@ one-if-requires c κs = search needs
 
 add-f : tie.Need-add-f Inv-loop μ-loop
 add-f c =
-    let q = one-small (isMarked (c .before .before .before .before .before .args .marks .now) (4 * c .before .before .before .loop .k + c .before .before .before .before .before .args .l)) in
+    let q = one-small (isMarked (c .before .before .before .before .before .args .marks .now)
+    (4 * c .before .before .before .loop .k + c .before .before .before .before .before .args .l)) in
     omega (arith, c .one-if .ensures)
 
 add-k : tie.Need-add-k Inv-loop μ-loop
@@ -46,8 +47,12 @@ loop-again : tie.Need-loop-again Inv-loop μ-loop
 loop-again c =
     let l = c .before .before .before .loop in
     let a = c .before .before .before .before .before .args in
-    let q = one-small (isMarked (a .marks .now) (4 * l .k + a .l)) in
-    (omega arith, omega (arith, c .one-if .ensures), marked-more (a .marks .now) (a .l) (l .k) (l .f) (c .one-if .result) (omega arith) (l .inv .2) (c .one-if .ensures))
+    let q = one-small (isMarked (a .marks .now) (4 * l .k + a .l)) in (
+      omega arith,
+      omega (arith, c .one-if .ensures),
+      marked-more (a .marks .now) (a .l) (l .k) (l .f) (c .one-if .result) (omega arith) (l .inv .2)
+          (c .one-if .ensures),
+    )
 
 returns : tie.Need-returns Inv-loop μ-loop
 returns c =

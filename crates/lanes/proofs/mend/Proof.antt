@@ -23,8 +23,14 @@ array-read-mend-one c = search needs
 mend-one-requires : tie.Need-mend-one-requires Inv-loop μ-loop
 mend-one-requires c κs =
     let l = c .before .before .loop in
-    let p = c .before .before .before .before .before .before .pre in
-    (omega arith, record { legal = p .0 .legal; matched = p .0 .matched; good = p .0 .good; fits = omega (arith, p .0 .fits, l .inv .long) }, p .1, p .2 (l .l) (omega arith), l .inv .later (l .l) (omega arith) (omega arith))
+    let p = c .before .before .before .before .before .before .pre in (
+      omega arith,
+      record { legal = p .0 .legal; matched = p .0 .matched; good = p .0 .good; fits = omega (arith, p .0 .fits, l .inv .long) },
+      p .1,
+      p .2
+          (l .l) (omega arith),
+      l .inv .later (l .l) (omega arith) (omega arith),
+    )
 
 same-length : tie.Need-same-length Inv-loop μ-loop
 same-length c = search needs
@@ -34,14 +40,21 @@ returns c =
     let a = c .before .before .before .before .before .before .before .before .before .before .args in
     let l = c .before .before .before .before .before .before .loop in
     let o = c .before .before .before .mend-one in
-    lost (a .strip .now) (a .marks .now) (a .x .now) (l .x) _ (l .mended) (l .l) (o .result) (c .before .before .before .before .before .before .before .before .before .before .pre .0) (omega arith) (l .inv) (not-true (o .result .good) (c .if1 .taken)) (o .ensures)
+    lost (a .strip .now) (a .marks .now) (a .x .now) (l .x) _ (l .mended) (l .l) (o .result)
+    (c .before .before .before .before .before .before .before .before .before .before .pre .0) (omega arith) (l .inv)
+    (not-true (o .result .good) (c .if1 .taken)) (o .ensures)
 
 add-mended : tie.Need-add-mended Inv-loop μ-loop
 add-mended c =
     let a = c .before .before .before .before .before .before .before .before .before .before .before .args in
     let l = c .before .before .before .before .before .before .before .loop in
     let o = c .before .before .before .before .mend-one in
-    omega (arith, l .inv .small, one-few (a .strip .now) (a .marks .now) (l .x) _ (l .l) (o .result) (told-good (a .strip .now) (a .marks .now) (l .x) _ (l .l) (o .result) (not-false (o .result .good) (c .before .if1 .left)) (o .ensures)))
+    omega (
+      arith,
+      l .inv .small,
+      one-few (a .strip .now) (a .marks .now) (l .x) _ (l .l) (o .result)
+          (told-good (a .strip .now) (a .marks .now) (l .x) _ (l .l) (o .result) (not-false (o .result .good) (c .before .if1 .left)) (o .ensures)),
+    )
 
 add-l : tie.Need-add-l Inv-loop μ-loop
 add-l c = search needs
@@ -54,7 +67,8 @@ loop-again c =
     let a = c .before .before .before .before .before .before .before .before .before .before .before .args in
     let l = c .before .before .before .before .before .before .before .loop in
     let o = c .before .before .before .before .mend-one in
-    sofar-more (a .strip .now) (a .marks .now) (a .x .now) (l .x) _ (l .mended) (l .l) (o .result) (omega arith) (search needs) (record { cell = λ j h. omega (arith, c .before .before .slice-known2 .given j) })
+    sofar-more (a .strip .now) (a .marks .now) (a .x .now) (l .x) _ (l .mended) (l .l) (o .result) (omega arith) (search needs)
+    (record { cell = λ j h. omega (arith, c .before .before .slice-known2 .given j) })
     (l .inv) (told-good (a .strip .now) (a .marks .now) (l .x) _ (l .l) (o .result) (not-false (o .result .good) (c .before .if1 .left)) (o .ensures))
 
 same-length-2 : tie.Need-same-length-2 Inv-loop μ-loop

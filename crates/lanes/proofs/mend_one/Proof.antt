@@ -14,7 +14,9 @@ returns : tie.Need-returns
 returns c =
     let a = c .before .before .before .before .before .args in
     let p = c .before .before .before .before .before .pre in
-    clean-lane (a .strip .now) (a .marks .now) (a .l) (a .x .now) (p .4) (said (Clean gf256 (lane 4 (a .l) (a .strip .now))) (a .clean) (c .before .if1 .taken) (p .3)) (p .1 .matched) (c .few-marked .result) (c .few-marked .ensures)
+    clean-lane (a .strip .now) (a .marks .now) (a .l) (a .x .now) (p .4)
+    (said (Clean gf256 (lane 4 (a .l) (a .strip .now))) (a .clean) (c .before .if1 .taken) (p .3)) (p .1 .matched) (c .few-marked .result)
+    (c .few-marked .ensures)
 
 repair-one-requires : tie.Need-repair-one-requires
 repair-one-requires c κs = search needs

@@ -38,7 +38,8 @@ returns c =
     let p = c .before .before .before .before .before .before .before .before .before .before .before .before .pre in
     let m = c .before .before .before .before .before .before .before .before .mend in
     let z = c .before .before .before .before .before .answer .given in
-    yes-lane (a .strip .now) (a .marks .now) (a .l) _ (p .1) (m .result .lane) (m .result .answer) (z .0 .0) (z .1) (m .ensures) (a .x .now) _ (c .before .before .scatter .ensures)
+    yes-lane (a .strip .now) (a .marks .now) (a .l) _ (p .1) (m .result .lane) (m .result .answer) (z .0 .0) (z .1) (m .ensures) (a .x .now) _
+    (c .before .before .scatter .ensures)
 
 returns-2 : tie.Need-returns-2
 returns-2 c =

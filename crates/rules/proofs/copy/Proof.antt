@@ -37,8 +37,11 @@ loop-less c = search needs
 loop-again : tie.Need-loop-again Inv-loop μ-loop
 loop-again c =
     let L = c .before .before .loop in
-    let s = c .before .before .before in
-    (omega arith, ap (λ (w : List ℕ). set w (L .i) (getD (s .args .from .now) (L .i) 0)) (L .inv .1) ∙ copy-goes (s .args .from .now) (s .args .to .now) (L .i) (search needs) (s .pre))
+    let s = c .before .before .before in (
+      omega arith,
+      ap (λ (w : List ℕ). set w (L .i) (getD (s .args .from .now) (L .i) 0)) (L .inv .1)
+          ∙ copy-goes (s .args .from .now) (s .args .to .now) (L .i) (search needs) (s .pre),
+    )
 
 same-length : tie.Need-same-length Inv-loop μ-loop
 same-length c =

@@ -12,8 +12,14 @@ syndrome-of-requires c κs = tables
 find-requires : tie.Need-find-requires
 find-requires c κs =
     let s = c .before .before .before .before in
-    let y = c .before .syndrome-of in
-    (tables, s .pre .1, counted-places (s .args .marks .now) (s .args .f) (s .pre .2), s .pre .3, syndrome-bytes (unpacked (s .args .r)) (y .result) (y .ensures))
+    let y = c .before .syndrome-of in (
+      tables,
+      s .pre .1,
+      counted-places (s .args .marks .now) (s .args .f) (s .pre .2),
+      s .pre .3,
+      syndrome-bytes (unpacked (s .args .r)) (y .result)
+          (y .ensures),
+    )
 
 returns : tie.Need-returns
 returns c =

@@ -12,7 +12,9 @@ syndrome-of-requires : tie.Need-syndrome-of-requires
 syndrome-of-requires c κs = tables
 
 returns : tie.Need-returns
-returns c = c .syndrome-of .ensures ∙ syndrome-same (c .before .before .before .before .args .word .now) (c .before .remainder-of .result) (c .before .remainder-of .ensures)
+returns c =
+    c .syndrome-of .ensures ∙ syndrome-same (c .before .before .before .before .args .word .now) (c .before .remainder-of .result)
+    (c .before .remainder-of .ensures)
 
 pub syndrome-of-spec : {M : Type 1} → statement M
 syndrome-of-spec = tie.close (tie.spec remainder-of-requires syndrome-of-requires returns)

@@ -16,13 +16,15 @@ returns : tie.Need-returns
 returns c =
     let a = c .before .before .before .before .args in
     let l = c .before .legal in
-    enters-not (a .strip .now) (a .marks .now) (a .tiles) (a .scratch) 0 1 (λ z. omega arith) ((denied (Legal 4 (length (a .strip .now))) (l .result) (not-true (l .result) (c .if1 .taken)) (l .ensures)), refl)
+    enters-not (a .strip .now) (a .marks .now) (a .tiles) (a .scratch) 0 1 (λ z. omega arith)
+    ((denied (Legal 4 (length (a .strip .now))) (l .result) (not-true (l .result) (c .if1 .taken)) (l .ensures)), refl)
 
 returns-2 : tie.Need-returns-2
 returns-2 c =
     let a = c .before .before .before .before .before .args in
     let l = c .before .before .legal in
-    enters-not (a .strip .now) (a .marks .now) (a .tiles) (a .scratch) 1 2 (λ z. omega arith) ((said (Legal 4 (length (a .strip .now))) (l .result) (not-false (l .result) (c .before .if1 .left)) (l .ensures)), ((c .if2 .taken), refl))
+    enters-not (a .strip .now) (a .marks .now) (a .tiles) (a .scratch) 1 2 (λ z. omega arith)
+    ((said (Legal 4 (length (a .strip .now))) (l .result) (not-false (l .result) (c .before .if1 .left)) (l .ensures)), ((c .if2 .taken), refl))
 
 tally-requires : tie.Need-tally-requires
 tally-requires c κs =
@@ -35,25 +37,49 @@ returns-3 : tie.Need-returns-3
 returns-3 c =
     let a = c .before .before .before .before .before .before .before .args in
     let l = c .before .before .before .before .legal in
-    enters-not (a .strip .now) (a .marks .now) (a .tiles) (a .scratch) 2 3 (λ z. omega arith) ((said (Legal 4 (length (a .strip .now))) (l .result) (not-false (l .result) (c .before .before .before .if1 .left)) (l .ensures)), ((c .before .before .if2 .left), ((c .before .tally .ensures .bad (λ h. omega (arith, h, c .if3 .taken))), refl)))
+    enters-not (a .strip .now) (a .marks .now) (a .tiles) (a .scratch) 2 3 (λ z. omega arith) (
+      (said (Legal 4 (length (a .strip .now))) (l .result) (not-false (l .result) (c .before .before .before .if1 .left)) (l .ensures)),
+      ((c .before .before .if2 .left), ((c .before .tally .ensures .bad (λ h. omega (arith, h, c .if3 .taken))), refl)),
+    )
 
 returns-4 : tie.Need-returns-4
 returns-4 c =
     let a = c .before .before .before .before .before .before .before .before .args in
     let l = c .before .before .before .before .before .legal in
-    enters-not (a .strip .now) (a .marks .now) (a .tiles) (a .scratch) 3 4 (λ z. omega arith) ((said (Legal 4 (length (a .strip .now))) (l .result) (not-false (l .result) (c .before .before .before .before .if1 .left)) (l .ensures)), ((c .before .before .before .if2 .left), ((c .before .before .tally .ensures .good (omega arith)), ((λ h. omega (arith, h, c .if4 .taken)), refl))))
+    enters-not (a .strip .now) (a .marks .now) (a .tiles) (a .scratch) 3 4 (λ z. omega arith) (
+      (said (Legal 4 (length (a .strip .now))) (l .result) (not-false (l .result) (c .before .before .before .before .if1 .left)) (l .ensures)),
+      ((c .before .before .before .if2 .left), ((c .before .before .tally .ensures .good (omega arith)), ((λ h. omega (arith, h, c .if4 .taken)), refl))),
+    )
 
 returns-5 : tie.Need-returns-5
 returns-5 c =
     let a = c .before .before .before .before .before .before .before .before .before .args in
     let l = c .before .before .before .before .before .before .legal in
-    enters-not (a .strip .now) (a .marks .now) (a .tiles) (a .scratch) 4 5 (λ z. omega arith) ((said (Legal 4 (length (a .strip .now))) (l .result) (not-false (l .result) (c .before .before .before .before .before .if1 .left)) (l .ensures)), ((c .before .before .before .before .if2 .left), ((c .before .before .before .tally .ensures .good (omega arith)), ((omega arith), ((λ h. omega (arith, h, c .if5 .taken)), refl)))))
+    enters-not (a .strip .now) (a .marks .now) (a .tiles) (a .scratch) 4 5 (λ z. omega arith) (
+      (said (Legal 4 (length (a .strip .now))) (l .result) (not-false (l .result) (c .before .before .before .before .before .if1 .left)) (l .ensures)),
+      (
+        (c .before .before .before .before .if2 .left),
+        (
+          (c .before .before .before .tally .ensures .good (omega arith)),
+          ((omega arith), ((λ h. omega (arith, h, c .if5 .taken)), refl)),
+        ),
+      ),
+    )
 
 returns-6 : tie.Need-returns-6
 returns-6 c =
     let a = c .before .before .before .before .before .before .before .before .before .args in
     let l = c .before .before .before .before .before .before .legal in
-    enters (a .strip .now) (a .marks .now) (a .tiles) (a .scratch) (c .before .before .before .tally .result .sum) ((said (Legal 4 (length (a .strip .now))) (l .result) (not-false (l .result) (c .before .before .before .before .before .if1 .left)) (l .ensures)), ((c .before .before .before .before .if2 .left), ((c .before .before .before .tally .ensures .good (omega arith)), ((omega arith), ((omega arith), tt))))) (c .before .before .before .tally .ensures .count (omega arith))
+    enters (a .strip .now) (a .marks .now) (a .tiles) (a .scratch) (c .before .before .before .tally .result .sum) (
+      (said (Legal 4 (length (a .strip .now))) (l .result) (not-false (l .result) (c .before .before .before .before .before .if1 .left)) (l .ensures)),
+      (
+        (c .before .before .before .before .if2 .left),
+        (
+          (c .before .before .before .tally .ensures .good (omega arith)),
+          ((omega arith), ((omega arith), tt)),
+        ),
+      ),
+    ) (c .before .before .before .tally .ensures .count (omega arith))
 
 pub enter-spec : {M : Type 1} → statement M
 enter-spec =

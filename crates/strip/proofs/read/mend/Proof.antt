@@ -15,8 +15,18 @@ mend-requires c κs =
     let a = c .before .before .before .before .before .before .before .before .before .args in
     let p = c .before .before .before .before .before .before .before .before .before .pre in
     let x = c .before .before .before .copy .last .1 .0 in
-    let q = copied (a .strip .now) (a .scratch .now) x (p .0 .fits) (c .before .before .before .copy .ensures) in
-    (record { legal = p .0 .legal; matched = p .0 .matched; good = p .0 .good; fits = omega (arith, q .0, p .0 .fits) }, p .1, c .before .before .before .before .before .test .ensures, q .1)
+    let q = copied (a .strip .now) (a .scratch .now) x (p .0 .fits) (c .before .before .before .copy .ensures) in (
+      record {
+        legal = p .0 .legal;
+        matched = p .0 .matched;
+        good = p .0 .good;
+        fits = omega
+            (arith, q .0, p .0 .fits);
+      },
+      p .1,
+      c .before .before .before .before .before .test .ensures,
+      q .1,
+    )
 
 same-length : tie.Need-same-length
 same-length c = search needs

@@ -17,14 +17,18 @@ enter-requires c κs = search needs
 returns : tie.Need-returns
 returns c =
     let a = c .before .before .before .before .before .before .args in
-    early-as 4 (a .strip .now) (a .marks .now) (a .tiles .now) (a .scratch .now) (c .before .enter .result .code) (c .if1 .taken) (c .before .enter .ensures .first)
+    early-as 4 (a .strip .now) (a .marks .now) (a .tiles .now) (a .scratch .now) (c .before .enter .result .code) (c .if1 .taken)
+    (c .before .enter .ensures .first)
 
 mend-requires : tie.Need-mend-requires
 mend-requires c κs =
     let a = c .before .before .before .before .before .before .before .args in
     let g = c .before .before .enter in
-    let z = c .before .if1 .left in
-    (ready (a .strip .now) (a .marks .now) (length (a .tiles .now)) (length (a .scratch .now)) (entered (a .strip .now) (a .marks .now) (length (a .tiles .now)) (length (a .scratch .now)) (g .result .code) z (g .ensures .first)), g .ensures .count z)
+    let z = c .before .if1 .left in (
+      ready (a .strip .now) (a .marks .now) (length (a .tiles .now)) (length (a .scratch .now))
+          (entered (a .strip .now) (a .marks .now) (length (a .tiles .now)) (length (a .scratch .now)) (g .result .code) z (g .ensures .first)),
+      g .ensures .count z,
+    )
 
 same-length : tie.Need-same-length
 same-length c = search needs
@@ -36,13 +40,15 @@ returns-2 c =
     let z = c .before .before .before .before .before .if1 .left in
     let h = entered (a .strip .now) (a .marks .now) (length (a .tiles .now)) (length (a .scratch .now)) (g .result .code) z (g .ensures .first) in
     let r = ready (a .strip .now) (a .marks .now) (length (a .tiles .now)) (length (a .scratch .now)) h in
-    lane-as 4 (a .strip .now) (a .marks .now) (a .tiles .now) (a .scratch .now) (omega arith) (omega arith) _ h (c .before .before .before .mend .result .beyond) (c .before .before .before .mend .ensures .lost (omega arith))
+    lane-as 4 (a .strip .now) (a .marks .now) (a .tiles .now) (a .scratch .now) (omega arith) (omega arith) _ h
+    (c .before .before .before .mend .result .beyond) (c .before .before .before .mend .ensures .lost (omega arith))
 
 sub-finish : tie.Need-sub-finish
 sub-finish c =
     let a = c .before .before .before .before .before .before .before .before .before .before .before .args in
     let g = c .before .before .before .before .before .before .enter in
-    let h = entered (a .strip .now) (a .marks .now) (length (a .tiles .now)) (length (a .scratch .now)) (g .result .code) (c .before .before .before .before .before .if1 .left) (g .ensures .first) in
+    let h = entered (a .strip .now) (a .marks .now) (length (a .tiles .now)) (length (a .scratch .now)) (g .result .code)
+    (c .before .before .before .before .before .if1 .left) (g .ensures .first) in
     let r = ready (a .strip .now) (a .marks .now) (length (a .tiles .now)) (length (a .scratch .now)) h in
     omega (arith, r .legal .from, r .legal .cells)
 
@@ -56,7 +62,8 @@ part-finish-end : tie.Need-part-finish-end
 part-finish-end c =
     let a = c .before .before .before .before .before .before .before .before .before .before .before .before .args in
     let g = c .before .before .before .before .before .before .before .enter in
-    let h = entered (a .strip .now) (a .marks .now) (length (a .tiles .now)) (length (a .scratch .now)) (g .result .code) (c .before .before .before .before .before .before .if1 .left) (g .ensures .first) in
+    let h = entered (a .strip .now) (a .marks .now) (length (a .tiles .now)) (length (a .scratch .now)) (g .result .code)
+    (c .before .before .before .before .before .before .if1 .left) (g .ensures .first) in
     let r = ready (a .strip .now) (a .marks .now) (length (a .tiles .now)) (length (a .scratch .now)) h in
     let e : length (c .before .before .before .before .mend .last .1 .1 .1 .0) ≡ length (a .scratch .now) = search needs in
     omega (arith, r .legal .to, r .legal .cells, h .1 .1 .1 .1 .0)
@@ -65,12 +72,22 @@ finish-requires : tie.Need-finish-requires
 finish-requires c κs =
     let a = c .before .before .before .before .before .before .before .before .before .before .before .before .before .before .args in
     let g = c .before .before .before .before .before .before .before .before .before .enter in
-    let h = entered (a .strip .now) (a .marks .now) (length (a .tiles .now)) (length (a .scratch .now)) (g .result .code) (c .before .before .before .before .before .before .before .before .if1 .left) (g .ensures .first) in
+    let h = entered (a .strip .now) (a .marks .now) (length (a .tiles .now)) (length (a .scratch .now)) (g .result .code)
+    (c .before .before .before .before .before .before .before .before .if1 .left) (g .ensures .first) in
     let r = ready (a .strip .now) (a .marks .now) (length (a .tiles .now)) (length (a .scratch .now)) h in
     let x = c .before .before .before .before .before .before .mend .last .1 .1 .1 .0 in
     let e : length x ≡ length (a .scratch .now) = search needs in
-    let l : length (take (length (a .strip .now) - 20 - 0) x) ≡ length (a .strip .now) - 20 = length-take-le (length (a .strip .now) - 20 - 0) x (omega (arith, r .legal .to, r .legal .cells, h .1 .1 .1 .1 .0, e)) ∙ omega arith in
-    (omega (arith, l, r .legal .from, r .legal .cells), omega (arith, l, r .legal .to, r .legal .cells), h .1 .1 .1 .0, c .before .before .before .before .before .before .mend .ensures .small, omega (arith, r .legal .from, r .legal .cells), omega (arith, r .legal .to, r .legal .cells))
+    let l : length (take (length (a .strip .now) - 20 - 0) x) ≡ length (a .strip .now) - 20 = length-take-le (length (a .strip .now) - 20 - 0) x
+    (omega (arith, r .legal .to, r .legal .cells, h .1 .1 .1 .1 .0, e)) ∙ omega arith in (
+      omega (arith, l, r .legal .from, r .legal .cells),
+      omega
+          (arith, l, r .legal .to, r .legal .cells),
+      h .1 .1 .1 .0,
+      c .before .before .before .before .before .before .mend .ensures .small,
+      omega
+          (arith, r .legal .from, r .legal .cells),
+      omega (arith, r .legal .to, r .legal .cells),
+    )
 
 same-length-2 : tie.Need-same-length-2
 same-length-2 c = search needs
@@ -82,7 +99,8 @@ returns-3 : tie.Need-returns-3
 returns-3 c =
     let a = c .before .before .before .before .before .before .before .before .before .before .before .before .before .before .before .before .before .args in
     let g = c .before .before .before .before .before .before .before .before .before .before .before .before .enter in
-    let h = entered (a .strip .now) (a .marks .now) (length (a .tiles .now)) (length (a .scratch .now)) (g .result .code) (c .before .before .before .before .before .before .before .before .before .before .before .if1 .left) (g .ensures .first) in
+    let h = entered (a .strip .now) (a .marks .now) (length (a .tiles .now)) (length (a .scratch .now)) (g .result .code)
+    (c .before .before .before .before .before .before .before .before .before .before .before .if1 .left) (g .ensures .first) in
     let r = ready (a .strip .now) (a .marks .now) (length (a .tiles .now)) (length (a .scratch .now)) h in
     let m = c .before .before .before .before .before .before .before .before .before .mend in
     let x = m .last .1 .1 .1 .0 in
@@ -90,9 +108,11 @@ returns-3 c =
     let four : 4 ≤ m .result .beyond = omega arith in
     let e : length x ≡ length (a .scratch .now) = search needs in
     let d = data-lent (length (a .strip .now)) x (omega (arith, e, r .legal .to, r .legal .cells, h .1 .1 .1 .1 .0)) in
-    finished-as 4 (a .strip .now) (a .marks .now) (a .tiles .now) (a .scratch .now) (omega arith) (omega arith) x h (take (length (a .strip .now)) x) (m .ensures .found four) (m .result .mended) (m .ensures .count four)
+    finished-as 4 (a .strip .now) (a .marks .now) (a .tiles .now) (a .scratch .now) (omega arith) (omega arith) x h (take (length (a .strip .now)) x)
+    (m .ensures .found four) (m .result .mended) (m .ensures .count four)
     (f .last .1 .1 .1 .0) (f .result)
-    (subst (λ (bs : List ℕ). FinishedAs 4 bs (length (a .strip .now)) (m .result .mended) (a .tiles .now) (f .last .1 .1 .1 .0) (stripNumbers (f .result))) (sym d) (f .ensures))
+    (subst (λ (bs : List ℕ). FinishedAs 4 bs (length (a .strip .now)) (m .result .mended) (a .tiles .now) (f .last .1 .1 .1 .0) (stripNumbers (f .result)))
+    (sym d) (f .ensures))
 
 pub read-spec : {M : Type 1} → statement M
 read-spec =

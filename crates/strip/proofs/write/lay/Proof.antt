@@ -40,7 +40,8 @@ returns c =
     let r = c .before .before .before .before .before .before .before .before .before .before .put-record in
     let f = c .before .before .before .before .before .before .fill in
     let k = c .before .before .put-checks in
-    laid-as 4 (omega arith) (lent (a .w) (a .h) (a .par) (a .tiles .now)) (a .out .now) (r .last .1 .1 .1 .1 .0) (f .last .0) (k .last .0) (r .result) _ (r .ensures) refl
+    laid-as 4 (omega arith) (lent (a .w) (a .h) (a .par) (a .tiles .now)) (a .out .now) (r .last .1 .1 .1 .1 .0) (f .last .0) (k .last .0) (r .result) _
+    (r .ensures) refl
     (f .ensures) (k .ensures) (omega (arith, r .ensures .short, p .1)) (record { cell = λ j h. omega (arith, c .slice-known4 .given j) })
 
 pub lay-spec : {M : Type 1} → statement M

@@ -19,12 +19,16 @@ check-requires c κs = search needs
 returns-2 : tie.Need-returns-2
 returns-2 c =
     let a = c .before .before .before .before .before .args in
-    wrote-none 4 (lent (a .w) (a .h) (a .par) (a .tiles .now)) (a .out .now) (c .before .check .result) (c .if2 .taken) (inr (omega (arith, c .before .before .if1 .left), c .before .check .ensures))
+    wrote-none 4 (lent (a .w) (a .h) (a .par) (a .tiles .now)) (a .out .now) (c .before .check .result) (c .if2 .taken)
+    (inr (omega (arith, c .before .before .if1 .left), c .before .check .ensures))
 
 lay-requires : tie.Need-lay-requires
 lay-requires c κs =
-    let a = c .before .before .before .before .before .before .args in
-    (lent-level (lent (a .w) (a .h) (a .par) (a .tiles .now)) (c .before .before .check .result) (c .before .if2 .left) (c .before .before .check .ensures), omega (arith, c .before .before .before .if1 .left))
+    let a = c .before .before .before .before .before .before .args in (
+      lent-level (lent (a .w) (a .h) (a .par) (a .tiles .now)) (c .before .before .check .result) (c .before .if2 .left)
+          (c .before .before .check .ensures),
+      omega (arith, c .before .before .before .if1 .left),
+    )
 
 same-length : tie.Need-same-length
 same-length c = search needs
@@ -32,7 +36,10 @@ same-length c = search needs
 returns-3 : tie.Need-returns-3
 returns-3 c =
     let a = c .before .before .before .before .before .before .before .before .before .args in
-    wrote-strip 4 (lent (a .w) (a .h) (a .par) (a .tiles .now)) (a .out .now) (c .before .before .lay .last .1 .1 .1 .1 .0) (c .before .before .before .before .before .check .result) (c .before .before .lay .result) (omega (arith, c .before .before .before .before .before .before .if1 .left)) (c .before .before .before .before .if2 .left) (c .before .before .before .before .before .check .ensures) (c .before .before .lay .ensures)
+    wrote-strip 4 (lent (a .w) (a .h) (a .par) (a .tiles .now)) (a .out .now) (c .before .before .lay .last .1 .1 .1 .1 .0)
+    (c .before .before .before .before .before .check .result) (c .before .before .lay .result)
+    (omega (arith, c .before .before .before .before .before .before .if1 .left)) (c .before .before .before .before .if2 .left)
+    (c .before .before .before .before .before .check .ensures) (c .before .before .lay .ensures)
 
 pub write-spec : {M : Type 1} → statement M
 write-spec =

@@ -1,4 +1,4 @@
--- What is promised of levels, records and strips alone. Strips are over any field whose elements are bytes, and any number of lanes.
+-- What is promised of levels, records and strips alone. Strips are over any field and any number of lanes.
 use mathlib.Core.Path.{_≡_, sym, ap, _∙_}
 use mathlib.Core.List.{List}
 use Prim.Native.Nat.{ℕ, _+_, _*_, _/_, _≤_, _<_}
@@ -20,21 +20,21 @@ use Rattle.level.proofs.RecordOf as records
 use Rattle.level.proofs.Strips as strips
 use Rattle.level.proofs.Counts as counts
 
--- Each level has a record, and one.
+-- FORMAT 6.8: each level has a record, and one.
 pub some-record : (l : Level) → IsLevel l → (bs : List ℕ) × IsRecord l bs
 some-record l il = (recordOf l, records.record-of l il)
 
 pub one-record : (l : Level) (xs ys : List ℕ) → IsLevel l → IsRecord l xs → IsRecord l ys → xs ≡ ys
 one-record = determined.one-record
 
--- Two levels with one record are one level.
+-- FORMAT 6.9: two levels with one record are one level.
 pub record-injective : (l m : Level) (bs : List ℕ) → IsLevel l → IsLevel m → IsRecord l bs → IsRecord m bs → l ≡ m
 record-injective = fields.record-injective
 
 module _ (O : Ops) (F : IsField O) (R : ℕ) (some : 0 < R) where
   open Ops O using (order)
 
-  -- Each level has a strip, where bytes are cells and its lanes are words of the code.
+  -- FORMAT 7.7: each level has a strip, where bytes are cells and its lanes are words of the code.
   pub some-strip : 256 ≤ O .size → (l : Level) → IsLevel l → columns R (recordLength (l .width) (l .height)) + 5 ≤ order → (s : List ℕ) × IsStrip O R l s
   some-strip room l il short = (d .0, record { bs = recordOf l; is-record = r; dealt = d .1 })
     where
@@ -46,26 +46,26 @@ module _ (O : Ops) (F : IsField O) (R : ℕ) (some : 0 < R) where
           some-dealt O F R some (recordOf l) (rw (records.record-of l il .size) short)
           (record { cell = λ p h. omega (arith, room, records.record-of l il .bytes .cell p h) })
 
-  -- And one.
+  -- FORMAT 7.7: and one.
   pub one-strip : (l : Level) (s t : List ℕ) → IsLevel l → columns R (recordLength (l .width) (l .height)) + 5 ≤ order → IsStrip O R l s → IsStrip O R l t
       → s ≡ t
   one-strip = strips.one-strip O F R some
 
-  -- Two levels with one strip are one level.
+  -- FORMAT 7.8: two levels with one strip are one level.
   pub strip-injective : (l m : Level) (s : List ℕ) → IsLevel l → IsLevel m → IsStrip O R l s → IsStrip O R m s → l ≡ m
   strip-injective = strips.strip-injective O F R some
 
   module _ (marks s : List ℕ) (m : ℕ) (full : length s ≡ R * m) (short : m ≤ order) where
-    -- No other level has a strip of that length within reach.
+    -- FORMAT 11.5: no other level has a strip of that length within reach.
     pub one-level : (l n : Level) (t u : List ℕ) → Reached O R marks s l t → Reached O R marks s n u → l ≡ n
     one-level = strips.one-level O F R some marks s m full short
 
-    -- At 2e + f = 6 in a lane, counted against a level's strip, no level is within reach.
+    -- FORMAT 11.8: at 2e + f = 6 in a lane, counted against a level's strip, no level is within reach.
     pub six-refused : (l n : Level) (v t : List ℕ) (j : ℕ) → length marks ≡ length s → IsStrip O R l v → length v ≡ length s → j < R
         → 2 * wrongIn R marks s v j + markedIn R marks j ≡ 6 → Reached O R marks s n t → ⊥
     six-refused = strips.six-refused O F R some marks s m full short
 
--- Over bytes each level has a strip of every number of lanes from two on.
+-- FORMAT 7.7: over bytes each level has a strip of every number of lanes from two on.
 pub every-strip : (R : ℕ) → 2 ≤ R → (l : Level) → IsLevel l → (s : List ℕ) × IsStrip gf256 R l s
 every-strip R two l il =
     some-strip gf256 field256 R some (omega arith) l il (omega (arith, lanes-short R two, columns-more R some (recordLength (l .width) (l .height)) 364 short))
@@ -76,14 +76,14 @@ every-strip R two l il =
     short : recordLength (l .width) (l .height) ≤ 364
     short = omega (arith, mul-le-mul (il .ranged .sized .not-wider) (il .ranged .sized .not-higher))
 
--- At most two cells of each lane are mended, and wear is at most 33.
+-- FORMAT 7.15, 7.16: at most two cells of each lane are mended, and wear is at most 33.
 pub mended-most : (R : ℕ) → 0 < R → (marks s t : List ℕ) → StripReach R marks s t → mendedOf R marks s t ≤ 2 * R
 mended-most = counts.mended-most
 
 pub wear-most : (R : ℕ) → 0 < R → (marks s t : List ℕ) → Legal R (length s) → StripReach R marks s t → wearOf (mendedOf R marks s t) (length s) ≤ 33
 wear-most = counts.wear-most
 
--- Mended is the number of unmarked cells in which the two strips differ.
+-- FORMAT 11.6: mended is the number of unmarked cells in which the two strips differ.
 pub mended-differing : (R : ℕ) → 0 < R → (marks s t : List ℕ) (m : ℕ) → length s ≡ R * m → length marks ≡ length s → length t ≡ length s
     → mendedOf R marks s t ≡ differing marks s t
 mended-differing = counts.mended-differing

@@ -39,18 +39,18 @@ module _ (R : ℕ) (two : 2 ≤ R) where
 
   -- ---- reading
 
-  -- Any strip of legal length, whatever its cells hold and whichever are marked, with buffers long enough:
+  -- FORMAT 11.1, 11.2: any strip of legal length, whatever its cells hold and whichever are marked, with buffers long enough:
   module _ (s marks tiles tiles' scratch scratch' : List ℕ) (h : Hold (entering R s marks (length tiles) (length scratch)))
       (a : Reading) (A : StripReadsAs R s marks tiles tiles' scratch scratch' a) where
     -- where a level has a strip of that length within reach, one is returned;
     pub read-when-reached : (l : Level) (t : List ℕ) → Reached gf256 R marks s l t → stripNumbers a .code ≡ 0
     read-when-reached l t q = either (stripNumbers a .code ≡ 0) (stripNumbers a .code) (λ z. z) (λ n. absurd (A .no-level h n l t q))
 
-    -- and one is returned only then: it is such a level, and no other is. With it: mended, wear, the other tile bytes.
+    -- FORMAT 11.2 to 11.7: and one is returned only then: it is such a level, and no other is. With it: mended, wear, the other tile bytes.
     pub reached-when-read : stripNumbers a .code ≡ 0 → LevelRead gf256 R s marks tiles tiles' (stripNumbers a)
     reached-when-read = A .level
 
-    -- Where 2e + f, counted against a strip of that length that was written, is 6 in a lane, the strip is refused.
+    -- FORMAT 11.8: where 2e + f, counted against a strip of that length that was written, is 6 in a lane, the strip is refused.
     pub refused-at-six : (l : Level) (old new : List ℕ) (b : Written) → StripWritesAs R l old new b → writtenNumbers b .code ≡ 0
         → stripLength R l ≡ length s → (j : ℕ) → j < R → 2 * wrongIn R marks s (take (stripLength R l) new) j + markedIn R marks j ≡ 6
         → stripNumbers a .code ≢ 0
@@ -59,7 +59,7 @@ module _ (R : ℕ) (two : 2 ≤ R) where
         (take (stripLength R l) new)
         (A .level z .strip) j (h .1 .0) (W .strip zb) (alike.written-size R some l new (W .strip zb) ∙ e) hj six (A .level z .reached)
 
-  -- Wear is at most 33, and mended at most twice the lanes.
+  -- FORMAT 7.15, 7.16: wear is at most 33, and mended at most twice the lanes.
   module _ (s marks tiles tiles' scratch scratch' : List ℕ) (a : Reading) (A : StripReadsAs R s marks tiles tiles' scratch scratch' a) where
     entered-when-read : stripNumbers a .code ≡ 0 → Hold (entering R s marks (length tiles) (length scratch))
     entered-when-read z =
@@ -79,7 +79,8 @@ module _ (R : ℕ) (two : 2 ≤ R) where
         (levels.wear-most R some marks s (A .level z .strip) (entered-when-read z .0) (A .level z .reached .reach)))
         (λ n. omega (arith, zeros a n .4))
 
-  -- The reader's promise fixes every number and every tile byte; neither the scratch's old bytes nor the bytes under marks have an influence.
+  -- FORMAT 10.8, 10.9, 11.11: the reader's promise fixes every number and every tile byte; neither the scratch's old bytes nor the bytes under
+  -- marks have an influence.
   pub strip-reads-fixed : (s marks tiles t1 t2 u u' v v' : List ℕ) (a b : Reading) → length u ≡ length v → StripReadsAs R s marks tiles t1 u u' a
       → StripReadsAs R s marks tiles t2 v v' b → (t1 ≡ t2) × (stripNumbers a ≡ stripNumbers b)
   strip-reads-fixed s marks tiles t1 t2 u u' v v' a b eu A B =
@@ -92,7 +93,7 @@ module _ (R : ℕ) (two : 2 ≤ R) where
 
   -- ---- writing
 
-  -- The writer's promise fixes every number and byte.
+  -- FORMAT 10.9: the writer's promise fixes every number and byte.
   pub strip-writes-fixed : (l : Level) (old u v : List ℕ) (a b : Written) → StripWritesAs R l old u a → StripWritesAs R l old v b
       → (u ≡ v) × (writtenNumbers a ≡ writtenNumbers b)
   strip-writes-fixed l old u v a b A B = (
@@ -113,7 +114,7 @@ module _ (R : ℕ) (two : 2 ≤ R) where
           (A .past z ∙ sym (B .past (sym codes ∙ z)))
           ∙ take-append-drop (stripLength R l) v
 
-  -- Each level is written, and nothing else is.
+  -- FORMAT 8.16: each level is written, and nothing else is.
   pub level-strip-written : (l : Level) (old new : List ℕ) (a : Written) → IsLevel l → 384 ≤ length old → StripWritesAs R l old new a
       → writtenNumbers a .code ≡ 0
   level-strip-written l old new a il room A =
@@ -124,7 +125,8 @@ module _ (R : ℕ) (two : 2 ≤ R) where
 
   -- ---- read back
 
-  -- A strip that was written, with damage within reach in every lane, gives its level; mended is the number of unmarked cells that changed.
+  -- FORMAT 11.10: a strip that was written, with damage within reach in every lane, gives its level; mended is the number of unmarked cells that
+  -- changed.
   module _ (l : Level) (old new : List ℕ) (b : Written) (W : StripWritesAs R l old new b) (zb : writtenNumbers b .code ≡ 0)
       (s marks tiles tiles' scratch scratch' : List ℕ) (a : Reading) (A : StripReadsAs R s marks tiles tiles' scratch scratch' a)
       (matched : length marks ≡ length s) (good : GoodMarks marks) (room : 961 ≤ length tiles) (room' : 384 ≤ length scratch)
@@ -174,7 +176,7 @@ module _ (R : ℕ) (two : 2 ≤ R) where
           (reach .same-length),
     )
 
-  -- Reading what was written, with no marks, gives the level back; nothing is mended.
+  -- FORMAT 11.9: reading what was written, with no marks, gives the level back; nothing is mended.
   pub strip-read-back : (l : Level) (old new : List ℕ) (b : Written) → StripWritesAs R l old new b → writtenNumbers b .code ≡ 0
       → (marks tiles tiles' scratch scratch' : List ℕ) (a : Reading) → StripReadsAs R (take (stripLength R l) new) marks tiles tiles' scratch scratch' a
       → length marks ≡ stripLength R l → ((p : ℕ) → getD marks p 0 ≡ 0) → 961 ≤ length tiles → 384 ≤ length scratch

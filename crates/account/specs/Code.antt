@@ -21,7 +21,7 @@ module _ (O : Ops) where
   pub record Cells (w : List ℕ) : Type 0 where
     pub cell : (p : ℕ) → p < length w → In O (getD w p 0)
 
-  -- FORMAT 2.3, 2.4: the sum of each byte times α^(j i), where i is its power: 0 for the last byte, n - 1 for the first
+  -- FORMAT 2.3, 2.4, 2.12: the sum of each byte times α^(j i), where i is its power: 0 for the last byte, n - 1 for the first
   unfoldable pub S : ℤ → List ℕ → ℕ
   unfolding sumTo alphaTo
   S j w = sumTo O (length w) (λ p. getD w p 0 ⊗ alphaTo (j *ℤ pos (length w - suc p)))

@@ -1,4 +1,4 @@
--- The record of a level is one, laid out as published.
+-- The bytes that `recordOf` gives are the record of a level.
 use mathlib.Core.Path.{_≡_, refl, sym, ap, ap₂, _∙_}
 use Prim.Native.Nat.{ℕ, zero, suc, _+_, _*_, _-_, _/_, _%_, _^_, _≤_, _<_}
 use native.Mathlib.Nat.{div-div-eq-div-mul, pow-suc, div-eq-of-lt, two-pow-succ, zero-div}

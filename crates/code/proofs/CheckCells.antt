@@ -28,7 +28,7 @@ check-byte-is c (suc (suc (suc (suc zero)))) h = ap (λ (x : ℕ). x % 256) (one
 check-byte-is c (suc (suc (suc (suc (suc i))))) h = absurd (omega arith)
 
 -- k columns of data, and five of check bytes after them
-module _ (k : ℕ) (x x' c : List ℕ) (room : 4 * (k + 5) ≤ length x) (checks : LanesCheck (take (4 * k) x) c)
+module _ (k : ℕ) (x x' c : List ℕ) (room : 4 * (k + 5) ≤ length x) (checks : LanesCheck 4 (take (4 * k) x) c)
     (put : Placed (4 * k) (4 * (k + 5)) (checkCell 4 k c) x x') where
   front : length (take (4 * (k + 5)) x') ≡ 4 * (k + 5)
   front = length-take-le (4 * (k + 5)) x' (omega (arith, put .long))

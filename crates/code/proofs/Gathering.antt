@@ -44,7 +44,7 @@ says-zero x = go (ℕ-discrete x 0)
 clean-said : (w : List ℕ) (r : ℕ) → Remains w r → Says (eqb r 0) (Clean gf256 w)
 clean-said w r R = says-as (r ≡ 0) (Clean gf256 w) (eqb r 0) (none-is-clean w r R) (clean-none w r R) (says-zero r)
 
-pub lanes-tested : (s r : List ℕ) → LanesRemain s r
+pub lanes-tested : (s r : List ℕ) → LanesRemain 4 s r
     → LanesTested gf256 4 s (eqb (getD r 0 0) 0 ∷ eqb (getD r 1 0) 0 ∷ eqb (getD r 2 0) 0 ∷ eqb (getD r 3 0) 0 ∷ [])
 lanes-tested s r R =
     four (λ j. Says (getD (eqb (getD r 0 0) 0 ∷ eqb (getD r 1 0) 0 ∷ eqb (getD r 2 0) 0 ∷ eqb (getD r 3 0) 0 ∷ []) j false) (Clean gf256 (lane 4 j s)))

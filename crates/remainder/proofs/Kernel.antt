@@ -81,21 +81,14 @@ joined k a b x z X Z = record {
       ∙ sym (laws.add-mul gf256 field256 a b (power gf256 (alphaTo gf256 j) (5 + k)));
 }
 
--- a byte from its halves
-pub whole-byte : (k a x z : ℕ) → a < 256 → Reduced k (a % 16) x → Reduced k (16 * (a / 16)) z → Reduced k a (bitXor x z)
-whole-byte k a x z h X Z = subst (λ (b : ℕ). Reduced k b (bitXor x z)) halves (joined k (a % 16) (16 * (a / 16)) x z X Z)
-  where
-    sixteen : 16 * (a / 16) ≡ a / 16 * 2 ^ 4
-    sixteen = omega arith
-
-    both-halves : a / 16 * 2 ^ 4 + a % 16 ≡ a
-    both-halves = omega arith
-
-    halves : bitXor (a % 16) (16 * (a / 16)) ≡ a
-    halves = xor-comm (a % 16) (16 * (a / 16)) ∙ ap (λ (b : ℕ). bitXor b (a % 16)) sixteen ∙ xor-shifted (a / 16) 4 (a % 16) (omega arith) ∙ both-halves
-
 low : (x : ℕ) → x % 256 < 256
 low x = mod-lt x (zero-lt-suc 255)
+
+pub byte : (x : ℕ) → x % 256 < 256
+byte = low
+
+pub top-byte : (r : ℕ) → r < packedEnd → r / 4294967296 < 256
+top-byte r h = omega arith
 
 pub bytes5 : (r : ℕ) → AllBytes (unpacked r)
 bytes5 r = (low _, (low _, (low _, (low _, (low _, tt)))))
@@ -119,97 +112,103 @@ module _ (r : ℕ) (hr : r < packedEnd) where
   top : r / 4294967296 ≡ a4
   top = omega arith
 
-  -- r, one byte on, without its top byte
-  shift1 : (b : ℕ) → b < 256 → unpacked (r % 4294967296 * 256 + b) ≡ a3 ∷ a2 ∷ a1 ∷ a0 ∷ b ∷ []
-  shift1 b hb = rw (d4, d3, d2, d1, d0)
-    where
-      d4 : (r % 4294967296 * 256 + b) / 4294967296 % 256 ≡ a3
-      d4 = omega arith
-
-      d3 : (r % 4294967296 * 256 + b) / 16777216 % 256 ≡ a2
-      d3 = omega arith
-
-      d2 : (r % 4294967296 * 256 + b) / 65536 % 256 ≡ a1
-      d2 = omega arith
-
-      d1 : (r % 4294967296 * 256 + b) / 256 % 256 ≡ a0
-      d1 = omega arith
-
-      d0 : (r % 4294967296 * 256 + b) % 256 ≡ b
-      d0 = omega arith
-
-  pub moved1 : (b x : ℕ) → b < 256 → Reduced 0 (r / 4294967296) x → Moved r (b ∷ []) (bitXor (r % 4294967296 * 256 + b) x)
+  -- a byte after a number whose top byte is nothing
+  pub moved1 : (b : ℕ) → b < 256 → r < 4294967296 → Moved r (b ∷ []) (r * 256 + b)
   unfolding at5
-  moved1 b x hb X = record {
-    small = xor-lt 40 (r % 4294967296 * 256 + b) x (omega arith) (X .small);
-    roots = λ j l u. at (alphaTo gf256 j) (X .roots j l u);
-  }
+  moved1 b hb h = record { small = omega arith; roots = λ j l u. at (alphaTo gf256 j) }
     where
-      at : (y : ℕ) → at5 y x ≡ times (r / 4294967296) (power gf256 y 5) → at5 y (bitXor (r % 4294967296 * 256 + b) x) ≡ hornAll y (at5 y r) (b ∷ [])
-      at y e =
-          at5-xor y (r % 4294967296 * 256 + b) x
-          ∙ ap₂ bitXor (ap (hornAll y 0) (shift1 b hb)) (e ∙ ap (λ (a : ℕ). times a (power gf256 y 5)) top)
-          ∙ xor-comm (hornAll y 0 (a3 ∷ a2 ∷ a1 ∷ a0 ∷ b ∷ [])) (times a4 (power gf256 y 5))
-          ∙ sym (peel y a4 (a3 ∷ a2 ∷ a1 ∷ a0 ∷ b ∷ []) (low _) (low _, (low _, (low _, (low _, (hb, tt))))))
+      shifted : unpacked (r * 256 + b) ≡ a3 ∷ a2 ∷ a1 ∷ a0 ∷ b ∷ []
+      shifted = rw (d4, d3, d2, d1, d0)
+        where
+          d4 : (r * 256 + b) / 4294967296 % 256 ≡ a3
+          d4 = omega arith
 
-  -- r, four bytes on, without its four top bytes
-  shift4 : (b c d e : ℕ) → b < 256 → c < 256 → d < 256 → e < 256
-      → unpacked (r % 256 * 4294967296 + b * 16777216 + c * 65536 + d * 256 + e) ≡ a0 ∷ b ∷ c ∷ d ∷ e ∷ []
-  shift4 b c d e hb hc hd he = rw (d4, d3, d2, d1, d0)
+          d3 : (r * 256 + b) / 16777216 % 256 ≡ a2
+          d3 = omega arith
+
+          d2 : (r * 256 + b) / 65536 % 256 ≡ a1
+          d2 = omega arith
+
+          d1 : (r * 256 + b) / 256 % 256 ≡ a0
+          d1 = omega arith
+
+          d0 : (r * 256 + b) % 256 ≡ b
+          d0 = omega arith
+
+      none : a4 ≡ 0
+      none = omega arith
+
+      at : (y : ℕ) → at5 y (r * 256 + b) ≡ hornAll y (at5 y r) (b ∷ [])
+      at y =
+          ap (hornAll y 0) shifted
+          ∙ sym (peel y a4 (a3 ∷ a2 ∷ a1 ∷ a0 ∷ b ∷ []) (low _) (low _, (low _, (low _, (low _, (hb, tt)))))
+          ∙ ap (λ (z : ℕ). bitXor (times z (power gf256 y 5)) (hornAll y 0 (a3 ∷ a2 ∷ a1 ∷ a0 ∷ b ∷ []))) none
+          ∙ ap (λ (z : ℕ). bitXor z (hornAll y 0 (a3 ∷ a2 ∷ a1 ∷ a0 ∷ b ∷ []))) (laws.zero-mul gf256 field256 (power gf256 y 5))
+          ∙ laws.zero-add gf256 field256 (hornAll y 0 (a3 ∷ a2 ∷ a1 ∷ a0 ∷ b ∷ [])))
+
+  -- five bytes as one number
+  joined5 : (b c d e f : ℕ) → b < 256 → c < 256 → d < 256 → e < 256 → f < 256
+      → unpacked (b * 4294967296 + c * 16777216 + d * 65536 + e * 256 + f) ≡ b ∷ c ∷ d ∷ e ∷ f ∷ []
+  joined5 b c d e f hb hc hd he hf = rw (d4, d3, d2, d1, d0)
     where
       s : ℕ
-      s = r % 256 * 4294967296 + b * 16777216 + c * 65536 + d * 256 + e
+      s = b * 4294967296 + c * 16777216 + d * 65536 + e * 256 + f
 
-      d4 : s / 4294967296 % 256 ≡ a0
+      d4 : s / 4294967296 % 256 ≡ b
       d4 = omega arith
 
-      d3 : s / 16777216 % 256 ≡ b
+      d3 : s / 16777216 % 256 ≡ c
       d3 = omega arith
 
-      d2 : s / 65536 % 256 ≡ c
+      d2 : s / 65536 % 256 ≡ d
       d2 = omega arith
 
-      d1 : s / 256 % 256 ≡ d
+      d1 : s / 256 % 256 ≡ e
       d1 = omega arith
 
-      d0 : s % 256 ≡ e
+      d0 : s % 256 ≡ f
       d0 = omega arith
 
   -- the order of the sums
-  turned : (m x y z w : ℕ) → bitXor m (bitXor (bitXor x y) (bitXor z w)) ≡ bitXor w (bitXor z (bitXor y (bitXor x m)))
-  turned m x y z w = simp (field256 .add-assoc, field256 .add-comm, laws.add-left gf256 field256)
+  turned : (m x y z w v : ℕ) → bitXor m (bitXor (bitXor (bitXor x y) (bitXor z w)) v) ≡ bitXor v (bitXor w (bitXor z (bitXor y (bitXor x m))))
+  turned m x y z w v = simp (field256 .add-assoc, field256 .add-comm, laws.add-left gf256 field256)
 
-  module _ (b c d e x1 x2 x3 x4 : ℕ) (hb : b < 256) (hc : c < 256) (hd : d < 256) (he : e < 256)
-      (X1 : Reduced 0 a1 x1) (X2 : Reduced 1 a2 x2) (X3 : Reduced 2 a3 x3) (X4 : Reduced 3 (r / 4294967296) x4) where
-    abbrev s4 : ℕ
-    s4 = r % 256 * 4294967296 + b * 16777216 + c * 65536 + d * 256 + e
+  module _ (b c d e f x0 x1 x2 x3 x4 : ℕ) (hb : b < 256) (hc : c < 256) (hd : d < 256) (he : e < 256) (hf : f < 256)
+      (X0 : Reduced 0 a0 x0) (X1 : Reduced 1 a1 x1) (X2 : Reduced 2 a2 x2) (X3 : Reduced 3 a3 x3) (X4 : Reduced 4 (r / 4294967296) x4) where
+    abbrev s5 : ℕ
+    s5 = b * 4294967296 + c * 16777216 + d * 65536 + e * 256 + f
 
-    at4 : (y : ℕ) → at5 y x1 ≡ times a1 (power gf256 y 5) → at5 y x2 ≡ times a2 (power gf256 y 6) → at5 y x3 ≡ times a3 (power gf256 y 7)
-        → at5 y x4 ≡ times (r / 4294967296) (power gf256 y 8)
-        → at5 y (bitXor s4 (bitXor (bitXor x1 x2) (bitXor x3 x4))) ≡ hornAll y (at5 y r) (b ∷ c ∷ d ∷ e ∷ [])
+    at-y : (y : ℕ) → at5 y x0 ≡ times a0 (power gf256 y 5) → at5 y x1 ≡ times a1 (power gf256 y 6) → at5 y x2 ≡ times a2 (power gf256 y 7)
+        → at5 y x3 ≡ times a3 (power gf256 y 8) → at5 y x4 ≡ times (r / 4294967296) (power gf256 y 9)
+        → at5 y (bitXor s5 (bitXor (bitXor (bitXor x0 x1) (bitXor x2 x3)) x4)) ≡ hornAll y (at5 y r) (b ∷ c ∷ d ∷ e ∷ f ∷ [])
     unfolding at5
-    at4 y e1 e2 e3 e4 =
-        at5-xor y s4 (bitXor (bitXor x1 x2) (bitXor x3 x4))
-        ∙ ap₂ bitXor (ap (hornAll y 0) (shift4 b c d e hb hc hd he))
-        (at5-xor y (bitXor x1 x2) (bitXor x3 x4)
-        ∙ ap₂ bitXor (at5-xor y x1 x2 ∙ ap₂ bitXor e1 e2) (at5-xor y x3 x4 ∙ ap₂ bitXor e3 (e4 ∙ ap (λ (a : ℕ). times a (power gf256 y 8)) top)))
-        ∙ turned (hornAll y 0 (a0 ∷ b ∷ c ∷ d ∷ e ∷ [])) (times a1 (power gf256 y 5)) (times a2 (power gf256 y 6)) (times a3 (power gf256 y 7))
-        (times a4 (power gf256 y 8))
+    at-y y e0 e1 e2 e3 e4 =
+        at5-xor y s5 (bitXor (bitXor (bitXor x0 x1) (bitXor x2 x3)) x4)
+        ∙ ap₂ bitXor (ap (hornAll y 0) (joined5 b c d e f hb hc hd he hf))
+        (at5-xor y (bitXor (bitXor x0 x1) (bitXor x2 x3)) x4
+        ∙ ap₂ bitXor
+        (at5-xor y (bitXor x0 x1) (bitXor x2 x3) ∙ ap₂ bitXor (at5-xor y x0 x1 ∙ ap₂ bitXor e0 e1) (at5-xor y x2 x3 ∙ ap₂ bitXor e2 e3))
+        (e4 ∙ ap (λ (a : ℕ). times a (power gf256 y 9)) top))
+        ∙ turned (hornAll y 0 (b ∷ c ∷ d ∷ e ∷ f ∷ [])) (times a0 (power gf256 y 5)) (times a1 (power gf256 y 6)) (times a2 (power gf256 y 7))
+        (times a3 (power gf256 y 8)) (times a4 (power gf256 y 9))
         ∙ sym
-        (peel y a4 (a3 ∷ a2 ∷ a1 ∷ a0 ∷ b ∷ c ∷ d ∷ e ∷ []) (low _) (low _, (low _, (low _, (low _, rest))))
-        ∙ ap (bitXor (times a4 (power gf256 y 8)))
-        (peel y a3 (a2 ∷ a1 ∷ a0 ∷ b ∷ c ∷ d ∷ e ∷ []) (low _) (low _, (low _, (low _, rest)))
-        ∙ ap (bitXor (times a3 (power gf256 y 7)))
-        (peel y a2 (a1 ∷ a0 ∷ b ∷ c ∷ d ∷ e ∷ []) (low _) (low _, (low _, rest))
-        ∙ ap (bitXor (times a2 (power gf256 y 6))) (peel y a1 (a0 ∷ b ∷ c ∷ d ∷ e ∷ []) (low _) (low _, rest)))))
+        (peel y a4 (a3 ∷ a2 ∷ a1 ∷ a0 ∷ b ∷ c ∷ d ∷ e ∷ f ∷ []) (low _) (low _, (low _, (low _, (low _, rest))))
+        ∙ ap (bitXor (times a4 (power gf256 y 9)))
+        (peel y a3 (a2 ∷ a1 ∷ a0 ∷ b ∷ c ∷ d ∷ e ∷ f ∷ []) (low _) (low _, (low _, (low _, rest)))
+        ∙ ap (bitXor (times a3 (power gf256 y 8)))
+        (peel y a2 (a1 ∷ a0 ∷ b ∷ c ∷ d ∷ e ∷ f ∷ []) (low _) (low _, (low _, rest))
+        ∙ ap (bitXor (times a2 (power gf256 y 7)))
+        (peel y a1 (a0 ∷ b ∷ c ∷ d ∷ e ∷ f ∷ []) (low _) (low _, rest)
+        ∙ ap (bitXor (times a1 (power gf256 y 6))) (peel y a0 (b ∷ c ∷ d ∷ e ∷ f ∷ []) (low _) rest)))))
       where
-        rest : AllBytes (b ∷ c ∷ d ∷ e ∷ [])
-        rest = (hb, (hc, (hd, (he, tt))))
+        rest : AllBytes (b ∷ c ∷ d ∷ e ∷ f ∷ [])
+        rest = (hb, (hc, (hd, (he, (hf, tt)))))
 
-    pub moved4 : Moved r (b ∷ c ∷ d ∷ e ∷ []) (bitXor s4 (bitXor (bitXor x1 x2) (bitXor x3 x4)))
-    moved4 = record {
+    pub moved5 : Moved r (b ∷ c ∷ d ∷ e ∷ f ∷ []) (bitXor s5 (bitXor (bitXor (bitXor x0 x1) (bitXor x2 x3)) x4))
+    moved5 = record {
       small =
-          xor-lt 40 s4 (bitXor (bitXor x1 x2) (bitXor x3 x4)) (omega arith)
-          (xor-lt 40 (bitXor x1 x2) (bitXor x3 x4) (xor-lt 40 x1 x2 (X1 .small) (X2 .small)) (xor-lt 40 x3 x4 (X3 .small) (X4 .small)));
-      roots = λ j l u. at4 (alphaTo gf256 j) (X1 .roots j l u) (X2 .roots j l u) (X3 .roots j l u) (X4 .roots j l u);
+          xor-lt 40 s5 (bitXor (bitXor (bitXor x0 x1) (bitXor x2 x3)) x4) (omega arith)
+          (xor-lt 40 (bitXor (bitXor x0 x1) (bitXor x2 x3)) x4
+          (xor-lt 40 (bitXor x0 x1) (bitXor x2 x3) (xor-lt 40 x0 x1 (X0 .small) (X1 .small)) (xor-lt 40 x2 x3 (X2 .small) (X3 .small))) (X4 .small));
+      roots = λ j l u. at-y (alphaTo gf256 j) (X0 .roots j l u) (X1 .roots j l u) (X2 .roots j l u) (X3 .roots j l u) (X4 .roots j l u);
     }

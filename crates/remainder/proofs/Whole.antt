@@ -18,7 +18,7 @@ use Rattle.account.proofs.Words.{value, five}
 use Rattle.account.proofs.Decode as decode
 use Rattle.gf256.specs.Gf256.{gf256, times}
 use Rattle.gf256.proofs.Field256.{field256}
-use Rattle.remainder.specs.Remainder.{packedEnd, unpacked, hornAll, at5, Moved, Remains, Checks}
+use Rattle.remainder.specs.Remainder.{packedEnd, unpacked, horn, hornAll, at5, Moved, Remains, Checks}
 use Rattle.remainder.proofs.Kernel.{AllBytes, bytes5, horn-zero, start}
 
 -- ---- sums by Horner's rule
@@ -63,33 +63,20 @@ goes-on w bs r x h R M = record {
       ∙ horn-value (alphaTo gf256 j) w bs h ∙ sym (words.sum-value gf256 field256 j (w ++ bs));
 }
 
-module _ (w : List ℕ) (h : (p : ℕ) → getD w p 0 < 256) where
-  take-one : (k : ℕ) → k < length w → take (k + 1) w ≡ take k w ++ getD w k 0 ∷ []
-  take-one k l = ap (λ (i : ℕ). take i w) (add-one k) ∙ take-suc w k 0 l
+-- and more after these
+horn-more : (y u : ℕ) (bs cs : List ℕ) → hornAll y u (bs ++ cs) ≡ hornAll y (hornAll y u bs) cs
+horn-more y u [] cs = refl
+horn-more y u (b ∷ bs) cs = horn-more y (horn y u b) bs cs
 
-  pub one-more : (k r x : ℕ) → k < length w → Remains (take k w) r → Moved r (getD w k 0 ∷ []) x → Remains (take (k + 1) w) x
-  one-more k r x l R M =
-      subst (λ (v : List ℕ). Remains v x) (sym (take-one k l)) (goes-on (take k w) (getD w k 0 ∷ []) r x (h k, tt) R M)
+pub moved-none : (r : ℕ) → r < packedEnd → Moved r [] r
+moved-none r h = record { small = h; roots = λ j l u. refl }
 
-  take-four : (k : ℕ) → k + 3 < length w → take (k + 4) w ≡ take k w ++ getD w k 0 ∷ getD w (k + 1) 0 ∷ getD w (k + 2) 0 ∷ getD w (k + 3) 0 ∷ []
-  take-four k l =
-      ap (λ (i : ℕ). take i w) (four 3) ∙ take-one (k + 3) (omega arith)
-      ∙ ap (λ (v : List ℕ). v ++ getD w (k + 3) 0 ∷ []) (ap (λ (i : ℕ). take i w) (four 2) ∙ take-one (k + 2) (omega arith)
-      ∙ ap (λ (v : List ℕ). v ++ getD w (k + 2) 0 ∷ []) (ap (λ (i : ℕ). take i w) (four 1) ∙ take-one (k + 1) (omega arith)
-      ∙ ap (λ (v : List ℕ). v ++ getD w (k + 1) 0 ∷ []) (take-one k (omega arith))))
-      ∙ simp append-assoc
-    where
-      four : (i : ℕ) → k + suc i ≡ k + i + 1
-      four i = omega arith
-
-  pub four-more : (k r x : ℕ) → k + 3 < length w → Remains (take k w) r
-      → Moved r (getD w k 0 ∷ getD w (k + 1) 0 ∷ getD w (k + 2) 0 ∷ getD w (k + 3) 0 ∷ []) x → Remains (take (k + 4) w) x
-  four-more k r x l R M =
-      subst (λ (v : List ℕ). Remains v x) (sym (take-four k l))
-      (goes-on (take k w) (getD w k 0 ∷ getD w (k + 1) 0 ∷ getD w (k + 2) 0 ∷ getD w (k + 3) 0 ∷ []) r x (h k, (h (k + 1), (h (k + 2), (h (k + 3), tt)))) R M)
-
-pub ends : (w : List ℕ) (k r : ℕ) → length w ≤ k → Remains (take k w) r → Remains w r
-ends w k r h R = subst (λ (v : List ℕ). Remains v r) (take-all k w h) R
+pub moved-more : (r x z : ℕ) (bs cs : List ℕ) → Moved r bs x → Moved x cs z → Moved r (bs ++ cs) z
+moved-more r x z bs cs M N = record {
+  small = N .small;
+  roots = λ j l u.
+      N .roots j l u ∙ ap (λ (v : ℕ). hornAll (alphaTo gf256 j) v cs) (M .roots j l u) ∙ sym (horn-more (alphaTo gf256 j) (at5 (alphaTo gf256 j) r) bs cs);
+}
 
 -- ---- nothing, and only there
 
@@ -164,16 +151,14 @@ syndrome-same w r R =
 -- ---- the check bytes
 
 -- the remainder of the data with five zeros after it, put in their place, makes the word clean
-pub checked : (d : List ℕ) (r s x : ℕ) → Remains d r → Moved r (0 ∷ 0 ∷ 0 ∷ 0 ∷ []) s → Moved s (0 ∷ []) x → Checks d x
+pub checked : (d : List ℕ) (r x : ℕ) → Remains d r → Moved r (0 ∷ 0 ∷ 0 ∷ 0 ∷ 0 ∷ []) x → Checks d x
 unfolding at5
-checked d r s x R M N = record { small = N .small; clean = λ j l u. at j (alphaTo gf256 j) refl (sum j l u) }
+checked d r x R M = record { small = M .small; clean = λ j l u. at j (alphaTo gf256 j) refl (sum j l u) }
   where
     sum : (j : ℤ) → negsuc 1 ≤ℤ j → j ≤ℤ pos 2 → at5 (alphaTo gf256 j) x ≡ hornAll (alphaTo gf256 j) (value gf256 (alphaTo gf256 j) d) (0 ∷ 0 ∷ 0 ∷ 0 ∷ 0 ∷ [])
     sum j l u =
-        N .roots j l u
-        ∙ ap (λ (v : ℕ). hornAll (alphaTo gf256 j) v (0 ∷ []))
-        (M .roots j l u
-        ∙ ap (λ (v : ℕ). hornAll (alphaTo gf256 j) v (0 ∷ 0 ∷ 0 ∷ 0 ∷ [])) (at5-sum j r ∙ R .sums j l u ∙ words.sum-value gf256 field256 j d))
+        M .roots j l u
+        ∙ ap (λ (v : ℕ). hornAll (alphaTo gf256 j) v (0 ∷ 0 ∷ 0 ∷ 0 ∷ 0 ∷ [])) (at5-sum j r ∙ R .sums j l u ∙ words.sum-value gf256 field256 j d)
 
     zeros : (y : ℕ) → hornAll y 0 (0 ∷ 0 ∷ 0 ∷ 0 ∷ 0 ∷ []) ≡ 0
     zeros y = simp (laws.zero-mul gf256 field256)

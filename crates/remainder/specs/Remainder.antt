@@ -1,11 +1,11 @@
 -- The remainder of a word by the generator: five packed bytes with the word's five sums.
 use mathlib.Core.Path.{_≡_}
 use mathlib.Core.List.{List, [], _∷_, _++_}
-use Prim.Native.Nat.{ℕ, _+_, _*_, _/_, _%_, _<_}
+use Prim.Native.Nat.{ℕ, _+_, _*_, _/_, _%_, _≤_, _<_}
 use lib.Bits.{bitXor}
 use lib.IntN.{ℤ, pos, negsuc}
 use lib.Signed.{_≤ℤ_}
-use lib.ListN.{getD, take}
+use lib.ListN.{length, getD, take}
 use Rattle.account.specs.Field.{power}
 use Rattle.account.specs.Code.{alphaTo, Clean, S}
 use Rattle.account.specs.Lanes.{lane}
@@ -41,11 +41,6 @@ pub record Reduced (k a x : ℕ) : Type 0 where
   pub small : x < packedEnd
   pub roots : AtRoots (λ y. at5 y x ≡ times a (power gf256 y (5 + k)))
 
--- the lent table: half bytes, low ones first, at the powers 5, 6, 7 and 8
-pub record Reductions (t : List ℕ) : Type 0 where
-  pub low : (k v : ℕ) → k < 4 → v < 16 → Reduced k v (getD t (32 * k + v) 0)
-  pub high : (k v : ℕ) → k < 4 → v < 16 → Reduced k (16 * v) (getD t (32 * k + 16 + v) 0)
-
 -- x is r with the bytes bs after it, modulo the generator
 pub record Moved (r : ℕ) (bs : List ℕ) (x : ℕ) : Type 0 where
   pub small : x < packedEnd
@@ -61,16 +56,41 @@ pub record Checks (d : List ℕ) (x : ℕ) : Type 0 where
   pub small : x < packedEnd
   pub clean : Clean gf256 (d ++ unpacked x)
 
--- ---- the four lanes of the cells s, all at once
+-- ---- the lanes of the cells s, all at once: R of them
 
--- the remainders of their first i bytes
-abbrev pub LanesTo : ℕ → List ℕ → List ℕ → Type 0
-LanesTo i s r = (j : ℕ) → j < 4 → Remains (take i (lane 4 j s)) (getD r j 0)
+module _ (R : ℕ) where
+  -- the remainders of their first i cells
+  abbrev pub LanesTo : ℕ → List ℕ → List ℕ → Type 0
+  LanesTo i s r = (j : ℕ) → j < R → Remains (take i (lane R j s)) (getD r j 0)
 
--- their remainders
-abbrev pub LanesRemain : List ℕ → List ℕ → Type 0
-LanesRemain s r = (j : ℕ) → j < 4 → Remains (lane 4 j s) (getD r j 0)
+  -- their remainders
+  abbrev pub LanesRemain : List ℕ → List ℕ → Type 0
+  LanesRemain s r = (j : ℕ) → j < R → Remains (lane R j s) (getD r j 0)
 
--- their check bytes
-abbrev pub LanesCheck : List ℕ → List ℕ → Type 0
-LanesCheck s x = (j : ℕ) → j < 4 → Checks (lane 4 j s) (getD x j 0)
+  -- their check bytes
+  abbrev pub LanesCheck : List ℕ → List ℕ → Type 0
+  LanesCheck s x = (j : ℕ) → j < R → Checks (lane R j s) (getD x j 0)
+
+  -- five cells of a lane, from cell p on
+  abbrev pub fiveAt : List ℕ → ℕ → List ℕ
+  fiveAt s p = getD s p 0 ∷ getD s (p + R) 0 ∷ getD s (p + 2 * R) 0 ∷ getD s (p + 3 * R) 0 ∷ getD s (p + 4 * R) 0 ∷ []
+
+  -- the first h cells of lane j, packed
+  pub record FewOf (j h : ℕ) (s : List ℕ) (x : ℕ) : Type 0 where
+    pub small : x < 4294967296
+    pub remains : Remains (take h (lane R j s)) x
+
+  -- room for R packed numbers
+  pub record Room (o : List ℕ) : Type 0 where
+    pub some : 1 ≤ R
+    pub few : R ≤ 16
+    pub long : length o ≡ 16
+    pub small : (j : ℕ) → j < R → getD o j 0 < packedEnd
+
+  -- each lane's number, five cells more, from cell q on
+  abbrev pub RowMoved : List ℕ → ℕ → List ℕ → List ℕ → Type 0
+  RowMoved s q o o' = (j : ℕ) → j < R → Moved (getD o j 0) (fiveAt s (q + j)) (getD o' j 0)
+
+  -- each lane's number, all of its cells more
+  abbrev pub RowsMoved : List ℕ → List ℕ → List ℕ → Type 0
+  RowsMoved s o o' = (j : ℕ) → j < R → Moved (getD o j 0) (lane R j s) (getD o' j 0)

@@ -1,21 +1,19 @@
-// The remainder of a word by the generator, and what is made of it: the test and the check bytes. The five sums of the remainder
-// are those of the word. Five bytes are packed in one number, the highest power on top. The table is made once for a word, or for
-// the four lanes of a strip, and lent.
+// The remainder of a word by the generator, and what is made of it: the test and the check bytes. (Document 004 takes the
+// remainder first: the five sums of the remainder are those of the word.) Five bytes are packed in one number, the highest power
+// on top. One pass serves a word and the lanes of a strip: their chains of steps need not wait for each other.
 ghost use mathlib.Core.Path.{_≡_};
-ghost use mathlib.Core.List.{List, _∷_, []};
-ghost use Prim.Native.Nat.{ℕ, _+_, _*_, _/_, _%_, _<_};
-ghost use lib.ListN.{length, take};
+ghost use Prim.Native.Nat.{_+_, _*_, _/_, _%_, _<_, _≤_};
+ghost use lib.ListN.{length};
 ghost use Rattle.account.specs.Code.{syndrome};
-ghost use Rattle.account.specs.Lanes.{lane};
 ghost use Rattle.gf256.specs.Gf256.{gf256};
 ghost use Rattle.gf256.specs.Tables.{Tables};
-ghost use Rattle.remainder.specs.Remainder.{packedEnd, Reductions, Reduced, Moved, Remains, Checks, LanesTo, LanesRemain, LanesCheck, at5, unpacked};
-use tables::REDUCTIONS;
+ghost use Rattle.remainder.specs.Remainder.{packedEnd, Remains, Checks, LanesTo, LanesRemain, LanesCheck, fiveAt, FewOf, Room, Moved, RowMoved, RowsMoved, at5, unpacked};
 
-mod tables; // what half bytes at high powers come to
+// Room for the numbers of sixteen lanes.
+const LANES: usize = 16;
 
 fn wide(x: u8) -> u64
-    ensures { λ r. ⌜ r ≡ x ⌝ }
+    ensures { λ r. ⌜ (r ≡ x) × (r < 256) ⌝ }
 {
     x as u64
 }
@@ -27,187 +25,128 @@ pub fn low(x: u64) -> u8
     (x % 256) as u8
 }
 
-// The byte a at the power 5 + k, modulo the generator.
-fn reduced(t: &[u64; 128], k: usize, a: usize) -> u64
-    requires { ⌜ Reductions (now t) × (k < 4) × (a < 256) ⌝ }
-    ensures { λ x. ⌜ Reduced k a x ⌝ }
+// Five cells more of a lane: those at p, p + lanes and so on. Each table is used in this one place, so that it stays one load.
+fn step(s: &[u8], lanes: usize, p: usize, r: u64) -> u64
+    requires { ⌜ (r < packedEnd) × (lanes ≤ 16) × (p + 4 * lanes < length (now s)) ⌝ }
+    ensures { λ x. ⌜ Moved r (fiveAt lanes (now (s .entry)) p) x ⌝ }
 {
-    t[32 * k + a % 16] ^ t[32 * k + 16 + a / 16]
+    let high = wide(s[p]) * 4294967296 + wide(s[p + lanes]) * 16777216;
+    let five = high
+        + wide(s[p + 2 * lanes]) * 65536
+        + wide(s[p + 3 * lanes]) * 256
+        + wide(s[p + 4 * lanes]);
+    let a = reductions::at_5((r % 256) as usize) ^ reductions::at_6((r / 256 % 256) as usize);
+    let b = reductions::at_7((r / 65536 % 256) as usize)
+        ^ reductions::at_8((r / 16777216 % 256) as usize);
+    five ^ ((a ^ b) ^ reductions::at_9((r / 4294967296) as usize))
 }
 
-// One byte more.
-fn step(t: &[u64; 128], r: u64, b: u8) -> u64
-    requires { ⌜ Reductions (now t) × (r < packedEnd) ⌝ }
-    ensures { λ x. ⌜ Moved r (b ∷ []) x ⌝ }
+// Five cells more of each lane, from cell q on.
+fn row(s: &[u8], lanes: usize, q: usize, out: &mut [u64; LANES])
+    requires { ⌜ Room lanes (now out) × (q + 5 * lanes ≤ length (now s)) ⌝ }
+    ensures { λ _. ⌜ RowMoved lanes (now (s .entry)) q (now (out .entry)) (now (out .exit)) × (length (now (out .exit)) ≡ 16) ⌝ }
 {
-    ((r % 4294967296) * 256 + wide(b)) ^ reduced(t, 0, (r / 4294967296) as usize)
-}
-
-// Four bytes more: the four highest bytes of r are reduced at once.
-fn step4(t: &[u64; 128], r: u64, a: u8, b: u8, c: u8, d: u8) -> u64
-    requires { ⌜ Reductions (now t) × (r < packedEnd) ⌝ }
-    ensures { λ x. ⌜ Moved r (a ∷ b ∷ c ∷ d ∷ []) x ⌝ }
-{
-    let moved = (r % 256) * 4294967296
-        + wide(a) * 16777216
-        + wide(b) * 65536
-        + wide(c) * 256
-        + wide(d);
-    let low = reduced(t, 0, (r / 256 % 256) as usize) ^ reduced(t, 1, (r / 65536 % 256) as usize);
-    let high = reduced(t, 2, (r / 16777216 % 256) as usize)
-        ^ reduced(t, 3, (r / 4294967296) as usize);
-    moved ^ (low ^ high)
-}
-
-// The remainder of the first bytes of w, as many as four does not divide.
-fn head(t: &[u64; 128], w: &[u8]) -> u64
-    requires { ⌜ Reductions (now t) ⌝ }
-    ensures { λ r. ⌜ Remains (take (length (now (w .entry)) % 4) (now (w .entry))) r ⌝ }
-{
-    let h = w.len() % 4;
-    let mut r: u64 = 0;
-    let mut k = 0;
-    while k < h {
-        r = step(t, r, w[k]);
-        k += 1;
+    let mut j: usize = 0;
+    while j < lanes {
+        out[j] = step(s, lanes, q + j, out[j]);
+        j += 1;
     }
-    r
+}
+
+// All cells of s more: rows of five of each lane.
+fn rows(s: &[u8], lanes: usize, out: &mut [u64; LANES])
+    requires { ⌜ Room lanes (now out) × (length (now s) % (5 * lanes) ≡ 0) ⌝ }
+    ensures { λ _. ⌜ RowsMoved lanes (now (s .entry)) (now (out .entry)) (now (out .exit)) × (length (now (out .exit)) ≡ 16) ⌝ }
+{
+    let mut q: usize = 0;
+    while q < s.len() {
+        row(s, lanes, q, out);
+        q += 5 * lanes;
+    }
+}
+
+// The first h cells of lane j, fewer than five: packed, they are their own remainder.
+fn few(s: &[u8], lanes: usize, j: usize, h: usize) -> u64
+    requires { ⌜ (j < lanes) × (h ≤ 4) × (lanes ≤ 16) × (h ≤ length (now s) / lanes) ⌝ }
+    ensures { λ x. ⌜ FewOf lanes j h (now (s .entry)) x ⌝ }
+{
+    let mut x: u64 = 0;
+    let mut p = j;
+    let mut i: usize = 0;
+    while i < h {
+        x = x * 256 + wide(s[p]);
+        p += lanes;
+        i += 1;
+    }
+    x
+}
+
+// The same for each lane.
+fn heads(s: &[u8], lanes: usize, h: usize, out: &mut [u64; LANES])
+    requires { ⌜ Room lanes (now out) × (h ≤ 4) × (h ≤ length (now s) / lanes) ⌝ }
+    ensures { λ _. ⌜ LanesTo lanes h (now (s .entry)) (now (out .exit)) × (length (now (out .exit)) ≡ 16) ⌝ }
+{
+    let mut j: usize = 0;
+    while j < lanes {
+        out[j] = few(s, lanes, j, h);
+        j += 1;
+    }
+}
+
+// The remainders of the lanes of s.
+fn remainders(s: &[u8], lanes: usize) -> [u64; LANES]
+    requires { ⌜ (1 ≤ lanes) × (lanes ≤ 16) ⌝ }
+    ensures { λ r. ⌜ LanesRemain lanes (now (s .entry)) r ⌝ }
+{
+    let n = s.len() / lanes;
+    let h = n % 5;
+    let mut out = [0u64; LANES];
+    heads(s, lanes, h, &mut out);
+    rows(&s[lanes * h..lanes * n], lanes, &mut out);
+    out
+}
+
+// The check bytes after the lanes of data: the remainders of the data with five zeros after each lane.
+fn checks(data: &[u8], lanes: usize) -> [u64; LANES]
+    requires { ⌜ (1 ≤ lanes) × (lanes ≤ 16) ⌝ }
+    ensures { λ x. ⌜ LanesCheck lanes (now («data» .entry)) x ⌝ }
+{
+    let zeros = [0u8; 80];
+    let mut out = remainders(data, lanes);
+    rows(&zeros[0..5 * lanes], lanes, &mut out);
+    out
 }
 
 // The remainder of w.
-fn of_word(t: &[u64; 128], w: &[u8]) -> u64
-    requires { ⌜ Reductions (now t) ⌝ }
-    ensures { λ r. ⌜ Remains (now (w .entry)) r ⌝ }
-{
-    let mut r = head(t, w);
-    let mut k = w.len() % 4;
-    while k < w.len() {
-        r = step4(t, r, w[k], w[k + 1], w[k + 2], w[k + 3]);
-        k += 4;
-    }
-    r
-}
-
-// The same, with the table made here.
 pub fn remainder_of(w: &[u8]) -> u64
     ensures { λ r. ⌜ Remains (now (w .entry)) r ⌝ }
 {
-    let t = REDUCTIONS;
-    of_word(&t, w)
+    let r = remainders(w, 1);
+    r[0]
 }
 
-// One byte more of lane j of s, after i of them. (Cell p of s is byte p div 4 of lane p mod 4.)
-fn next_of(t: &[u64; 128], r: u64, s: &[u8], i: usize, j: usize) -> u64
-    requires { ⌜ Reductions (now t) × (j < 4) × (i < length (now s) / 4) × Remains (take i (lane 4 j (now s))) r ⌝ }
-    ensures { λ x. ⌜ Remains (take (i + 1) (lane 4 j (now (s .entry)))) x ⌝ }
-{
-    step(t, r, s[4 * i + j])
-}
-
-// Four bytes more.
-fn next4_of(t: &[u64; 128], r: u64, s: &[u8], i: usize, j: usize) -> u64
-    requires { ⌜ Reductions (now t) × (j < 4) × (i + 3 < length (now s) / 4) × Remains (take i (lane 4 j (now s))) r ⌝ }
-    ensures { λ x. ⌜ Remains (take (i + 4) (lane 4 j (now (s .entry)))) x ⌝ }
-{
-    let p = 4 * i + j;
-    step4(t, r, s[p], s[p + 4], s[p + 8], s[p + 12])
-}
-
-// The remainders of the first columns (a byte of each lane), as many as four does not divide.
-fn lanes_head(t: &[u64; 128], s: &[u8]) -> [u64; 4]
-    requires { ⌜ Reductions (now t) ⌝ }
-    ensures { λ r. ⌜ LanesTo (length (now (s .entry)) / 4 % 4) (now (s .entry)) r ⌝ }
-{
-    let h = s.len() / 4 % 4;
-    let mut a: u64 = 0;
-    let mut b: u64 = 0;
-    let mut c: u64 = 0;
-    let mut d: u64 = 0;
-    let mut i = 0;
-    while i < h {
-        a = next_of(t, a, s, i, 0);
-        b = next_of(t, b, s, i, 1);
-        c = next_of(t, c, s, i, 2);
-        d = next_of(t, d, s, i, 3);
-        i += 1;
-    }
-    [a, b, c, d]
-}
-
-// The remainders of the four lanes of s, in one pass: the four chains of steps need not wait for each other.
-fn of_lanes(t: &[u64; 128], s: &[u8]) -> [u64; 4]
-    requires { ⌜ Reductions (now t) ⌝ }
-    ensures { λ r. ⌜ LanesRemain (now (s .entry)) r ⌝ }
-{
-    let first = lanes_head(t, s);
-    let mut a = first[0];
-    let mut b = first[1];
-    let mut c = first[2];
-    let mut d = first[3];
-    let n = s.len() / 4;
-    let mut i = n % 4;
-    while i < n {
-        a = next4_of(t, a, s, i, 0);
-        b = next4_of(t, b, s, i, 1);
-        c = next4_of(t, c, s, i, 2);
-        d = next4_of(t, d, s, i, 3);
-        i += 4;
-    }
-    [a, b, c, d]
-}
-
-// The same, with the table made here. Cells after the last whole column count for nothing.
+// The remainders of the four lanes of s. Cells after the last whole column count for nothing.
 pub fn remainders_of(s: &[u8]) -> [u64; 4]
-    ensures { λ r. ⌜ LanesRemain (now (s .entry)) r ⌝ }
+    ensures { λ r. ⌜ LanesRemain 4 (now (s .entry)) r ⌝ }
 {
-    let t = REDUCTIONS;
-    of_lanes(&t, s)
-}
-
-// The five check bytes after data with the remainder r, packed: the remainder of the data with five zeros after it.
-fn finish(t: &[u64; 128], r: u64) -> u64
-    requires { ⌜ Reductions (now t) × (r < packedEnd) ⌝ }
-    ensures { λ x. ⌜ ((d : List ℕ) → Remains d r → Checks d x) ⌝ }
-{
-    step(t, step4(t, r, 0, 0, 0, 0), 0)
+    let r = remainders(s, 4);
+    [r[0], r[1], r[2], r[3]]
 }
 
 // The five check bytes after data.
-fn checks(t: &[u64; 128], data: &[u8]) -> u64
-    requires { ⌜ Reductions (now t) ⌝ }
-    ensures { λ x. ⌜ Checks (now («data» .entry)) x ⌝ }
-{
-    let r = of_word(t, data);
-    finish(t, r)
-}
-
-// The same, with the table made here.
 pub fn checks_of(data: &[u8]) -> u64
     ensures { λ x. ⌜ Checks (now («data» .entry)) x ⌝ }
 {
-    let t = REDUCTIONS;
-    checks(&t, data)
+    let x = checks(data, 1);
+    x[0]
 }
 
-// The five check bytes after each lane of data.
-fn lane_checks(t: &[u64; 128], data: &[u8]) -> [u64; 4]
-    requires { ⌜ Reductions (now t) ⌝ }
-    ensures { λ x. ⌜ LanesCheck (now («data» .entry)) x ⌝ }
-{
-    let r = of_lanes(t, data);
-    let a = finish(t, r[0]);
-    let b = finish(t, r[1]);
-    let c = finish(t, r[2]);
-    let d = finish(t, r[3]);
-    [a, b, c, d]
-}
-
-// The same, with the table made here.
+// The five check bytes after each of the four lanes of data.
 pub fn lane_checks_of(data: &[u8]) -> [u64; 4]
-    ensures { λ x. ⌜ LanesCheck (now («data» .entry)) x ⌝ }
+    ensures { λ x. ⌜ LanesCheck 4 (now («data» .entry)) x ⌝ }
 {
-    let t = REDUCTIONS;
-    lane_checks(&t, data)
+    let x = checks(data, 4);
+    [x[0], x[1], x[2], x[3]]
 }
 
 // The polynomial of the five packed bytes at y.

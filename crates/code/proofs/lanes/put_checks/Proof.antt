@@ -35,7 +35,7 @@ returns c =
     let q = c .before .before .before .before .lane-checks-of in
     let e : 4 * s .args .k - 0 ≡ 4 * s .args .k = omega arith in
     checks-put (s .args .k) (s .args .x .now) (c .before .before .place-checks .last .0) (q .result) (s .pre .1)
-    (subst (λ (n : ℕ). LanesCheck (take n (s .args .x .now)) (q .result)) e (q .ensures)) (c .before .before .place-checks .ensures)
+    (subst (λ (n : ℕ). LanesCheck 4 (take n (s .args .x .now)) (q .result)) e (q .ensures)) (c .before .before .place-checks .ensures)
 
 pub put-checks-spec : {M : Type 1} → statement M
 put-checks-spec =

@@ -48,7 +48,8 @@ module _ (l : Level) where
     pub refused-later : (c : ℕ) → 364 ≤ length old → (c ≡ 0 → ⊥) → First (asked (λ ask. ask l) lending) c → RecordWritesAs l old old (written.Refused c)
     refused-later c a n f = none c n (inr (a, f))
 
-    pub wrote : (new : List ℕ) (c n : ℕ) → 364 ≤ length old → c ≡ 0 → First (asked (λ ask. ask l) lending) c → RecordPut l old new n → RecordWritesAs l old new (written.Length n)
+    pub wrote : (new : List ℕ) (c n : ℕ) → 364 ≤ length old → c ≡ 0 → First (asked (λ ask. ask l) lending) c → RecordPut l old new n
+        → RecordWritesAs l old new (written.Length n)
     wrote new c n a z f P = record {
       code = inr (a, subst (First (asked (λ ask. ask l) lending)) z f);
       value = λ _. P .size;

@@ -1,38 +1,57 @@
 -- A record judged.
 use mathlib.Core.Path.{_≡_, refl, sym, ap, ap₂, _∙_, subst}
-use mathlib.Core.Logic.{inl, inr}
+use mathlib.Core.Logic.{inr}
 use mathlib.Core.List.{List}
-use Prim.Native.Nat.{ℕ, _*_, _-_, _≤_}
+use Prim.Native.Nat.{ℕ, _+_, _*_, _≤_, _<_}
 use native.Mathlib.Omega.{arith}
-use lib.ListN.{length, take, drop}
-use Rattle.level.specs.Record.{fieldAt}
-use Rattle.level.specs.Level.{Level, Ranged, boarding}
-use Rattle.level.specs.Reading.{tilesIn, tilesOf, levelOf, Shaped, judging}
-use Rattle.level.proofs.Windows.{field-below}
+use lib.ListN.{length}
 use Rattle.rules.specs.Refusal.{First, asked}
 use Rattle.rules.proofs.Laws.{stops}
+use Rattle.level.specs.Level.{Ranged}
+use Rattle.level.specs.Record.{fieldAt, recordLength}
+use Rattle.level.specs.Reading.{tilesOf, levelOf, Shaped, judging}
+use Rattle.level.proofs.Dealing.{within}
+use Rattle.level.proofs.Judged.{length-tiles}
+use Rattle.level.proofs.Windows.{field-below}
+use Rattle.tiles.specs.Sum.{weight, Tallied}
+use Rattle.tiles.proofs.Part.{partOf, length-part, bit-on, unpacked-part}
 use Rattle.record.specs.declared.read.Head.{Head}
 use Rattle.record.specs.declared.read.Judged.{Judged}
-use Rattle.record.specs.Sum.{boardOf, BoardCode}
-use Rattle.record.specs.Reading.{Heads, Unpacks, without, JudgedAs}
+use Rattle.record.specs.Sum.{BoardCode, SumCode}
+use Rattle.record.specs.Reading.{Heads, without, JudgedAs}
 use Rattle.record.proofs.Tiles.{area-small}
-use Rattle.record.proofs.Reading.{field-5, on-board}
+use Rattle.record.proofs.Reading.{field-5}
 
-module _ (R : ℕ) (bs board : List ℕ) where
-  refusal : (code : ℕ) → (code ≡ 0 → ⊥) → First (asked (λ ask. ask bs) (judging R)) code → JudgedAs R bs board (without code)
+module _ (R : ℕ) (bs : List ℕ) where
+  refusal : (code : ℕ) → (code ≡ 0 → ⊥) → First (asked (λ ask. ask bs) (judging R)) code → JudgedAs R bs (without code)
   refusal code n f = record { first = f; spells = λ z. absurd (n z); none = λ _. refl }
 
-  judged-none : (r : Judged) (code : ℕ) → r ≡ without code → (code ≡ 0 → ⊥) → First (asked (λ ask. ask bs) (judging R)) code → JudgedAs R bs board r
-  judged-none r code e n f = subst (JudgedAs R bs board) (sym e) (refusal code n f)
+  judged-none : (r : Judged) (code : ℕ) → r ≡ without code → (code ≡ 0 → ⊥) → First (asked (λ ask. ask bs) (judging R)) code → JudgedAs R bs r
+  judged-none r code e n f = subst (JudgedAs R bs) (sym e) (refusal code n f)
 
-  pub judged-7 : (r : Judged) → r ≡ without 7 → (Ranged (levelOf bs) → ⊥) → JudgedAs R bs board r
+  pub judged-7 : (r : Judged) → r ≡ without 7 → (Ranged (levelOf bs) → ⊥) → JudgedAs R bs r
   judged-7 r e n = judged-none r 7 e (λ z. omega arith) (stops 0 (asked (λ ask. ask bs) (judging R)) 7 (n, refl))
 
-  pub judged-8 : (r : Judged) → r ≡ without 8 → Ranged (levelOf bs) → (Shaped R bs → ⊥) → JudgedAs R bs board r
+  pub judged-8 : (r : Judged) → r ≡ without 8 → Ranged (levelOf bs) → (Shaped R bs → ⊥) → JudgedAs R bs r
   judged-8 r e h n = judged-none r 8 e (λ z. omega arith) (stops 1 (asked (λ ask. ask bs) (judging R)) 8 (h, (n, refl)))
 
-  pub judged-later : (r : Judged) (code : ℕ) → r ≡ without code → (code ≡ 0 → ⊥) → Ranged (levelOf bs) → Shaped R bs → BoardCode (fieldAt bs 0 4) (tilesOf bs) code → JudgedAs R bs board r
+  pub judged-later : (r : Judged) (code : ℕ) → r ≡ without code → (code ≡ 0 → ⊥) → Ranged (levelOf bs) → Shaped R bs
+      → BoardCode (fieldAt bs 0 4) (tilesOf bs) code → JudgedAs R bs r
   judged-later r code e n h s f = judged-none r code e n (inr (h, inr (s, f)))
+
+-- the bytes have room for the tiles, and so has their part from byte 3
+module _ (R : ℕ) (bs : List ℕ) (some : 0 < R) (s : Shaped R bs) where
+  pub tiles-fit : 24 + 3 * (fieldAt bs 4 5 * fieldAt bs 9 5) ≤ 8 * length bs
+  tiles-fit = omega (arith, s .fits, within R some (recordLength (fieldAt bs 4 5) (fieldAt bs 9 5)))
+
+  pub part-fits : 3 * (fieldAt bs 4 5 * fieldAt bs 9 5) ≤ 8 * length (partOf bs)
+  part-fits = omega (arith, tiles-fit, length-part bs)
+
+  -- what the part adds is what the tiles do
+  pub tallied-tiles : (x : ℕ) → Tallied (partOf bs) x → x ≡ weight (tilesOf bs)
+  tallied-tiles x t =
+      t .sum (fieldAt bs 4 5 * fieldAt bs 9 5) part-fits (λ p a b. bit-on bs p ∙ s .filling (24 + p) (omega arith) (omega (arith, length-part bs)))
+      ∙ ap weight (unpacked-part bs (fieldAt bs 4 5 * fieldAt bs 9 5))
 
 module _ (bs : List ℕ) (f : Head) (hd : Heads bs f) where
   pub area-is : f .width * f .height ≡ fieldAt bs 4 5 * fieldAt bs 9 5
@@ -48,24 +67,17 @@ module _ (bs : List ℕ) (f : Head) (hd : Heads bs f) where
     par-small = omega (arith, field-below bs 14 10);
   }
 
-  pub tiles-are : (board : List ℕ) → 968 ≤ length board → Unpacks (take (length bs - 3) (drop 3 bs)) (f .width * f .height) board
-      → take (f .width * f .height) board ≡ tilesOf bs
-  tiles-are board room u = on-board bs board (f .width * f .height) (omega (arith, area-few)) u ∙ ap (tilesIn bs) area-is
+  -- what the tiles add tells their refusal
+  pub boarded : f .version ≡ 1 → (R x code : ℕ) → 0 < R → Shaped R bs → Tallied (partOf bs) x → SumCode 1 x code
+      → BoardCode (fieldAt bs 0 4) (tilesOf bs) code
+  boarded v R x code some s t j =
+      subst (λ (y : ℕ). BoardCode y (tilesOf bs) code) (sym v ∙ hd .version)
+      (j .code-of (tilesOf bs) (omega (arith, length-tiles bs (fieldAt bs 4 5 * fieldAt bs 9 5), area-is, area-few)) (tallied-tiles R bs some s x t))
 
-  pub boarded : f .version ≡ 1 → (board : List ℕ) (code : ℕ) → 968 ≤ length board → Unpacks (take (length bs - 3) (drop 3 bs)) (f .width * f .height) board
-      → BoardCode 1 (take (f .width * f .height - 0) board) code → BoardCode (fieldAt bs 0 4) (tilesOf bs) code
-  boarded v board code room u k =
-      subst (λ (x : ℕ). BoardCode x (tilesOf bs) code) (sym v ∙ hd .version)
-      (subst (λ (ts : List ℕ). BoardCode 1 ts code) (ap (λ (n : ℕ). take n board) z ∙ tiles-are board room u) k)
-    where
-      z : f .width * f .height - 0 ≡ f .width * f .height
-      z = omega arith
-
-  pub judged-0 : (R : ℕ) (board : List ℕ) (code : ℕ) → 968 ≤ length board → Unpacks (take (length bs - 3) (drop 3 bs)) (f .width * f .height) board
-      → code ≡ 0 → Ranged (levelOf bs) → Shaped R bs → BoardCode (fieldAt bs 0 4) (tilesOf bs) code
-      → JudgedAs R bs board (record { code = 0; width = f .width; height = f .height; par = f .par })
-  judged-0 R board code room u z h s k = record {
+  pub judged-0 : (R code : ℕ) → code ≡ 0 → Ranged (levelOf bs) → Shaped R bs → BoardCode (fieldAt bs 0 4) (tilesOf bs) code
+      → JudgedAs R bs (record { code = 0; width = f .width; height = f .height; par = f .par })
+  judged-0 R code z h s k = record {
     first = inr (h, inr (s, subst (BoardCode (fieldAt bs 0 4) (tilesOf bs)) z k));
-    spells = λ _. record { width = hd .width; height = hd .height; par = hd .par; few = area-few; tiles = tiles-are board room u };
+    spells = λ _. record { width = hd .width; height = hd .height; par = hd .par; few = area-few };
     none = λ n. absurd (n refl);
   }

@@ -2,22 +2,25 @@
 use mathlib.Core.Path.{_≡_, refl, sym, ap, ap₂, _∙_, subst}
 use mathlib.Core.Logic.{inl, inr}
 use mathlib.Core.List.{List, _++_}
-use Prim.Native.Nat.{ℕ, _*_, _-_, _≤_}
+use Prim.Native.Nat.{ℕ, _*_, _≤_, _<_}
 use native.Mathlib.Omega.{arith}
 use lib.ListN.{length, take, drop}
-use lib.Seq.{take-at, drop-at, take-all, length-take-le}
+use lib.Seq.{take-at, drop-at, take-all}
 use Rattle.rules.specs.Refusal.{First, Hold, Within, asked}
 use Rattle.rules.specs.Bytes.{Bytes}
 use Rattle.rules.proofs.Laws.{all-hold, stops}
 use Rattle.level.specs.Level.{Level, IsLevel, Ranged}
 use Rattle.level.specs.Record.{fieldAt, recordLength, IsRecord}
 use Rattle.level.specs.Strip.{columns}
-use Rattle.level.specs.Reading.{tilesOf, levelOf, Shaped, judging, readingRecord}
+use Rattle.level.specs.Reading.{tilesIn, tilesOf, levelOf, Shaped, judging, readingRecord}
 use Rattle.level.proofs.Fields.{same-level}
 use Rattle.level.proofs.Judged.{length-tiles, spelled-record, spelled-level}
+use Rattle.tiles.specs.Part.{unpacked}
+use Rattle.tiles.proofs.Part.{partOf, unpacked-part}
 use Rattle.record.specs.declared.read.Judged.{Judged}
 use Rattle.record.specs.declared.read.RecordRead.the-variants as read
 use Rattle.record.specs.Reading.{RecordReadsAs, JudgedAs, AcceptedAs}
+use Rattle.record.proofs.Judging.{part-fits}
 
 -- what is not refused has passed every rule
 pub passed : (R : ℕ) (bs : List ℕ) (c : ℕ) → c ≡ 0 → First (asked (λ ask. ask bs) (judging R)) c → Hold (asked (λ ask. ask bs) (judging R))
@@ -54,7 +57,7 @@ module _ (bs old new : List ℕ) (w h par : ℕ) (ew : w ≡ fieldAt bs 4 5) (eh
 
 -- ---- the record accepted
 
-module _ (lanes : ℕ) (bs board : List ℕ) (r : Judged) (J : JudgedAs lanes bs board r) (old : List ℕ) where
+module _ (lanes : ℕ) (bs : List ℕ) (r : Judged) (J : JudgedAs lanes bs r) (old : List ℕ) where
   pub rejected : (r .code ≡ 0 → ⊥) → AcceptedAs lanes bs old old r
   rejected n = record {
     first = J .first;
@@ -65,22 +68,22 @@ module _ (lanes : ℕ) (bs board : List ℕ) (r : Judged) (J : JudgedAs lanes bs
     kept = λ _. refl;
   }
 
-  module _ (z : r .code ≡ 0) (room : 968 ≤ length board) where
-    pub board-part : length (take (r .width * r .height - 0) board) ≡ r .width * r .height
-    board-part = length-take-le (r .width * r .height - 0) board (omega (arith, J .spells z .few)) ∙ omega arith
+  module _ (z : r .code ≡ 0) where
+    area : r .width * r .height ≡ fieldAt bs 4 5 * fieldAt bs 9 5
+    area = ap₂ (λ (x y : ℕ). x * y) (J .spells z .width) (J .spells z .height)
 
-    pub accepted : (new : List ℕ) → new ≡ take (r .width * r .height - 0) board ++ drop (length (take (r .width * r .height - 0) board)) old → AcceptedAs lanes bs old new r
+    pub room-for : 0 < lanes → 3 * (r .width * r .height) ≤ 8 * length (partOf bs)
+    room-for some = omega (arith, area, part-fits lanes bs some (passed lanes bs (r .code) z (J .first) .1 .0))
+
+    pub accepted : (new : List ℕ) → new ≡ unpacked (partOf bs) (r .width * r .height) ++ drop (r .width * r .height) old → AcceptedAs lanes bs old new r
     accepted new e = record {
       first = J .first;
       width = λ z. J .spells z .width;
       height = λ z. J .spells z .height;
       par = λ z. J .spells z .par;
-      tiles = λ z. e ∙ ap₂ (λ (x : List ℕ) (n : ℕ). x ++ drop n old) (ap (λ (n : ℕ). take n board) whole ∙ J .spells z .tiles) board-part;
+      tiles = λ _. e ∙ ap (λ (ts : List ℕ). ts ++ drop (r .width * r .height) old) (unpacked-part bs (r .width * r .height) ∙ ap (tilesIn bs) area);
       kept = λ n. absurd (n z);
     }
-      where
-        whole : r .width * r .height - 0 ≡ r .width * r .height
-        whole = omega arith
 
 -- ---- the record read
 
@@ -94,7 +97,8 @@ module _ (bs old : List ℕ) where
   pub not-read-4 : Within 4 364 (length bs) → (961 ≤ length old → ⊥) → RecordReadsAs bs old old (read.Refused 4)
   not-read-4 a n = none old 4 refl (λ z. omega arith) (stops 1 (readingRecord bs (length old)) 4 (a, (n, refl)))
 
-  pub not-read-later : (r : Judged) (new : List ℕ) → (r .code ≡ 0 → ⊥) → AcceptedAs 1 bs old new r → Within 4 364 (length bs) → 961 ≤ length old → RecordReadsAs bs old new (read.Refused (r .code))
+  pub not-read-later : (r : Judged) (new : List ℕ) → (r .code ≡ 0 → ⊥) → AcceptedAs 1 bs old new r → Within 4 364 (length bs) → 961 ≤ length old
+      → RecordReadsAs bs old new (read.Refused (r .code))
   not-read-later r new n A a b = none new (r .code) (A .kept n) n (inr (a, inr (b, A .first)))
 
   pub reads : (r : Judged) (new : List ℕ) → r .code ≡ 0 → AcceptedAs 1 bs old new r → Bytes bs → Within 4 364 (length bs) → 961 ≤ length old

@@ -59,7 +59,8 @@ written-is-level l old new a A z = written-level l 364 (length old) (writtenNumb
 -- a level's record is read, as that level
 pub level-is-read : (l : Level) (bs old new : List ℕ) (a : RecordRead) → IsLevel l → IsRecord l bs → 961 ≤ length old → RecordReadsAs bs old new a
     → (recordNumbers a .code ≡ 0) × (returned (recordNumbers a) new ≡ l)
-level-is-read l bs old new a il is room A = (zero-code, record-injective (returned (recordNumbers a) new) l bs (A .is-level zero-code) il (A .is-record zero-code) is)
+level-is-read l bs old new a il is room A =
+    (zero-code, record-injective (returned (recordNumbers a) new) l bs (A .is-level zero-code) il (A .is-record zero-code) is)
   where
     p : Passes 1 bs l
     p = record-passes 1 (omega arith) l bs bs il is (all (length bs)) (λ q h. refl)
@@ -100,16 +101,19 @@ unfolding made
 numbers-of (read.Level w h p) tiles = refl
 numbers-of (read.Refused c) tiles = refl
 
-two-refusals : (a b : RecordRead) → recordNumbers a .code ≢ 0 → recordNumbers b .code ≢ 0 → recordNumbers a .code ≡ recordNumbers b .code → recordNumbers a ≡ recordNumbers b
+two-refusals : (a b : RecordRead) → recordNumbers a .code ≢ 0 → recordNumbers b .code ≢ 0 → recordNumbers a .code ≡ recordNumbers b .code
+    → recordNumbers a ≡ recordNumbers b
 two-refusals (read.Level w h p) b m n e = absurd (m refl)
 two-refusals (read.Refused c) (read.Level w h p) m n e = absurd (n refl)
 two-refusals (read.Refused c) (read.Refused d) m n e = ap (λ (k : ℕ). refusedAt k 0) e
 
 -- The promise of the reader fixes every number and byte.
-pub record-reads-fixed : (bs old u v : List ℕ) (a b : RecordRead) → RecordReadsAs bs old u a → RecordReadsAs bs old v b → (u ≡ v) × (recordNumbers a ≡ recordNumbers b)
+pub record-reads-fixed : (bs old u v : List ℕ) (a b : RecordRead) → RecordReadsAs bs old u a → RecordReadsAs bs old v b
+    → (u ≡ v) × (recordNumbers a ≡ recordNumbers b)
 record-reads-fixed bs old u v a b A B = (
   either (u ≡ v) (recordNumbers a .code) (λ z. alike z) (λ n. A .kept n ∙ sym (B .kept (other n))),
-  either (recordNumbers a ≡ recordNumbers b) (recordNumbers a .code) (λ z. numbers-of a u ∙ ap₂ made codes (level z) ∙ sym (numbers-of b v)) (λ n. two-refusals a b n (other n) codes),
+  either (recordNumbers a ≡ recordNumbers b) (recordNumbers a .code) (λ z. numbers-of a u ∙ ap₂ made codes (level z) ∙ sym (numbers-of b v))
+      (λ n. two-refusals a b n (other n) codes),
 )
   where
     codes : recordNumbers a .code ≡ recordNumbers b .code

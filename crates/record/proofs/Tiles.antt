@@ -6,63 +6,14 @@ use Prim.Native.Nat.{ℕ, zero, suc, _+_, _*_, _/_, _%_, _≤_, _<_}
 use native.Mathlib.Nat.{mul-le-mul}
 use native.Mathlib.Numerals.{add-one}
 use native.Mathlib.Omega.{arith}
-use borrow.Author.Tests.{lt-ltb, le-ltb}
 use lib.ListN.{length, getD, drop}
 use lib.Seq.{drop-cons, drop-length}
+use Rattle.rules.proofs.Numbers.{lt-or-ge}
 use Rattle.level.specs.Tile.{adds, totals}
 use Rattle.level.specs.Level.{Sized, AllTiles}
 use Rattle.level.specs.Record.{recordLength}
-use Rattle.rules.proofs.Numbers.{lt-or-ge}
-use Rattle.record.specs.Sum.{packed, weighed, weight, Packs}
-
--- rows are small
-pub adds-small : (t : ℕ) → (adds t .player ≤ 1) × (adds t .crate' ≤ 1) × (adds t .goal ≤ 1)
-adds-small zero = (omega arith, omega arith, omega arith)
-adds-small (suc zero) = (omega arith, omega arith, omega arith)
-adds-small (suc (suc zero)) = (omega arith, omega arith, omega arith)
-adds-small (suc (suc (suc zero))) = (omega arith, omega arith, omega arith)
-adds-small (suc (suc (suc (suc zero)))) = (omega arith, omega arith, omega arith)
-adds-small (suc (suc (suc (suc (suc zero))))) = (omega arith, omega arith, omega arith)
-adds-small (suc (suc (suc (suc (suc (suc zero)))))) = (omega arith, omega arith, omega arith)
-adds-small (suc (suc (suc (suc (suc (suc (suc c))))))) = (omega arith, omega arith, omega arith)
-
--- what is no tile code adds nothing
-adds-none : (t : ℕ) → 7 ≤ t → (adds t .player ≡ 0) × (adds t .crate' ≡ 0) × (adds t .goal ≡ 0)
-adds-none zero h = absurd (omega arith)
-adds-none (suc zero) h = absurd (omega arith)
-adds-none (suc (suc zero)) h = absurd (omega arith)
-adds-none (suc (suc (suc zero))) h = absurd (omega arith)
-adds-none (suc (suc (suc (suc zero)))) h = absurd (omega arith)
-adds-none (suc (suc (suc (suc (suc zero))))) h = absurd (omega arith)
-adds-none (suc (suc (suc (suc (suc (suc zero)))))) h = absurd (omega arith)
-adds-none (suc (suc (suc (suc (suc (suc (suc c))))))) h = (refl, refl, refl)
-
-pub weighed-in : (t : ℕ) → t < 7 → weighed t ≡ packed (adds t)
-weighed-in t h = rw (lt-ltb t 7 h)
-
-pub weighed-out : (t : ℕ) → 7 ≤ t → weighed t ≡ 281474976710656
-weighed-out t h = rw (le-ltb t 7 h)
-
-pub weighed-small : (t : ℕ) → weighed t ≤ 281474976710656
-weighed-small t = go (lt-or-ge t 7)
-  where
-    go : (t < 7) ⊎ (7 ≤ t) → weighed t ≤ 281474976710656
-    go (inl h) = omega (arith, weighed-in t h, adds-small t)
-    go (inr h) = omega (arith, weighed-out t h)
-
-pub packs : (a b c d e f g : ℕ) → a ≡ packed (adds 0) → b ≡ packed (adds 1) → c ≡ packed (adds 2) → d ≡ packed (adds 3) → e ≡ packed (adds 4)
-    → f ≡ packed (adds 5) → g ≡ packed (adds 6) → Packs (a ∷ b ∷ c ∷ d ∷ e ∷ f ∷ g ∷ 281474976710656 ∷ [])
-packs a b c d e f g ea eb ec ed ee ef eg = record { row-at = go; other = refl }
-  where
-    go : (t : ℕ) → t < 7 → getD (a ∷ b ∷ c ∷ d ∷ e ∷ f ∷ g ∷ 281474976710656 ∷ []) t 0 ≡ packed (adds t)
-    go zero h = ea
-    go (suc zero) h = eb
-    go (suc (suc zero)) h = ec
-    go (suc (suc (suc zero))) h = ed
-    go (suc (suc (suc (suc zero)))) h = ee
-    go (suc (suc (suc (suc (suc zero))))) h = ef
-    go (suc (suc (suc (suc (suc (suc zero)))))) h = eg
-    go (suc (suc (suc (suc (suc (suc (suc t))))))) h = absurd (omega arith)
+use Rattle.tiles.specs.Sum.{packed, weighed, weight}
+use Rattle.tiles.proofs.Rows.{adds-small, adds-none, weighed-in, weighed-out}
 
 -- one tile after the other
 pub weight-next : (ts : List ℕ) (i : ℕ) → i < length ts → weight (drop i ts) ≡ weighed (getD ts i 0) + weight (drop (i + 1) ts)
@@ -118,7 +69,11 @@ module _ (ts : List ℕ) (x : ℕ) (short : length ts ≤ 961) (e : x ≡ weight
   not-all n f = n (omega (arith, top, counts ts .wrong f))
 
   pub sums : x / 281474976710656 ≡ 0 → (x % 4096 ≡ totals ts .player) × (x / 4096 % 4096 ≡ totals ts .crate') × (x / 16777216 % 4096 ≡ totals ts .goal)
-  sums z = (omega (arith, e, counts ts .sum, counts ts .few, top, z), omega (arith, e, counts ts .sum, counts ts .few, top, z), omega (arith, e, counts ts .sum, counts ts .few, top, z))
+  sums z = (
+    omega (arith, e, counts ts .sum, counts ts .few, top, z),
+    omega (arith, e, counts ts .sum, counts ts .few, top, z),
+    omega (arith, e, counts ts .sum, counts ts .few, top, z),
+  )
 
 -- a board has at most 961 tiles
 pub area-small : (w h : ℕ) → w ≤ 31 → h ≤ 31 → w * h ≤ 961

@@ -79,8 +79,11 @@ module _ (l : Level) where
   -- the bytes in front of the tiles
   module _ (v : l .version ≡ 1) (w : l .width ≤ 31) (h : l .height ≤ 31) (p : l .par ≤ 1023) where
     -- n bits of a field v of N bits that starts with bit o
-    in-field : (N v o q k n j r : ℕ) → ((i : ℕ) → o ≤ i → i < o + N → recordBit l i ≡ digit N v (i - o)) → q ≡ o + k → k + n + j ≡ N → v / 2 ^ j % 2 ^ n ≡ r → run (recordBit l) q n ≡ r
-    in-field N v o q k n j r f eq e is = window (λ i. recordBit l (q + i)) N v k n j e (λ i m. let z : q + i - o ≡ k + i = omega arith in f (q + i) (omega arith) (omega arith) ∙ ap (digit N v) z) ∙ is
+    in-field : (N v o q k n j r : ℕ) → ((i : ℕ) → o ≤ i → i < o + N → recordBit l i ≡ digit N v (i - o)) → q ≡ o + k → k + n + j ≡ N
+        → v / 2 ^ j % 2 ^ n ≡ r → run (recordBit l) q n ≡ r
+    in-field N v o q k n j r f eq e is =
+        window (λ i. recordBit l (q + i)) N v k n j e
+        (λ i m. let z : q + i - o ≡ k + i = omega arith in f (q + i) (omega arith) (omega arith) ∙ ap (digit N v) z) ∙ is
 
     wide : (q k n j r : ℕ) → q ≡ 4 + k → k + n + j ≡ 5 → l .width / 2 ^ j % 2 ^ n ≡ r → run (recordBit l) q n ≡ r
     wide q k n j r = in-field 5 (l .width) 4 q k n j r (λ i a b. bit-2 l i a b)
@@ -95,7 +98,8 @@ module _ (l : Level) where
     unfolding recordByte
     head-0 =
         join 0 4 4 1 (l .width / 2)
-        (in-field 4 (l .version) 0 0 0 4 0 1 (λ i a b. let z : i ≡ i - 0 = omega arith in bit-1 l i b ∙ ap (digit 4 (l .version)) z) (omega arith) (omega arith) (omega (arith, v)))
+        (in-field 4 (l .version) 0 0 0 4 0 1 (λ i a b. let z : i ≡ i - 0 = omega arith in bit-1 l i b ∙ ap (digit 4 (l .version)) z) (omega arith)
+        (omega arith) (omega (arith, v)))
         (wide 4 0 4 1 (l .width / 2) (omega arith) (omega arith) (omega arith))
 
     head-1 : recordByte l 1 ≡ l .width % 2 * 128 + l .height * 4 + l .par / 256
@@ -123,7 +127,8 @@ module _ (l : Level) where
         ∙ drop-set-lt n (set o 0 (16 + l .width / 2)) 1 (l .width % 2 * 128 + l .height * 4 + l .par / 256) (omega arith)
         ∙ drop-set-lt n o 0 (16 + l .width / 2) (omega arith)
 
-    pub head-start : (o mid : List ℕ) → 3 ≤ length o → mid ≡ sets o 0 (headBytes (l .width) (l .height) (l .par)) → mid ≡ listOf 3 (recordByte l) ++ drop 3 mid
+    pub head-start : (o mid : List ℕ) → 3 ≤ length o → mid ≡ sets o 0 (headBytes (l .width) (l .height) (l .par))
+        → mid ≡ listOf 3 (recordByte l) ++ drop 3 mid
     head-start o mid room e = e ∙ head-put o room ∙ ap (λ (s : List ℕ). listOf 3 (recordByte l) ++ s) (sym (head-past o mid e 3 (omega arith)))
 
 -- the same, byte for byte
@@ -154,7 +159,9 @@ unfolding recordOf
 record-put l old new n il e short is = record {
   size = e;
   short = short;
-  is-record = subst (IsRecord l) (sym (ap (take n) is ∙ take-at (listOf n (recordByte l)) (drop n old) n size ∙ ap (λ (k : ℕ). listOf k (recordByte l)) e)) (record-of l il);
+  is-record =
+      subst (IsRecord l) (sym (ap (take n) is ∙ take-at (listOf n (recordByte l)) (drop n old) n size ∙ ap (λ (k : ℕ). listOf k (recordByte l)) e))
+      (record-of l il);
   past = ap (drop n) is ∙ drop-at (listOf n (recordByte l)) (drop n old) n size;
 }
   where

@@ -1,8 +1,8 @@
 -- FORMAT 8.11: reading a record.
 use mathlib.Core.Path.{_≡_}
-use mathlib.Core.List.{List, [], _∷_, _++_}
-use Prim.Native.Nat.{ℕ, _+_, _*_, _/_, _%_, _≤_, _<_}
-use lib.ListN.{length, getD, take, drop}
+use mathlib.Core.List.{List, _++_}
+use Prim.Native.Nat.{ℕ, _*_, _≤_}
+use lib.ListN.{length, drop}
 use Rattle.level.specs.Record.{fieldAt, IsRecord}
 use Rattle.level.specs.Sizes.{tilesMost}
 use Rattle.level.specs.Level.{IsLevel}
@@ -23,7 +23,8 @@ pub record RecordReadsAs (bs old new : List ℕ) (a : RecordRead) : Type 0 where
   pub code : First (readingRecord bs (length old)) (recordNumbers a .code)
   pub is-level : recordNumbers a .code ≡ 0 → IsLevel (returned (recordNumbers a) new)
   pub is-record : recordNumbers a .code ≡ 0 → IsRecord (returned (recordNumbers a) new) bs
-  pub past : recordNumbers a .code ≡ 0 → drop (recordNumbers a .width * recordNumbers a .height) new ≡ drop (recordNumbers a .width * recordNumbers a .height) old
+  pub past : recordNumbers a .code ≡ 0
+      → drop (recordNumbers a .width * recordNumbers a .height) new ≡ drop (recordNumbers a .width * recordNumbers a .height) old
   pub kept : (recordNumbers a .code ≡ 0 → ⊥) → new ≡ old
 
 -- ---- parts
@@ -35,30 +36,21 @@ pub record Heads (bs : List ℕ) (r : Head) : Type 0 where
   pub height : r .height ≡ fieldAt bs 9 5
   pub par : r .par ≡ fieldAt bs 14 10
 
--- the eight tiles in three bytes
-abbrev pub eight : ℕ → ℕ → ℕ → List ℕ
-eight x y z = (x / 32) ∷ (x / 4 % 8) ∷ (x % 4 * 2 + y / 128) ∷ (y / 16 % 8) ∷ (y / 2 % 8) ∷ (y % 2 * 4 + z / 64) ∷ (z / 8 % 8) ∷ (z % 8) ∷ []
-
--- the first m tiles of a record's part from byte 3
-pub record Unpacks (part : List ℕ) (m : ℕ) (board : List ℕ) : Type 0 where
-  pub tile : (i : ℕ) → i < m → getD board i 0 ≡ fieldAt part (3 * i) 3
-
 -- a refusal
 abbrev pub without : ℕ → Judged
 without code = record { code = code; width = 0; height = 0; par = 0 }
 
--- what bytes that are not refused spell, their tiles in front of a board
-pub record Spells (bs board : List ℕ) (r : Judged) : Type 0 where
+-- what bytes that are not refused spell
+pub record Spells (bs : List ℕ) (r : Judged) : Type 0 where
   pub width : r .width ≡ fieldAt bs 4 5
   pub height : r .height ≡ fieldAt bs 9 5
   pub par : r .par ≡ fieldAt bs 14 10
   pub few : r .width * r .height ≤ tilesMost
-  pub tiles : take (r .width * r .height) board ≡ tilesOf bs
 
 -- a record (lanes = 1), or the data cells of a strip, judged
-pub record JudgedAs (lanes : ℕ) (bs board : List ℕ) (r : Judged) : Type 0 where
+pub record JudgedAs (lanes : ℕ) (bs : List ℕ) (r : Judged) : Type 0 where
   pub first : First (asked (λ ask. ask bs) (judging lanes)) (r .code)
-  pub spells : r .code ≡ 0 → Spells bs board r
+  pub spells : r .code ≡ 0 → Spells bs r
   pub none : (r .code ≡ 0 → ⊥) → r ≡ without (r .code)
 
 -- the bytes judged, and their tiles written where nothing is refused

@@ -2,11 +2,10 @@
 ghost use mathlib.Core.Path.{_≡_};
 ghost use Prim.Native.Nat.{ℕ, _+_, _*_, _≤_, _<_};
 ghost use lib.ListN.{length};
-ghost use lib.Seq.{sets};
 ghost use Rattle.rules.specs.Says.{Says};
 ghost use Rattle.level.specs.Record.{bitAt, fieldAt};
 ghost use Rattle.level.specs.Reading.{Shaped};
-ghost use Rattle.record.specs.Reading.{Heads, eight, Unpacks, without, JudgedAs, AcceptedAs, RecordReadsAs};
+ghost use Rattle.record.specs.Reading.{Heads, without, JudgedAs, AcceptedAs, RecordReadsAs};
 
 // The fields in front of the tiles.
 pub struct Head {
@@ -28,36 +27,6 @@ fn head_of(bs: &[u8]) -> Head
         width: a % 16 * 2 + b / 128,
         height: b / 4 % 32,
         par: b % 4 * 256 + c,
-    }
-}
-
-// The eight tiles that three bytes spell, from tile k on.
-fn put_eight(board: &mut [u8], k: usize, x: u8, y: u8, z: u8)
-    requires { ⌜ k + 8 ≤ length (now board) ⌝ }
-    ensures { λ _. ⌜ now (board .exit) ≡ sets (now (board .entry)) k (eight x y z) ⌝ }
-{
-    board[k] = x / 32;
-    board[k + 1] = x / 4 % 8;
-    board[k + 2] = x % 4 * 2 + y / 128;
-    board[k + 3] = y / 16 % 8;
-    board[k + 4] = y / 2 % 8;
-    board[k + 5] = y % 2 * 4 + z / 64;
-    board[k + 6] = z / 8 % 8;
-    board[k + 7] = z % 8;
-}
-
-// The first m tiles, one byte each, of a record's part from byte 3; what is left of the last eight may be written too.
-fn unpack(part: &[u8], m: usize, board: &mut [u8])
-    requires { ⌜ (m ≤ 961) × (968 ≤ length (now board)) ⌝ }
-    ensures { λ _. ⌜ Unpacks (now (part .entry)) m (now (board .exit)) ⌝ }
-{
-    let mut g: usize = 0;
-    while 8 * g < m {
-        let x = super::tile::cell(part, 3 * g);
-        let y = super::tile::cell(part, 3 * g + 1);
-        let z = super::tile::cell(part, 3 * g + 2);
-        put_eight(board, 8 * g, x, y, z);
-        g += 1;
     }
 }
 
@@ -118,10 +87,10 @@ fn refused(code: u8) -> Judged
     }
 }
 
-// Refusals 7 to 10 of a record, or of the data cells of a strip of that many lanes. Its tiles are put on the board.
-fn judge(bs: &[u8], lanes: usize, board: &mut [u8]) -> Judged
-    requires { ⌜ (4 ≤ length (now bs)) × (length (now bs) ≤ 364) × (1 ≤ lanes) × (lanes ≤ 16) × (968 ≤ length (now board)) ⌝ }
-    ensures { λ r. ⌜ JudgedAs lanes (now (bs .entry)) (now (board .exit)) r ⌝ }
+// Refusals 7 to 10 of a record, or of the data cells of a strip of that many lanes.
+fn judge(bs: &[u8], lanes: usize) -> Judged
+    requires { ⌜ (4 ≤ length (now bs)) × (length (now bs) ≤ 364) × (1 ≤ lanes) × (lanes ≤ 16) ⌝ }
+    ensures { λ r. ⌜ JudgedAs lanes (now (bs .entry)) r ⌝ }
 {
     let f = head_of(bs);
     if f.version != 1 {
@@ -137,8 +106,7 @@ fn judge(bs: &[u8], lanes: usize, board: &mut [u8]) -> Judged
     if !shaped(bs, lanes, m) {
         return refused(8);
     }
-    unpack(&bs[3..], m, board);
-    let code = super::tile::board_code(&board[0..m]);
+    let code = super::tile::sum_code(tiles::count::tally(&bs[3..]));
     if code != 0 {
         return refused(code);
     }
@@ -165,14 +133,13 @@ pub fn accept(bs: &[u8], lanes: usize, tiles: &mut [u8]) -> Judged
     requires { ⌜ (4 ≤ length (now bs)) × (length (now bs) ≤ 364) × (1 ≤ lanes) × (lanes ≤ 16) × (961 ≤ length (now tiles)) ⌝ }
     ensures { λ r. ⌜ AcceptedAs lanes (now (bs .entry)) (now (tiles .entry)) (now (tiles .exit)) r ⌝ }
 {
-    let mut board = [0u8; 968];
-    let j = judge(bs, lanes, &mut board);
+    let j = judge(bs, lanes);
     let refusal = j.code;
     if refusal != 0 {
         return j;
     }
     let m = j.width * j.height;
-    rules::copy(&board[0..m], tiles);
+    tiles::put::unpack(&bs[3..], m, tiles);
     j
 }
 

@@ -55,7 +55,7 @@ fn tile_at(tiles: &[u8], i: usize) -> u8
     requires { ⌜ AllTiles 1 (now tiles) ⌝ }
     ensures { λ r. ⌜ (r ≡ getD (now (tiles .entry)) i 0) × (r ≤ 6) ⌝ }
 {
-    super::tile::cell(tiles, i)
+    tiles::group::cell(tiles, i)
 }
 
 // Byte b of the tiles. Eight tiles make three bytes.

@@ -34,8 +34,12 @@ loop-less c = search needs
 
 loop-again : tie.Need-loop-again Inv-loop μ-loop
 loop-again c =
-    let l = c .before .before .before .loop in
-    (omega arith, omega arith, range-more (λ q. bitAt (c .before .before .before .before .before .args .bs .now) q ≡ 0) (c .before .before .before .before .before .args .from) (l .p) (l .inv .2) (omega (arith, c .before .bit .ensures)))
+    let l = c .before .before .before .loop in (
+      omega arith,
+      omega arith,
+      range-more (λ q. bitAt (c .before .before .before .before .before .args .bs .now) q ≡ 0)
+          (c .before .before .before .before .before .args .from) (l .p) (l .inv .2) (omega (arith, c .before .bit .ensures)),
+    )
 
 returns-2 : tie.Need-returns-2 Inv-loop μ-loop
 returns-2 c = λ q a b. c .before .loop .inv .2 q a (omega arith)

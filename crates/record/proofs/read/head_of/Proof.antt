@@ -36,7 +36,9 @@ add-t18 : tie.Need-add-t18
 add-t18 c = omega (arith, c .shared-slice-known3 .given 2, c .shared-slice-known3 .given 1)
 
 returns : tie.Need-returns
-returns c = heads (c .before .before .before .args .bs .now) _ _ _ refl refl refl (omega (arith, c .shared-slice-known3 .given 0)) (omega (arith, c .shared-slice-known3 .given 1)) (omega (arith, c .shared-slice-known3 .given 2))
+returns c =
+    heads (c .before .before .before .args .bs .now) _ _ _ refl refl refl (omega (arith, c .shared-slice-known3 .given 0))
+    (omega (arith, c .shared-slice-known3 .given 1)) (omega (arith, c .shared-slice-known3 .given 2))
 
 pub head-of-spec : {M : Type 1} → statement M
 head-of-spec =

@@ -1,11 +1,11 @@
-use Prim.Native.Nat.{_*_, _-_, _≤_}
-use lib.ListN.{length, length-take}
-use Rattle.record.proofs.Judging.{judged-7, judged-8, judged-later, judged-0, area-is, area-few, headed, boarded}
-use Rattle.level.specs.Reading.{Shaped}
-use Rattle.rules.proofs.Tests.{said, denied}
-use borrow.Author.Tests.{not-true, not-false}
+use mathlib.Core.Path.{_≡_}
+use Prim.Native.Nat.{_≤_}
 use native.Mathlib.Omega.{arith}
+use borrow.Author.Tests.{not-true, not-false}
 use borrow.Author.Needs.{needs}
+use Rattle.rules.proofs.Tests.{said, denied}
+use Rattle.level.specs.Reading.{Shaped}
+use Rattle.record.proofs.Judging.{judged-7, judged-8, judged-later, judged-0, area-is, area-few, headed, boarded}
 use Rattle.record.proofs.read.judge.Statement.{statement}
 use Rattle.record.proofs.read.judge.Tie as tie
 
@@ -17,107 +17,111 @@ refused-requires c κs = search needs
 
 returns : tie.Need-returns
 returns c =
-    let a = c .before .before .before .before .before .before .args in
-    judged-7 (a .lanes) (a .bs .now) (a .board .now) (c .refused .result) (c .refused .ensures) (λ h. omega (arith, h .known, c .before .before .before .head-of .ensures .version, c .before .if1 .taken))
+    let a = c .before .before .before .before .before .args in
+    let f = c .before .before .before .head-of in
+    judged-7 (a .lanes) (a .bs .now) (c .refused .result) (c .refused .ensures) (λ h. omega (arith, h .known, f .ensures .version, c .before .if1 .taken))
 
 refused-requires-2 : tie.Need-refused-requires-2
 refused-requires-2 c κs = search needs
 
 returns-2 : tie.Need-returns-2
 returns-2 c =
-    let a = c .before .before .before .before .before .before .before .before .args in
-    judged-7 (a .lanes) (a .bs .now) (a .board .now) (c .refused2 .result) (c .refused2 .ensures) (λ h. omega (arith, h .sized .wide, c .before .before .before .before .before .head-of .ensures .width, c .before .if2 .taken))
+    let a = c .before .before .before .before .before .before .before .args in
+    let f = c .before .before .before .before .before .head-of in
+    judged-7 (a .lanes) (a .bs .now) (c .refused2 .result) (c .refused2 .ensures)
+    (λ h. omega (arith, h .sized .wide, f .ensures .width, c .before .if2 .taken))
 
 refused-requires-3 : tie.Need-refused-requires-3
 refused-requires-3 c κs = search needs
 
 returns-3 : tie.Need-returns-3
 returns-3 c =
-    let a = c .before .before .before .before .before .before .before .before .before .before .args in
-    judged-7 (a .lanes) (a .bs .now) (a .board .now) (c .refused3 .result) (c .refused3 .ensures) (λ h. omega (arith, h .sized .high, c .before .before .before .before .before .before .before .head-of .ensures .height, c .before .if3 .taken))
+    let a = c .before .before .before .before .before .before .before .before .before .args in
+    let f = c .before .before .before .before .before .before .before .head-of in
+    judged-7 (a .lanes) (a .bs .now) (c .refused3 .result) (c .refused3 .ensures)
+    (λ h. omega (arith, h .sized .high, f .ensures .height, c .before .if3 .taken))
 
 mul-m : tie.Need-mul-m
-mul-m c = let f = c .before .before .before .before .before .before .before .head-of in omega (arith, area-few (c .before .before .before .before .before .before .before .before .before .before .args .bs .now) (f .result) (f .ensures))
+mul-m c =
+    let f = c .before .before .before .before .before .before .before .head-of in
+    omega (arith, area-few (c .before .before .before .before .before .before .before .before .before .args .bs .now) (f .result) (f .ensures))
 
 shaped-requires : tie.Need-shaped-requires
 shaped-requires c κs =
     let f = c .before .before .before .before .before .before .before .head-of in
-    let bs = c .before .before .before .before .before .before .before .before .before .before .args .bs .now in
-    let q = c .before .before .before .before .before .before .before .before .before .before .pre in
-    (q .1, q .2, q .3, area-is bs (f .result) (f .ensures), area-few bs (f .result) (f .ensures))
+    let o = c .before .before .before .before .before .before .before .before .before in
+    let bs = o .args .bs .now in
+    (o .pre .1, o .pre .2, o .pre .3, area-is bs (f .result) (f .ensures), area-few bs (f .result) (f .ensures))
 
 refused-requires-4 : tie.Need-refused-requires-4
 refused-requires-4 c κs = search needs
 
 returns-4 : tie.Need-returns-4
 returns-4 c =
-    let a = c .before .before .before .before .before .before .before .before .before .before .before .before .before .args in
-    let f = c .before .before .before .before .before .before .before .before .before .before .head-of in
-    let s = c .before .before .shaped in
-    judged-8 (a .lanes) (a .bs .now) (a .board .now) (c .refused4 .result) (c .refused4 .ensures)
-    (headed (a .bs .now) (f .result) (f .ensures) (omega (arith, c .before .before .before .before .before .before .before .before .if1 .left)) (omega (arith, c .before .before .before .before .before .before .if2 .left)) (omega (arith, c .before .before .before .before .if3 .left)))
-    (denied (Shaped (a .lanes) (a .bs .now)) (s .result) (not-true (s .result) (c .before .if4 .taken)) (s .ensures))
+    let q = c .before .before in
+    let o = q .before .before .before .before .before .before .before .before .before .before in
+    let R = o .args .lanes in
+    let bs = o .args .bs .now in
+    let f = q .before .before .before .before .before .before .before .before .head-of in
+    let v : f .result .version ≡ 1 = omega (arith, q .before .before .before .before .before .before .if1 .left) in
+    let w : 1 ≤ f .result .width = omega (arith, q .before .before .before .before .if2 .left) in
+    let h : 1 ≤ f .result .height = omega (arith, q .before .before .if3 .left) in
+    let ranged = headed bs (f .result) (f .ensures) v w h in
+    judged-8 R bs (c .refused4 .result) (c .refused4 .ensures) ranged
+    (denied (Shaped R bs) (q .shaped .result) (not-true (q .shaped .result) (c .before .if4 .taken)) (q .shaped .ensures))
 
-sub-unpack : tie.Need-sub-unpack
-sub-unpack c = search needs
+sub-tally : tie.Need-sub-tally
+sub-tally c = search needs
 
-part-unpack-start : tie.Need-part-unpack-start
-part-unpack-start c = search needs
+part-tally-start : tie.Need-part-tally-start
+part-tally-start c = search needs
 
-part-unpack-end : tie.Need-part-unpack-end
-part-unpack-end c = search needs
+part-tally-end : tie.Need-part-tally-end
+part-tally-end c = search needs
 
-unpack-requires : tie.Need-unpack-requires
-unpack-requires c κs = let f = c .before .before .before .before .before .before .before .before .before .before .before .head-of in (area-few (c .before .before .before .before .before .before .before .before .before .before .before .before .before .before .args .bs .now) (f .result) (f .ensures), c .before .before .before .before .before .before .before .before .before .before .before .before .before .before .pre .4)
+tally-requires : tie.Need-tally-requires
+tally-requires c κs = search needs
 
-sub-board-code : tie.Need-sub-board-code
-sub-board-code c = search needs
-
-part-board-code-start : tie.Need-part-board-code-start
-part-board-code-start c = search needs
-
-part-board-code-end : tie.Need-part-board-code-end
-part-board-code-end c = let f = c .before .before .before .before .before .before .before .before .before .before .before .before .before .before .before .head-of in omega (arith, area-few (c .before .before .before .before .before .before .before .before .before .before .before .before .before .before .before .before .before .before .args .bs .now) (f .result) (f .ensures), c .before .before .before .unpack .kept .1 .1 .0, c .before .before .before .before .before .before .before .before .before .before .before .before .before .before .before .before .before .before .pre .4)
-
-board-code-requires : tie.Need-board-code-requires
-board-code-requires c κs =
-    let f = c .before .before .before .before .before .before .before .before .before .before .before .before .before .before .before .before .head-of in
-    omega (arith, area-few (c .before .before .before .before .before .before .before .before .before .before .before .before .before .before .before .before .before .before .before .args .bs .now) (f .result) (f .ensures), length-take (f .result .width * f .result .height - 0) (c .before .before .before .before .unpack .last .1 .1 .0))
+sum-code-requires : tie.Need-sum-code-requires
+sum-code-requires c κs = search needs
 
 refused-requires-5 : tie.Need-refused-requires-5
 refused-requires-5 c κs = search needs
 
-same-length : tie.Need-same-length
-same-length c = search needs
-
 returns-5 : tie.Need-returns-5
 returns-5 c =
-    let a = c .before .before .before .before .before .before .before .before .before .before .before .before .before .before .before .before .before .before .before .before .before .before .args in
-    let f = c .before .before .before .before .before .before .before .before .before .before .before .before .before .before .before .before .before .before .before .head-of in
-    let s = c .before .before .before .before .before .before .before .before .before .before .before .shaped in
-    let u = c .before .before .before .before .before .before .before .unpack in
-    let b = c .before .before .board-code in
-    let r : 968 ≤ length (u .last .1 .1 .0) = omega (arith, u .kept .1 .1 .0, c .before .before .before .before .before .before .before .before .before .before .before .before .before .before .before .before .before .before .before .before .before .before .pre .4) in
-    judged-later (a .lanes) (a .bs .now) (u .last .1 .1 .0) (c .refused5 .result) (b .result) (c .refused5 .ensures) (λ z. omega (arith, z, c .before .if5 .taken))
-    (headed (a .bs .now) (f .result) (f .ensures) (omega (arith, c .before .before .before .before .before .before .before .before .before .before .before .before .before .before .before .before .before .if1 .left)) (omega (arith, c .before .before .before .before .before .before .before .before .before .before .before .before .before .before .before .if2 .left)) (omega (arith, c .before .before .before .before .before .before .before .before .before .before .before .before .before .if3 .left)))
-    (said (Shaped (a .lanes) (a .bs .now)) (s .result) (not-false (s .result) (c .before .before .before .before .before .before .before .before .before .before .if4 .left)) (s .ensures))
-    (boarded (a .bs .now) (f .result) (f .ensures) (omega (arith, c .before .before .before .before .before .before .before .before .before .before .before .before .before .before .before .before .before .if1 .left)) (u .last .1 .1 .0) (b .result) r (u .ensures) (b .ensures))
-
-same-length-2 : tie.Need-same-length-2
-same-length-2 c = search needs
+    let t = c .before .before .before in
+    let q = t .before .before .before in
+    let o = q .before .before .before .before .before .before .before .before .before .before in
+    let R = o .args .lanes in
+    let bs = o .args .bs .now in
+    let f = q .before .before .before .before .before .before .before .before .head-of in
+    let v : f .result .version ≡ 1 = omega (arith, q .before .before .before .before .before .before .if1 .left) in
+    let w : 1 ≤ f .result .width = omega (arith, q .before .before .before .before .if2 .left) in
+    let h : 1 ≤ f .result .height = omega (arith, q .before .before .if3 .left) in
+    let ranged = headed bs (f .result) (f .ensures) v w h in
+    let shape = said (Shaped R bs) (q .shaped .result) (not-false (q .shaped .result) (t .before .before .if4 .left)) (q .shaped .ensures) in
+    let b = c .before .before .sum-code in
+    let told = boarded bs (f .result) (f .ensures) v R (t .tally .result) (b .result) (o .pre .2) shape (t .tally .ensures) (b .ensures) in
+    judged-later R bs (c .refused5 .result) (b .result) (c .refused5 .ensures)
+    (λ z. omega (arith, z, c .before .if5 .taken)) ranged shape told
 
 returns-6 : tie.Need-returns-6
 returns-6 c =
-    let a = c .before .before .before .before .before .before .before .before .before .before .before .before .before .before .before .before .before .before .before .before .before .args in
-    let f = c .before .before .before .before .before .before .before .before .before .before .before .before .before .before .before .before .before .before .head-of in
-    let s = c .before .before .before .before .before .before .before .before .before .before .shaped in
-    let u = c .before .before .before .before .before .before .unpack in
-    let b = c .before .board-code in
-    let r : 968 ≤ length (u .last .1 .1 .0) = omega (arith, u .kept .1 .1 .0, c .before .before .before .before .before .before .before .before .before .before .before .before .before .before .before .before .before .before .before .before .before .pre .4) in
-    judged-0 (a .bs .now) (f .result) (f .ensures) (a .lanes) (u .last .1 .1 .0) (b .result) r (u .ensures) (omega (arith, c .if5 .left))
-    (headed (a .bs .now) (f .result) (f .ensures) (omega (arith, c .before .before .before .before .before .before .before .before .before .before .before .before .before .before .before .before .if1 .left)) (omega (arith, c .before .before .before .before .before .before .before .before .before .before .before .before .before .before .if2 .left)) (omega (arith, c .before .before .before .before .before .before .before .before .before .before .before .before .if3 .left)))
-    (said (Shaped (a .lanes) (a .bs .now)) (s .result) (not-false (s .result) (c .before .before .before .before .before .before .before .before .before .if4 .left)) (s .ensures))
-    (boarded (a .bs .now) (f .result) (f .ensures) (omega (arith, c .before .before .before .before .before .before .before .before .before .before .before .before .before .before .before .before .if1 .left)) (u .last .1 .1 .0) (b .result) r (u .ensures) (b .ensures))
+    let t = c .before .before in
+    let q = t .before .before .before in
+    let o = q .before .before .before .before .before .before .before .before .before .before in
+    let R = o .args .lanes in
+    let bs = o .args .bs .now in
+    let f = q .before .before .before .before .before .before .before .before .head-of in
+    let v : f .result .version ≡ 1 = omega (arith, q .before .before .before .before .before .before .if1 .left) in
+    let w : 1 ≤ f .result .width = omega (arith, q .before .before .before .before .if2 .left) in
+    let h : 1 ≤ f .result .height = omega (arith, q .before .before .if3 .left) in
+    let ranged = headed bs (f .result) (f .ensures) v w h in
+    let shape = said (Shaped R bs) (q .shaped .result) (not-false (q .shaped .result) (t .before .before .if4 .left)) (q .shaped .ensures) in
+    let b = c .before .sum-code in
+    let told = boarded bs (f .result) (f .ensures) v R (t .tally .result) (b .result) (o .pre .2) shape (t .tally .ensures) (b .ensures) in
+    judged-0 bs (f .result) (f .ensures) R (b .result) (omega (arith, c .if5 .left)) ranged shape told
 
 pub judge-spec : {M : Type 1} → statement M
 judge-spec =
@@ -134,16 +138,11 @@ judge-spec =
     shaped-requires
     refused-requires-4
     returns-4
-    sub-unpack
-    part-unpack-start
-    part-unpack-end
-    unpack-requires
-    sub-board-code
-    part-board-code-start
-    part-board-code-end
-    board-code-requires
+    sub-tally
+    part-tally-start
+    part-tally-end
+    tally-requires
+    sum-code-requires
     refused-requires-5
-    same-length
     returns-5
-    same-length-2
     returns-6)

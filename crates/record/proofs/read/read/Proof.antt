@@ -17,7 +17,8 @@ returns-2 c =
 returns-3 : tie.Need-returns-3
 returns-3 c =
     let a = c .before .before .before .before .before .args in
-    not-read-4 (a .bytes .now) (a .tiles .now) (record { from = omega (arith, c .before .before .if1 .left); to = omega (arith, c .before .if2 .left) }) (λ w. omega (arith, w, c .if3 .taken))
+    not-read-4 (a .bytes .now) (a .tiles .now)
+    (record { from = omega (arith, c .before .before .if1 .left); to = omega (arith, c .before .if2 .left) }) (λ w. omega (arith, w, c .if3 .taken))
 
 accept-requires : tie.Need-accept-requires
 accept-requires c κs = search needs
@@ -29,7 +30,11 @@ returns-4 : tie.Need-returns-4
 returns-4 c =
     let a = c .before .before .before .before .before .before .before .before .before .before .args in
     let j = c .before .before .before .accept in
-    not-read-later (a .bytes .now) (a .tiles .now) (j .result) _ (c .if4 .taken) (j .ensures) (record { from = omega (arith, c .before .before .before .before .before .before .before .if1 .left); to = omega (arith, c .before .before .before .before .before .before .if2 .left) }) (omega (arith, c .before .before .before .before .before .if3 .left))
+    not-read-later (a .bytes .now) (a .tiles .now) (j .result) _ (c .if4 .taken) (j .ensures)
+    (record {
+      from = omega (arith, c .before .before .before .before .before .before .before .if1 .left);
+      to = omega (arith, c .before .before .before .before .before .before .if2 .left);
+    }) (omega (arith, c .before .before .before .before .before .if3 .left))
 
 same-length-2 : tie.Need-same-length-2
 same-length-2 c = search needs
@@ -38,7 +43,12 @@ returns-5 : tie.Need-returns-5
 returns-5 c =
     let a = c .before .before .before .before .before .before .before .before .before .before .args in
     let j = c .before .before .before .accept in
-    reads (a .bytes .now) (a .tiles .now) (j .result) _ (c .if4 .left) (j .ensures) (record { cell = λ q h. omega (arith, c .before .before .before .before .before .before .before .before .before .shared-slice-known .given q) }) (record { from = omega (arith, c .before .before .before .before .before .before .before .if1 .left); to = omega (arith, c .before .before .before .before .before .before .if2 .left) }) (omega (arith, c .before .before .before .before .before .if3 .left))
+    reads (a .bytes .now) (a .tiles .now) (j .result) _ (c .if4 .left) (j .ensures)
+    (record { cell = λ q h. omega (arith, c .before .before .before .before .before .before .before .before .before .shared-slice-known .given q) })
+    (record {
+      from = omega (arith, c .before .before .before .before .before .before .before .if1 .left);
+      to = omega (arith, c .before .before .before .before .before .before .if2 .left);
+    }) (omega (arith, c .before .before .before .before .before .if3 .left))
 
 pub read-spec : {M : Type 1} → statement M
 read-spec =

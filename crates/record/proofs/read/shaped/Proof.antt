@@ -38,7 +38,9 @@ blank-requires : tie.Need-blank-requires
 blank-requires c κs = search needs
 
 returns-2 : tie.Need-returns-2
-returns-2 c = let a = c .before .before .before .args in blank-is (c .blank .result) (a .lanes) (a .m) (a .bs .now) (c .before .before .before .pre .3) (c .before .if1 .left) (c .blank .ensures)
+returns-2 c =
+    let a = c .before .before .before .args in
+    blank-is (c .blank .result) (a .lanes) (a .m) (a .bs .now) (c .before .before .before .pre .3) (c .before .if1 .left) (c .blank .ensures)
 
 pub shaped-spec : {M : Type 1} → statement M
 shaped-spec =

@@ -1,5 +1,6 @@
-use Rattle.record.proofs.Tiles.{weighed-small, weight-next, weight-end}
-use Rattle.record.specs.Sum.{weight}
+use Rattle.record.proofs.Tiles.{weight-next, weight-end}
+use Rattle.tiles.proofs.Rows.{weighed-small}
+use Rattle.tiles.specs.Sum.{weight}
 use borrow.Author.Needs.{needs}
 use lib.ListN.{length, getD, drop}
 use native.Mathlib.Omega.{arith}
@@ -24,7 +25,9 @@ weigh-requires : tie.Need-weigh-requires Inv-loop μ-loop
 weigh-requires c κs = c .before .before .before .before .pre .0
 
 add-x : tie.Need-add-x Inv-loop μ-loop
-add-x c = let l = c .before .before .before .loop in omega (arith, weighed-small (getD (c .before .before .before .before .before .args .tiles .now) (l .i) 0), c .weigh .ensures)
+add-x c =
+    let l = c .before .before .before .loop in
+    omega (arith, weighed-small (getD (c .before .before .before .before .before .args .tiles .now) (l .i) 0), c .weigh .ensures)
 
 add-i : tie.Need-add-i Inv-loop μ-loop
 add-i c = search needs

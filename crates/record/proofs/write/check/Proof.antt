@@ -17,7 +17,11 @@ returns : tie.Need-returns
 returns c =
     let a = c .before .before .before .args in
     let t = c .before .ranged in
-    inl ((λ g. denied (InRange (a .w) (a .h) (a .par)) (t .result) (not-true (t .result) (c .if1 .taken)) (t .ensures) (ranged-has (a .w) (a .h) (a .par) (a .tiles .now) g)), refl)
+    inl (
+      (λ g. denied (InRange (a .w) (a .h) (a .par)) (t .result) (not-true (t .result) (c .if1 .taken)) (t .ensures)
+          (ranged-has (a .w) (a .h) (a .par) (a .tiles .now) g)),
+      refl,
+    )
 
 mul-if2 : tie.Need-mul-if2
 mul-if2 c =

@@ -21,19 +21,30 @@ record-length-requires : tie.Need-record-length-requires Inv-loop μ-loop
 record-length-requires c κs = c .before .before .pre .0 .ranged .sized
 
 put-head-requires : tie.Need-put-head-requires Inv-loop μ-loop
-put-head-requires c κs = let s = c .before .before .before .before .pre .0 in (s .ranged .sized .not-wider, s .ranged .sized .not-higher, s .ranged .par-small, omega (arith, c .before .before .before .before .pre .1))
+put-head-requires c κs =
+    let s = c .before .before .before .before .pre .0 in
+    (s .ranged .sized .not-wider, s .ranged .sized .not-higher, s .ranged .par-small, omega (arith, c .before .before .before .before .pre .1))
 
 loop-holds : tie.Need-loop-holds Inv-loop μ-loop
 loop-holds c =
     let a = c .before .before .before .before .before .before .before .args in
-    let s = c .before .before .before .before .before .before .before .pre .0 in
-    (omega arith, omega (arith, c .before .before .before .before .record-length .ensures .0), head-start (lent (a .w) (a .h) (a .par) (a .tiles .now)) refl (s .ranged .sized .not-wider) (s .ranged .sized .not-higher) (s .ranged .par-small) (a .out .now) (c .before .before .put-head .last .1 .1 .1 .0) (omega (arith, c .before .before .before .before .before .before .before .pre .1)) (c .before .before .put-head .ensures))
+    let s = c .before .before .before .before .before .before .before .pre .0 in (
+      omega arith,
+      omega (arith, c .before .before .before .before .record-length .ensures .0),
+      head-start
+          (lent (a .w) (a .h) (a .par) (a .tiles .now)) refl (s .ranged .sized .not-wider) (s .ranged .sized .not-higher) (s .ranged .par-small)
+          (a .out .now) (c .before .before .put-head .last .1 .1 .1 .0) (omega (arith, c .before .before .before .before .before .before .before .pre .1))
+          (c .before .before .put-head .ensures),
+    )
 
 sub-tile-byte : tie.Need-sub-tile-byte Inv-loop μ-loop
 sub-tile-byte c = search needs
 
 tile-byte-requires : tie.Need-tile-byte-requires Inv-loop μ-loop
-tile-byte-requires c κs = (c .before .before .before .before .before .before .before .before .before .pre .0 .codes, omega (arith, c .before .before .before .before .before .before .record-length .ensures .1))
+tile-byte-requires c κs = (
+  c .before .before .before .before .before .before .before .before .before .pre .0 .codes,
+  omega (arith, c .before .before .before .before .before .before .record-length .ensures .1),
+)
 
 slice-write-out : tie.Need-slice-write-out Inv-loop μ-loop
 slice-write-out c =
@@ -41,7 +52,19 @@ slice-write-out c =
     let l = lent (a .w) (a .h) (a .par) (a .tiles .now) in
     let o = c .before .before .loop in
     let m = c .before .before .before .before .before .put-head in
-    omega (arith, long (recordByte l) (m .last .1 .1 .1 .0) (o .out) (o .q) (omega (arith, m .kept .1 .1 .1 .0, c .before .before .before .before .before .before .before .record-length .ensures .0, c .before .before .before .before .before .before .before .before .before .before .pre .1)) (o .inv .2), m .kept .1 .1 .1 .0, c .before .before .before .before .before .before .before .record-length .ensures .0, c .before .before .before .before .before .before .before .before .before .before .pre .1)
+    omega (
+      arith,
+      long (recordByte l) (m .last .1 .1 .1 .0) (o .out) (o .q)
+          (omega (
+            arith,
+            m .kept .1 .1 .1 .0,
+            c .before .before .before .before .before .before .before .record-length .ensures .0,
+            c .before .before .before .before .before .before .before .before .before .before .pre .1,
+          )) (o .inv .2),
+      m .kept .1 .1 .1 .0,
+      c .before .before .before .before .before .before .before .record-length .ensures .0,
+      c .before .before .before .before .before .before .before .before .before .before .pre .1,
+    )
 
 add-q : tie.Need-add-q Inv-loop μ-loop
 add-q c = search needs
@@ -55,8 +78,19 @@ loop-again c =
     let l = lent (a .w) (a .h) (a .par) (a .tiles .now) in
     let o = c .before .before .loop in
     let m = c .before .before .before .before .before .put-head in
-    let z : 3 + (o .q - 3) ≡ o .q = omega arith in
-    (omega arith, omega arith, next (recordByte l) (m .last .1 .1 .1 .0) (o .out) (o .q) (c .tile-byte .result) (omega (arith, m .kept .1 .1 .1 .0, c .before .before .before .before .before .before .before .record-length .ensures .0, c .before .before .before .before .before .before .before .before .before .before .pre .1)) (o .inv .2) (c .tile-byte .ensures ∙ byte-is l (o .q - 3) (c .before .before .before .before .before .before .before .before .before .before .pre .0 .codes) ∙ ap (recordByte l) z))
+    let z : 3 + (o .q - 3) ≡ o .q = omega arith in (
+      omega arith,
+      omega arith,
+      next (recordByte l) (m .last .1 .1 .1 .0) (o .out) (o .q) (c .tile-byte .result)
+          (omega (
+            arith,
+            m .kept .1 .1 .1 .0,
+            c .before .before .before .before .before .before .before .record-length .ensures .0,
+            c .before .before .before .before .before .before .before .before .before .before .pre .1,
+          )) (o .inv .2)
+          (c .tile-byte .ensures ∙ byte-is l (o .q - 3) (c .before .before .before .before .before .before .before .before .before .before .pre .0 .codes)
+          ∙ ap (recordByte l) z),
+    )
 
 same-length : tie.Need-same-length Inv-loop μ-loop
 same-length c =
@@ -64,7 +98,17 @@ same-length c =
     let l = lent (a .w) (a .h) (a .par) (a .tiles .now) in
     let o = c .before .loop in
     let m = c .before .before .before .before .put-head in
-    omega (arith, long (recordByte l) (m .last .1 .1 .1 .0) (o .out) (o .q) (omega (arith, m .kept .1 .1 .1 .0, c .before .before .before .before .before .before .record-length .ensures .0, c .before .before .before .before .before .before .before .before .before .pre .1)) (o .inv .2), m .kept .1 .1 .1 .0)
+    omega (
+      arith,
+      long (recordByte l) (m .last .1 .1 .1 .0) (o .out) (o .q)
+          (omega (
+            arith,
+            m .kept .1 .1 .1 .0,
+            c .before .before .before .before .before .before .record-length .ensures .0,
+            c .before .before .before .before .before .before .before .before .before .pre .1,
+          )) (o .inv .2),
+      m .kept .1 .1 .1 .0,
+    )
 
 returns : tie.Need-returns Inv-loop μ-loop
 returns c =
@@ -77,7 +121,8 @@ returns c =
     let e : o .q ≡ r .result = omega arith in
     record-put l (a .out .now) (o .out) (r .result) s (r .ensures .0) (r .ensures .1)
     (o .inv .2 ∙ ap₂ (λ (x : ℕ) (y : List ℕ). listOf x (recordByte l) ++ y) e
-    (ap (λ (k : ℕ). drop k (m .last .1 .1 .1 .0)) e ∙ head-past l refl (s .ranged .sized .not-wider) (s .ranged .sized .not-higher) (s .ranged .par-small) (a .out .now) (m .last .1 .1 .1 .0) (m .ensures) (r .result) (omega (arith, r .ensures .0))))
+    (ap (λ (k : ℕ). drop k (m .last .1 .1 .1 .0)) e ∙ head-past l refl (s .ranged .sized .not-wider) (s .ranged .sized .not-higher)
+    (s .ranged .par-small) (a .out .now) (m .last .1 .1 .1 .0) (m .ensures) (r .result) (omega (arith, r .ensures .0))))
 
 pub put-record-spec : {M : Type 1} → statement M
 put-record-spec =

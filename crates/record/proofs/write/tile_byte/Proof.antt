@@ -37,7 +37,8 @@ add-result-2 c = search needs
 returns : tie.Need-returns
 returns c =
     let a = c .before .before .before .before .before .args in
-    tile-byte-0 (a .tiles .now) (a .b) (c .before .before .tile-at .result) (c .before .tile-at2 .result) (c .tile-at3 .result) (omega (arith, c .before .before .before .if1 .taken))
+    tile-byte-0 (a .tiles .now) (a .b) (c .before .before .tile-at .result) (c .before .tile-at2 .result) (c .tile-at3 .result)
+    (omega (arith, c .before .before .before .if1 .taken))
     (c .before .before .tile-at .ensures .0) (c .before .tile-at2 .ensures .0) (c .tile-at3 .ensures .0)
 
 add-tile-at-3 : tie.Need-add-tile-at-3
@@ -85,7 +86,8 @@ add-result-5 c = search needs
 returns-2 : tie.Need-returns-2
 returns-2 c =
     let a = c .before .before .before .before .before .before .before .args in
-    tile-byte-1 (a .tiles .now) (a .b) (c .before .before .before .tile-at4 .result) (c .before .before .tile-at5 .result) (c .before .tile-at6 .result) (c .tile-at7 .result) (omega (arith, c .before .before .before .before .if2 .taken))
+    tile-byte-1 (a .tiles .now) (a .b) (c .before .before .before .tile-at4 .result) (c .before .before .tile-at5 .result)
+    (c .before .tile-at6 .result) (c .tile-at7 .result) (omega (arith, c .before .before .before .before .if2 .taken))
     (c .before .before .before .tile-at4 .ensures .0) (c .before .before .tile-at5 .ensures .0) (c .before .tile-at6 .ensures .0) (c .tile-at7 .ensures .0)
 
 add-tile-at-7 : tie.Need-add-tile-at-7
@@ -121,7 +123,8 @@ add-result-7 c = search needs
 returns-3 : tie.Need-returns-3
 returns-3 c =
     let a = c .before .before .before .before .before .before .args in
-    tile-byte-2 (a .tiles .now) (a .b) (c .before .before .tile-at8 .result) (c .before .tile-at9 .result) (c .tile-at10 .result) (omega (arith, c .before .before .before .if2 .left, c .before .before .before .before .if1 .left))
+    tile-byte-2 (a .tiles .now) (a .b) (c .before .before .tile-at8 .result) (c .before .tile-at9 .result) (c .tile-at10 .result)
+    (omega (arith, c .before .before .before .if2 .left, c .before .before .before .before .if1 .left))
     (c .before .before .tile-at8 .ensures .0) (c .before .tile-at9 .ensures .0) (c .tile-at10 .ensures .0)
 
 pub tile-byte-spec : {M : Type 1} → statement M

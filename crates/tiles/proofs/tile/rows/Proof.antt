@@ -1,7 +1,7 @@
-use Rattle.record.proofs.Tiles.{packs}
+use Rattle.tiles.proofs.Rows.{packs}
 use borrow.Author.Needs.{needs}
-use Rattle.record.proofs.tile.rows.Statement.{statement}
-use Rattle.record.proofs.tile.rows.Tie as tie
+use Rattle.tiles.proofs.tile.rows.Statement.{statement}
+use Rattle.tiles.proofs.tile.rows.Tie as tie
 
 pack-requires : tie.Need-pack-requires
 pack-requires c κs = search needs
@@ -25,7 +25,10 @@ pack-requires-7 : tie.Need-pack-requires-7
 pack-requires-7 c κs = search needs
 
 returns : tie.Need-returns
-returns c = packs _ _ _ _ _ _ _ (c .before .before .before .before .before .before .pack .ensures) (c .before .before .before .before .before .pack2 .ensures) (c .before .before .before .before .pack3 .ensures) (c .before .before .before .pack4 .ensures) (c .before .before .pack5 .ensures) (c .before .pack6 .ensures) (c .pack7 .ensures)
+returns c =
+    packs _ _ _ _ _ _ _ (c .before .before .before .before .before .before .pack .ensures)
+    (c .before .before .before .before .before .pack2 .ensures) (c .before .before .before .before .pack3 .ensures)
+    (c .before .before .before .pack4 .ensures) (c .before .before .pack5 .ensures) (c .before .pack6 .ensures) (c .pack7 .ensures)
 
 pub rows-spec : {M : Type 1} → statement M
 rows-spec =

@@ -1,8 +1,8 @@
-use Rattle.record.proofs.Tiles.{adds-small}
+use Rattle.tiles.proofs.Rows.{adds-small}
 use native.Mathlib.Omega.{arith}
 use borrow.Author.Needs.{needs}
-use Rattle.record.proofs.tile.pack.Statement.{statement}
-use Rattle.record.proofs.tile.pack.Tie as tie
+use Rattle.tiles.proofs.tile.pack.Statement.{statement}
+use Rattle.tiles.proofs.tile.pack.Tie as tie
 
 adds-of-requires : tie.Need-adds-of-requires
 adds-of-requires c κs = search needs

@@ -1,9 +1,9 @@
-use Rattle.record.proofs.Tiles.{weighed-in, weighed-out}
+use Rattle.tiles.proofs.Rows.{weighed-in, weighed-out}
 use native.Mathlib.Omega.{arith}
 use mathlib.Core.Path.{sym, _∙_}
 use borrow.Author.Needs.{needs}
-use Rattle.record.proofs.tile.weigh.Statement.{statement}
-use Rattle.record.proofs.tile.weigh.Tie as tie
+use Rattle.tiles.proofs.tile.weigh.Statement.{statement}
+use Rattle.tiles.proofs.tile.weigh.Tie as tie
 
 mul-result : tie.Need-mul-result
 mul-result c = search needs

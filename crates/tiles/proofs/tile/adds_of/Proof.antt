@@ -1,13 +1,13 @@
-use Rattle.record.specs.declared.tile.Adds.{Adds}
-use Rattle.record.specs.Sum.{Same}
+use Rattle.tiles.specs.declared.tile.Adds.{Adds}
+use Rattle.tiles.specs.Rows.{Same}
 use Rattle.level.specs.Tile.{adds}
 use lib.ListN.{getD}
 use mathlib.Core.List.{List, [], _∷_}
 use Prim.Native.Nat.{ℕ, zero, suc}
 use mathlib.Core.Path.{refl}
 use borrow.Author.Needs.{needs}
-use Rattle.record.proofs.tile.adds_of.Statement.{statement}
-use Rattle.record.proofs.tile.adds_of.Tie as tie
+use Rattle.tiles.proofs.tile.adds_of.Statement.{statement}
+use Rattle.tiles.proofs.tile.adds_of.Tie as tie
 
 row : ℕ → ℕ → ℕ → Adds
 row p c g = record { player = p; «crate_» = c; goal = g }

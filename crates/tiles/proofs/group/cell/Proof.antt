@@ -2,8 +2,8 @@ use Rattle.account.proofs.Lanes.{getD-past}
 use native.Mathlib.Omega.{arith}
 use mathlib.Core.Path.{sym}
 use borrow.Author.Needs.{needs}
-use Rattle.record.proofs.tile.cell.Statement.{statement}
-use Rattle.record.proofs.tile.cell.Tie as tie
+use Rattle.tiles.proofs.group.cell.Statement.{statement}
+use Rattle.tiles.proofs.group.cell.Tie as tie
 
 shared-slice-read-result : tie.Need-shared-slice-read-result
 shared-slice-read-result c = search needs

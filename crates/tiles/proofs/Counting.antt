@@ -1,0 +1,144 @@
+-- Tiles counted from their bytes.
+use mathlib.Core.Path.{_≡_, refl, sym, ap, ap₂, _∙_}
+use mathlib.Core.Logic.{⊎-elim}
+use mathlib.Core.List.{List}
+use Prim.Native.Nat.{ℕ, zero, suc, _+_, _*_, _-_, _/_, _%_, _^_, _≤_, _<_}
+use native.Mathlib.Numerals.{unary-clauses}
+use native.Mathlib.Nat.{zero-div}
+use native.Mathlib.Omega.{arith}
+use lib.ListN.{length, getD}
+use Rattle.rules.proofs.Numbers.{lt-or-ge}
+use Rattle.account.specs.Lists.{listOf, sumOf}
+use Rattle.account.proofs.Lanes.{getD-past}
+use Rattle.level.specs.Record.{bitAt, fieldAt}
+use Rattle.tiles.specs.Part.{unpacked, threeAt}
+use Rattle.tiles.specs.Sum.{weighed, weight, Tallied, pairsOf}
+use Rattle.tiles.proofs.Eight.{eight, eight-at, six-1, last-1, first-1, six-2, last-2, first-2, six-3, last-3, first-3, first-4, last-4}
+
+-- one pair more
+pub pairs-next : (w : ℕ → ℕ) (n u : ℕ) → 0 < n → pairsOf w n u ≡ w (u % 64 / 8) + w (u % 64 % 8) + pairsOf w (n - 1) (u / 64)
+unfolding pairsOf
+pairs-next w zero u h = absurd (omega arith)
+pairs-next w (suc n) u h = let e : suc n - 1 ≡ n = omega arith in ap (λ (k : ℕ). w (u % 64 / 8) + w (u % 64 % 8) + pairsOf w k (u / 64)) (sym e)
+
+pub pairs-none : (w : ℕ → ℕ) (n u : ℕ) → n ≡ 0 → pairsOf w n u ≡ 0
+unfolding pairsOf
+pairs-none w zero u h = refl
+pairs-none w (suc n) u h = absurd (omega arith)
+
+-- the four pairs of three bytes are their eight tiles
+four-pairs : (w : ℕ → ℕ) (x y z : ℕ) → x < 256 → y < 256 → z < 256
+    → pairsOf w 4 (x * 65536 + y * 256 + z)
+    ≡ w (x / 32) + w (x / 4 % 8) + w (x % 4 * 2 + y / 128) + w (y / 16 % 8) + w (y / 2 % 8) + w (y % 2 * 4 + z / 64) + w (z / 8 % 8) + w (z % 8)
+unfolding pairsOf
+four-pairs w x y z hx hy hz =
+    let k : z / 64 < 4 = omega arith in
+    rw (
+      first-1 x y z,
+      last-1 x y z,
+      six-1 x y z hz,
+      first-2 x y z (z / 64) k,
+      last-2 x y z (z / 64) k,
+      six-2 x y z (z / 64) k,
+      first-3 x y z hy,
+      last-3 x y z,
+      six-3 x y z hy,
+      first-4 x y z hx,
+      last-4 x y z,
+    ) (omega arith)
+
+-- what tile t adds
+abbrev pub addsAt : List ℕ → ℕ → ℕ
+addsAt part t = weighed (fieldAt part (3 * t) 3)
+
+sum-eight : (f : ℕ → ℕ) (n : ℕ)
+    → sumOf (n + 8) f ≡ sumOf n f + (f (n + 0) + f (n + 1) + f (n + 2) + f (n + 3) + f (n + 4) + f (n + 5) + f (n + 6) + f (n + 7))
+unfolding sumOf
+sum-eight f n = simp unary-clauses (omega arith)
+
+-- eight tiles more
+sum-three : (w : ℕ → ℕ) (part : List ℕ) (g x y z : ℕ) → x ≡ getD part (3 * g) 0 → y ≡ getD part (3 * g + 1) 0 → z ≡ getD part (3 * g + 2) 0
+    → x < 256 → y < 256 → z < 256
+    → sumOf (8 * (g + 1)) (λ t. w (fieldAt part (3 * t) 3)) ≡ sumOf (8 * g) (λ t. w (fieldAt part (3 * t) 3)) + pairsOf w 4 (x * 65536 + y * 256 + z)
+sum-three w part g x y z ex ey ez hx hy hz =
+    let e : 8 * (g + 1) ≡ 8 * g + 8 = omega arith in
+    ap (λ (k : ℕ). sumOf k (λ t. w (fieldAt part (3 * t) 3))) e
+    ∙ sum-eight (λ t. w (fieldAt part (3 * t) 3)) (8 * g)
+    ∙ omega (
+      arith,
+      four-pairs w x y z hx hy hz,
+      at 0 (omega arith),
+      at 1 (omega arith),
+      at 2 (omega arith),
+      at 3 (omega arith),
+      at 4 (omega arith),
+      at 5 (omega arith),
+      at 6 (omega arith),
+      at 7 (omega arith),
+    )
+  where
+    at : (j : ℕ) → j < 8 → w (getD (eight x y z) j 0) ≡ w (fieldAt part (3 * (8 * g + j)) 3)
+    at j h = ap w (eight-at part g x y z ex ey ez hx hy hz j h)
+
+pub sum-next : (w : ℕ → ℕ) (part : List ℕ) (g : ℕ) → ((q : ℕ) → getD part q 0 < 256)
+    → sumOf (8 * (g + 1)) (λ t. w (fieldAt part (3 * t) 3)) ≡ sumOf (8 * g) (λ t. w (fieldAt part (3 * t) 3)) + pairsOf w 4 (threeAt part g)
+sum-next w part g by =
+    sum-three w part g (getD part (3 * g) 0) (getD part (3 * g + 1) 0) (getD part (3 * g + 2) 0) refl refl refl
+    (by (3 * g)) (by (3 * g + 1)) (by (3 * g + 2))
+
+-- sums of numbers
+sum-first : (n : ℕ) (f : ℕ → ℕ) → sumOf (suc n) f ≡ f 0 + sumOf n (λ i. f (suc i))
+unfolding sumOf
+sum-first zero f = omega arith
+sum-first (suc n) f = omega (arith, sum-first n f)
+
+sum-append : (k n : ℕ) (f : ℕ → ℕ) → sumOf (k + n) f ≡ sumOf k f + sumOf n (λ i. f (k + i))
+unfolding sumOf
+sum-append k zero f = let e : k + 0 ≡ k = omega arith in omega (arith, ap (λ (j : ℕ). sumOf j f) e)
+sum-append k (suc n) f = let e : k + suc n ≡ suc (k + n) = omega arith in omega (arith, ap (λ (j : ℕ). sumOf j f) e, sum-append k n f)
+
+sum-none : (n : ℕ) (f : ℕ → ℕ) → ((i : ℕ) → f i ≡ 0) → sumOf n f ≡ 0
+unfolding sumOf
+sum-none zero f h = refl
+sum-none (suc n) f h = omega (arith, sum-none n f h, h n)
+
+weight-list : (n : ℕ) (f : ℕ → ℕ) → weight (listOf n f) ≡ sumOf n (λ i. weighed (f i))
+unfolding weight listOf sumOf
+weight-list zero f = refl
+weight-list (suc n) f = ap (λ (k : ℕ). weighed (f 0) + k) (weight-list n (λ i. f (suc i))) ∙ sym (sum-first n (λ i. weighed (f i)))
+
+-- bits past the end, and fields of none
+bit-past : (part : List ℕ) (p : ℕ) → 8 * length part ≤ p → bitAt part p ≡ 0
+unfolding bitAt
+bit-past part p h = ap (λ (x : ℕ). x / 2 ^ (7 - p % 8) % 2) (getD-past part (p / 8) (omega arith)) ∙ ap (λ (x : ℕ). x % 2) (zero-div (2 ^ (7 - p % 8)))
+
+field-none : (part : List ℕ) (p n : ℕ) → ((q : ℕ) → p ≤ q → bitAt part q ≡ 0) → fieldAt part p n ≡ 0
+unfolding fieldAt
+field-none part p zero h = refl
+field-none part p (suc n) h = omega (arith, field-none part p n h, h (p + n) (omega arith))
+
+-- the sum over all groups of three bytes is that of the tiles
+module _ (part : List ℕ) (m : ℕ) (room : 3 * m ≤ 8 * length part) (none : (p : ℕ) → 3 * m ≤ p → p < 8 * length part → bitAt part p ≡ 0) where
+  blank : (p : ℕ) → 3 * m ≤ p → bitAt part p ≡ 0
+  blank p h = ⊎-elim (λ a. none p h a) (λ b. bit-past part p b) (lt-or-ge p (8 * length part))
+
+  past : (i : ℕ) → addsAt part (m + i) ≡ 0
+  past i = ap weighed (field-none part (3 * (m + i)) 3 (λ q h. blank q (omega arith)))
+
+  tiles : sumOf m (addsAt part) ≡ weight (unpacked part m)
+  unfolding unpacked
+  tiles = sym (weight-list m (λ i. fieldAt part (3 * i) 3))
+
+  all-tiles : (x g : ℕ) → length part ≤ 3 * g → x ≡ sumOf (8 * g) (addsAt part) → x ≡ weight (unpacked part m)
+  all-tiles x g all e =
+      let n : 8 * g ≡ m + (8 * g - m) = omega arith in
+      omega (
+        arith,
+        ap (λ (k : ℕ). sumOf k (addsAt part)) n,
+        sum-append m (8 * g - m) (addsAt part),
+        sum-none (8 * g - m) (λ i. addsAt part (m + i)) past,
+        tiles,
+      )
+
+pub tallied : (part : List ℕ) (x g : ℕ) → length part ≤ 3 * g → x ≡ sumOf (8 * g) (addsAt part) → Tallied part x
+tallied part x g all e = record { sum = λ m room none. all-tiles part m room none x g all e }

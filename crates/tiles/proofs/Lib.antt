@@ -1,0 +1,6 @@
+pub mod Rows
+pub mod Keys
+pub mod Eight
+pub mod Part
+pub mod Counting
+pub mod Putting

@@ -1,0 +1,44 @@
+-- A record's tiles are those of its part from byte 3.
+use mathlib.Core.Path.{_≡_, sym, ap, _∙_}
+use mathlib.Core.List.{List}
+use Prim.Native.Nat.{ℕ, _+_, _*_, _-_, _<_}
+use native.Mathlib.Omega.{arith}
+use lib.ListN.{length, getD, take, drop, length-drop}
+use lib.Seq.{getD-drop, take-all, ext-getD}
+use Rattle.account.proofs.Lists.{length-listOf, getD-listOf}
+use Rattle.level.specs.Record.{bitAt, fieldAt}
+use Rattle.level.specs.Reading.{tilesIn}
+use Rattle.level.proofs.Judged.{length-tiles, getD-tiles}
+use Rattle.level.proofs.Windows.{bit-part, field-part}
+use Rattle.tiles.specs.Part.{unpacked}
+
+pub length-unpacked : (part : List ℕ) (m : ℕ) → length (unpacked part m) ≡ m
+unfolding unpacked
+length-unpacked part m = length-listOf m (λ i. fieldAt part (3 * i) 3)
+
+pub getD-unpacked : (part : List ℕ) (m i : ℕ) → i < m → getD (unpacked part m) i 0 ≡ fieldAt part (3 * i) 3
+unfolding unpacked
+getD-unpacked part m i h = getD-listOf m (λ k. fieldAt part (3 * k) 3) i h
+
+-- the part as it is lent
+module _ (bs : List ℕ) where
+  abbrev pub partOf : List ℕ
+  partOf = take (length bs - 3) (drop 3 bs)
+
+  all : partOf ≡ drop 3 bs
+  all = take-all (length bs - 3) (drop 3 bs) (omega (arith, length-drop 3 bs))
+
+  pub length-part : length partOf ≡ length bs - 3
+  length-part = ap length all ∙ length-drop 3 bs
+
+  same : (q : ℕ) → getD partOf q 0 ≡ getD bs (3 + q) 0
+  same q = ap (λ (s : List ℕ). getD s q 0) all ∙ getD-drop 3 bs q 0
+
+  pub bit-on : (p : ℕ) → bitAt partOf p ≡ bitAt bs (24 + p)
+  bit-on p = bit-part bs partOf 3 same p
+
+  pub unpacked-part : (m : ℕ) → unpacked partOf m ≡ tilesIn bs m
+  unpacked-part m =
+      ext-getD 0 (unpacked partOf m) (tilesIn bs m) (length-unpacked partOf m ∙ sym (length-tiles bs m)) (λ i l.
+      let k : i < m = omega (arith, length-unpacked partOf m) in
+      getD-unpacked partOf m i k ∙ field-part bs partOf 3 same (3 * i) 3 ∙ sym (getD-tiles bs m i k))

@@ -1,0 +1,33 @@
+-- FORMAT 5.1, 5.2: what tiles add, as one number; rows are packed, and summed over a board.
+use mathlib.Core.Path.{_≡_}
+use mathlib.Core.Bool.{cond}
+use mathlib.Core.List.{List, [], _∷_}
+use Prim.Native.Nat.{ℕ, zero, suc, _+_, _*_, _/_, _%_, _≤_, _<_}
+use lib.Dec.{ltb}
+use lib.ListN.{length}
+use Rattle.level.specs.Tile.{Row, adds}
+use Rattle.level.specs.Record.{bitAt}
+use Rattle.tiles.specs.Part.{unpacked}
+
+-- twelve bits a sum; 36 to 47 are free
+abbrev pub packed : Row → ℕ
+packed r = r .player + 4096 * r .crate' + 16777216 * r .goal
+
+-- what a tile adds; the bits from 48 on count what is no tile code
+abbrev pub weighed : ℕ → ℕ
+weighed t = cond (ltb t 7) (packed (adds t)) 281474976710656
+
+unfoldable pub weight : List ℕ → ℕ
+weight [] = 0
+weight (t ∷ ts) = weighed t + weight ts
+
+-- the sum of the tiles of a record's part, however many there are before its filling
+pub record Tallied (part : List ℕ) (r : ℕ) : Type 0 where
+  pub sum : (m : ℕ) → 3 * m ≤ 8 * length part → ((p : ℕ) → 3 * m ≤ p → p < 8 * length part → bitAt part p ≡ 0) → r ≡ weight (unpacked part m)
+
+-- ---- parts
+
+-- what n pairs of tiles add, the last pair in the lowest six bits, where a tile adds w
+unfoldable pub pairsOf : (ℕ → ℕ) → ℕ → ℕ → ℕ
+pairsOf w zero v = 0
+pairsOf w (suc n) v = w (v % 64 / 8) + w (v % 64 % 8) + pairsOf w n (v / 64)

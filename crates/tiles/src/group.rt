@@ -1,0 +1,48 @@
+// Eight tiles in three bytes.
+ghost use mathlib.Core.Path.{_≡_};
+ghost use Prim.Native.Nat.{_+_, _*_, _≤_};
+ghost use lib.ListN.{length, getD};
+ghost use Rattle.tiles.specs.Part.{threeAt};
+
+fn wide(x: u8) -> u64
+    ensures { λ r. ⌜ r ≡ x ⌝ }
+{
+    x as u64
+}
+
+// Three bytes as one number.
+fn three(x: u8, y: u8, z: u8) -> u64
+    ensures { λ r. ⌜ r ≡ x * 65536 + y * 256 + z ⌝ }
+{
+    wide(x) * 65536 + wide(y) * 256 + wide(z)
+}
+
+// Byte q, and 0 past the end.
+pub fn cell(bs: &[u8], q: usize) -> u8
+    ensures { λ r. ⌜ r ≡ getD (now (bs .entry)) q 0 ⌝ }
+{
+    if q < bs.len() {
+        return bs[q];
+    }
+    0
+}
+
+// Bytes 3 g to 3 g + 2 as one number.
+pub(crate) fn full(part: &[u8], g: usize) -> u64
+    requires { ⌜ (g ≤ 1000) × (3 * g + 3 ≤ length (now part)) ⌝ }
+    ensures { λ r. ⌜ r ≡ threeAt (now (part .entry)) g ⌝ }
+{
+    three(part[3 * g], part[3 * g + 1], part[3 * g + 2])
+}
+
+// The same, 0 past the end.
+pub(crate) fn last(part: &[u8], g: usize) -> u64
+    requires { ⌜ g ≤ 1000 ⌝ }
+    ensures { λ r. ⌜ r ≡ threeAt (now (part .entry)) g ⌝ }
+{
+    three(
+        cell(part, 3 * g),
+        cell(part, 3 * g + 1),
+        cell(part, 3 * g + 2),
+    )
+}

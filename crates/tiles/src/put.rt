@@ -1,0 +1,88 @@
+// Packed tiles, written a byte each.
+ghost use mathlib.Core.Path.{_≡_};
+ghost use mathlib.Core.List.{_++_};
+ghost use Prim.Native.Nat.{_+_, _*_, _/_, _%_, _≤_, _<_};
+ghost use lib.ListN.{length, drop};
+ghost use Rattle.tiles.specs.Part.{unpacked};
+ghost use Rattle.tiles.specs.Put.{spreadOf, Puts};
+
+// The eight tiles in the lowest 24 bits, a byte each, the first lowest.
+fn spread(v: u64) -> u64
+    ensures { λ r. ⌜ r ≡ spreadOf 4 v 0 ⌝ }
+{
+    let mut u = v;
+    let mut s: u64 = 0;
+    let mut n: usize = 4;
+    while 0 < n {
+        s = s * 65536 + super::table::two(u % 64);
+        u = u / 64;
+        n -= 1;
+    }
+    s
+}
+
+// Two tiles with no table: a table that is called from two places is not inlined in either.
+fn two_last(a: u64) -> u64
+    requires { ⌜ a < 64 ⌝ }
+    ensures { λ r. ⌜ r ≡ a / 8 + 256 * (a % 8) ⌝ }
+{
+    a / 8 + 256 * (a % 8)
+}
+
+// The same for the last tiles.
+fn spread_last(v: u64) -> u64
+    ensures { λ r. ⌜ r ≡ spreadOf 4 v 0 ⌝ }
+{
+    let mut u = v;
+    let mut s: u64 = 0;
+    let mut n: usize = 4;
+    while 0 < n {
+        s = s * 65536 + two_last(u % 64);
+        u = u / 64;
+        n -= 1;
+    }
+    s
+}
+
+// Eight bytes, the lowest first.
+fn put_word(out: &mut [u8], k: usize, w: u64)
+    requires { ⌜ k + 8 ≤ length (now out) ⌝ }
+    ensures { λ _. ⌜ Puts (now (out .entry)) (now (out .exit)) k (k + 8) w ⌝ }
+{
+    out[k] = (w % 256) as u8;
+    out[k + 1] = (w / 256 % 256) as u8;
+    out[k + 2] = (w / 65536 % 256) as u8;
+    out[k + 3] = (w / 16777216 % 256) as u8;
+    out[k + 4] = (w / 4294967296 % 256) as u8;
+    out[k + 5] = (w / 1099511627776 % 256) as u8;
+    out[k + 6] = (w / 281474976710656 % 256) as u8;
+    out[k + 7] = (w / 72057594037927936 % 256) as u8;
+}
+
+// The bytes that there is room for before m.
+fn put_rest(out: &mut [u8], k: usize, m: usize, w: u64)
+    requires { ⌜ (k ≤ m) × (m ≤ length (now out)) ⌝ }
+    ensures { λ _. ⌜ Puts (now (out .entry)) (now (out .exit)) k m w ⌝ }
+{
+    let mut u = w;
+    let mut i = k;
+    while i < m {
+        out[i] = (u % 256) as u8;
+        u = u / 256;
+        i += 1;
+    }
+}
+
+// The first m tiles of a record's part from byte 3; what is past them keeps its value.
+pub fn unpack(part: &[u8], m: usize, tiles: &mut [u8])
+    requires { ⌜ (m ≤ 961) × (3 * m ≤ 8 * length (now part)) × (m ≤ length (now tiles)) ⌝ }
+    ensures { λ _. ⌜ now (tiles .exit) ≡ unpacked (now (part .entry)) m ++ drop m (now (tiles .entry)) ⌝ }
+{
+    let n = m / 8;
+    let mut g: usize = 0;
+    while g < n {
+        put_word(tiles, 8 * g, spread(super::group::full(part, g)));
+        g += 1;
+    }
+    put_rest(tiles, 8 * n, m, spread_last(super::group::last(part, n)));
+}

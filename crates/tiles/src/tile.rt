@@ -1,0 +1,95 @@
+// Tiles: the table of what each adds.
+ghost use mathlib.Core.Path.{_≡_};
+ghost use Prim.Native.Nat.{_≤_};
+ghost use Rattle.level.specs.Tile.{adds};
+ghost use Rattle.tiles.specs.Sum.{packed, weighed};
+ghost use Rattle.tiles.specs.Rows.{Same, Packs};
+
+// What a tile adds.
+pub struct Adds {
+    pub player: u64,
+    pub crate_: u64,
+    pub goal: u64,
+}
+
+// Floor, wall, crate, goal, crate on goal, player, player on goal.
+const ADDS: [Adds; 7] = [
+    Adds {
+        player: 0,
+        crate_: 0,
+        goal: 0,
+    },
+    Adds {
+        player: 0,
+        crate_: 0,
+        goal: 0,
+    },
+    Adds {
+        player: 0,
+        crate_: 1,
+        goal: 0,
+    },
+    Adds {
+        player: 0,
+        crate_: 0,
+        goal: 1,
+    },
+    Adds {
+        player: 0,
+        crate_: 1,
+        goal: 1,
+    },
+    Adds {
+        player: 1,
+        crate_: 0,
+        goal: 0,
+    },
+    Adds {
+        player: 1,
+        crate_: 0,
+        goal: 1,
+    },
+];
+
+fn adds_of(t: usize) -> Adds
+    requires { ⌜ t ≤ 6 ⌝ }
+    ensures { λ r. ⌜ Same r (adds t) ⌝ }
+{
+    ADDS[t]
+}
+
+// Row t in one number, twelve bits for each sum.
+fn pack(t: usize) -> u64
+    requires { ⌜ t ≤ 6 ⌝ }
+    ensures { λ r. ⌜ r ≡ packed (adds t) ⌝ }
+{
+    let a = adds_of(t);
+    a.player + 4096 * a.crate_ + 16777216 * a.goal
+}
+
+// The rows packed, made once a call and lent; last what is added for what is no tile code.
+pub fn rows() -> [u64; 8]
+    ensures { λ r. ⌜ Packs r ⌝ }
+{
+    [
+        pack(0),
+        pack(1),
+        pack(2),
+        pack(3),
+        pack(4),
+        pack(5),
+        pack(6),
+        281474976710656,
+    ]
+}
+
+// What a tile adds, by the rows that are lent.
+pub fn weigh(rows: &[u64; 8], t: u8) -> u64
+    requires { ⌜ Packs (now rows) ⌝ }
+    ensures { λ r. ⌜ r ≡ weighed t ⌝ }
+{
+    if t < 7 {
+        return rows[t as usize];
+    }
+    rows[7]
+}

@@ -13,6 +13,9 @@ abbrev pub recordLeast : ℕ
 recordLeast = 4
 
 -- FORMAT 7.9: cells of a strip of four lanes
+abbrev pub stripLeast : ℕ
+stripLeast = 24
+
 abbrev pub stripMost : ℕ
 stripMost = 384
 

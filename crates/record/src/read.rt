@@ -6,6 +6,10 @@ ghost use Rattle.rules.specs.Says.{Says};
 ghost use Rattle.level.specs.Record.{bitAt, fieldAt};
 ghost use Rattle.level.specs.Reading.{Shaped};
 ghost use Rattle.record.specs.Reading.{Heads, without, JudgedAs, AcceptedAs, RecordReadsAs};
+ghost use Rattle.level.specs.Sizes.{tilesMost, recordLeast, recordMost};
+use level::RECORD_LEAST;
+use level::RECORD_MOST;
+use level::TILES_MOST;
 
 // The fields in front of the tiles.
 pub struct Head {
@@ -42,7 +46,7 @@ fn bit(bs: &[u8], p: usize) -> u8
 
 // No bit is set from a place on.
 fn blank(bs: &[u8], from: usize) -> bool
-    requires { ⌜ length (now bs) ≤ 364 ⌝ }
+    requires { ⌜ length (now bs) ≤ recordMost ⌝ }
     ensures { λ r. ⌜ Says r ((p : ℕ) → from ≤ p → p < 8 * length (now (bs .entry)) → bitAt (now (bs .entry)) p ≡ 0) ⌝ }
 {
     let end = 8 * bs.len();
@@ -58,7 +62,7 @@ fn blank(bs: &[u8], from: usize) -> bool
 
 // The length is that of the size, and what is left over is blank.
 fn shaped(bs: &[u8], lanes: usize, m: usize) -> bool
-    requires { ⌜ (length (now bs) ≤ 364) × (1 ≤ lanes) × (lanes ≤ 16) × (m ≡ fieldAt (now bs) 4 5 * fieldAt (now bs) 9 5) × (m ≤ 961) ⌝ }
+    requires { ⌜ (length (now bs) ≤ recordMost) × (1 ≤ lanes) × (lanes ≤ 16) × (m ≡ fieldAt (now bs) 4 5 * fieldAt (now bs) 9 5) × (m ≤ tilesMost) ⌝ }
     ensures { λ r. ⌜ Says r (Shaped lanes (now (bs .entry))) ⌝ }
 {
     let n = 3 + (3 * m + 7) / 8;
@@ -89,7 +93,7 @@ fn refused(code: u8) -> Judged
 
 // Refusals 7 to 10 of a record, or of the data cells of a strip of that many lanes.
 fn judge(bs: &[u8], lanes: usize) -> Judged
-    requires { ⌜ (4 ≤ length (now bs)) × (length (now bs) ≤ 364) × (1 ≤ lanes) × (lanes ≤ 16) ⌝ }
+    requires { ⌜ (recordLeast ≤ length (now bs)) × (length (now bs) ≤ recordMost) × (1 ≤ lanes) × (lanes ≤ 16) ⌝ }
     ensures { λ r. ⌜ JudgedAs lanes (now (bs .entry)) r ⌝ }
 {
     let f = head_of(bs);
@@ -130,7 +134,7 @@ pub enum RecordRead {
 
 // The record judged, or the data cells of a strip of that many lanes; its tiles are written only where nothing is refused.
 pub fn accept(bs: &[u8], lanes: usize, tiles: &mut [u8]) -> Judged
-    requires { ⌜ (4 ≤ length (now bs)) × (length (now bs) ≤ 364) × (1 ≤ lanes) × (lanes ≤ 16) × (961 ≤ length (now tiles)) ⌝ }
+    requires { ⌜ (recordLeast ≤ length (now bs)) × (length (now bs) ≤ recordMost) × (1 ≤ lanes) × (lanes ≤ 16) × (tilesMost ≤ length (now tiles)) ⌝ }
     ensures { λ r. ⌜ AcceptedAs lanes (now (bs .entry)) (now (tiles .entry)) (now (tiles .exit)) r ⌝ }
 {
     let j = judge(bs, lanes);
@@ -147,13 +151,13 @@ pub fn accept(bs: &[u8], lanes: usize, tiles: &mut [u8]) -> Judged
 pub fn read(bytes: &[u8], tiles: &mut [u8]) -> RecordRead
     ensures { λ r. ⌜ RecordReadsAs (now (bytes .entry)) (now (tiles .entry)) (now (tiles .exit)) r ⌝ }
 {
-    if bytes.len() < 4 {
+    if bytes.len() < RECORD_LEAST {
         return RecordRead::Refused(1);
     }
-    if 364 < bytes.len() {
+    if RECORD_MOST < bytes.len() {
         return RecordRead::Refused(1);
     }
-    if tiles.len() < 961 {
+    if tiles.len() < TILES_MOST {
         return RecordRead::Refused(4);
     }
     let j = accept(bytes, 1, tiles);

@@ -5,10 +5,11 @@ ghost use lib.ListN.{length};
 ghost use Rattle.tiles.specs.Sum.{weight};
 ghost use Rattle.tiles.specs.Rows.{Packs};
 ghost use Rattle.record.specs.Sum.{BoardCode, SumCode};
+ghost use Rattle.level.specs.Sizes.{tilesMost};
 
 // What the tiles of a board add, in all.
 fn tally(rows: &[u64; 8], tiles: &[u8]) -> u64
-    requires { ⌜ Packs (now rows) × (length (now tiles) ≤ 961) ⌝ }
+    requires { ⌜ Packs (now rows) × (length (now tiles) ≤ tilesMost) ⌝ }
     ensures { λ r. ⌜ r ≡ weight (now (tiles .entry)) ⌝ }
 {
     let mut x: u64 = 0;
@@ -44,7 +45,7 @@ pub(crate) fn sum_code(x: u64) -> u8
 
 // The same of a board that is lent.
 pub(crate) fn board_code(tiles: &[u8]) -> u8
-    requires { ⌜ length (now tiles) ≤ 961 ⌝ }
+    requires { ⌜ length (now tiles) ≤ tilesMost ⌝ }
     ensures { λ r. ⌜ BoardCode 1 (now (tiles .entry)) r ⌝ }
 {
     let table = tiles::tile::rows();

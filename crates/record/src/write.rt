@@ -9,7 +9,9 @@ ghost use Rattle.level.specs.Level.{Sized, AllTiles, IsLevel, lending};
 ghost use Rattle.level.specs.Record.{recordLength};
 ghost use Rattle.level.specs.Writing.{lent};
 ghost use Rattle.record.specs.Writing.{RecordWritesAs, RecordPut, InRange, headBytes, tileByte};
+ghost use Rattle.level.specs.Sizes.{recordMost};
 use code::word::Written;
+use level::RECORD_MOST;
 
 fn ranged(w: usize, h: usize, par: usize) -> bool
     ensures { λ r. ⌜ Says r (InRange w h par) ⌝ }
@@ -35,7 +37,7 @@ fn ranged(w: usize, h: usize, par: usize) -> bool
 // The bytes of a record.
 fn record_length(w: usize, h: usize) -> usize
     requires { ⌜ Sized w h ⌝ }
-    ensures { λ r. ⌜ (r ≡ recordLength w h) × (r ≤ 364) ⌝ }
+    ensures { λ r. ⌜ (r ≡ recordLength w h) × (r ≤ recordMost) ⌝ }
 {
     3 + (3 * (w * h) + 7) / 8
 }
@@ -60,7 +62,7 @@ fn tile_at(tiles: &[u8], i: usize) -> u8
 
 // Byte b of the tiles. Eight tiles make three bytes.
 fn tile_byte(tiles: &[u8], b: usize) -> u8
-    requires { ⌜ AllTiles 1 (now tiles) × (b ≤ 364) ⌝ }
+    requires { ⌜ AllTiles 1 (now tiles) × (b ≤ recordMost) ⌝ }
     ensures { λ r. ⌜ r ≡ tileByte (now (tiles .entry)) b ⌝ }
 {
     let k = b / 3 * 8;
@@ -108,7 +110,7 @@ pub fn check(w: usize, h: usize, par: usize, tiles: &[u8]) -> u8
 pub fn write(w: usize, h: usize, par: usize, tiles: &[u8], out: &mut [u8]) -> Written
     ensures { λ r. ⌜ RecordWritesAs (lent w h par (now (tiles .entry))) (now (out .entry)) (now (out .exit)) r ⌝ }
 {
-    if out.len() < 364 {
+    if out.len() < RECORD_MOST {
         return Written::Refused(4);
     }
     let code = check(w, h, par, tiles);

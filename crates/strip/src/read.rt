@@ -7,6 +7,7 @@ ghost use Rattle.rules.specs.Says.{Says};
 ghost use Rattle.level.specs.Strip.{Legal, wearOf};
 ghost use Rattle.lanes.specs.Lanes.{Ready, MendedAs};
 ghost use Rattle.strip.specs.Reading.{stripNumbers, StripEntersAs, FinishedAs, StripReadsAs};
+ghost use Rattle.level.specs.Sizes.{tilesMost, recordLeast, recordMost, stripLeast, stripMost};
 use level::SCRATCH_LEAST;
 use level::STRIP_LEAST;
 use level::STRIP_MOST;
@@ -75,7 +76,7 @@ fn enter(strip: &[u8], marks: &[u8], tiles: usize, scratch: usize) -> Entered
 
 // Percent of the cells that were mended, rounded down.
 fn wear(mended: usize, n: usize) -> usize
-    requires { ⌜ (mended ≤ 8) × (24 ≤ n) × (n ≤ 384) ⌝ }
+    requires { ⌜ (mended ≤ 8) × (stripLeast ≤ n) × (n ≤ stripMost) ⌝ }
     ensures { λ r. ⌜ r ≡ wearOf mended n ⌝ }
 {
     100 * mended / n
@@ -93,7 +94,7 @@ fn mend(strip: &[u8], marks: &[u8], f: usize, scratch: &mut [u8]) -> lanes::Mend
 
 // The record in the data cells of a strip of n cells of which so many were mended.
 fn finish(bs: &[u8], n: usize, mended: usize, tiles: &mut [u8]) -> Reading
-    requires { ⌜ (4 ≤ length (now bs)) × (length (now bs) ≤ 364) × (961 ≤ length (now tiles)) × (mended ≤ 8) × (24 ≤ n) × (n ≤ 384) ⌝ }
+    requires { ⌜ (recordLeast ≤ length (now bs)) × (length (now bs) ≤ recordMost) × (tilesMost ≤ length (now tiles)) × (mended ≤ 8) × (stripLeast ≤ n) × (n ≤ stripMost) ⌝ }
     ensures { λ r. ⌜ FinishedAs 4 (now (bs .entry)) n mended (now (tiles .entry)) (now (tiles .exit)) (stripNumbers r) ⌝ }
 {
     let j = record::read::accept(bs, 4, tiles);

@@ -5,6 +5,7 @@ ghost use Prim.Native.Nat.{_+_, _*_, _/_, _%_, _≤_, _<_};
 ghost use lib.ListN.{length, drop};
 ghost use Rattle.tiles.specs.Part.{unpacked};
 ghost use Rattle.tiles.specs.Put.{spreadOf, Puts};
+ghost use Rattle.level.specs.Sizes.{tilesMost};
 
 // The eight tiles in the lowest 24 bits, a byte each, the first lowest.
 fn spread(v: u64) -> u64
@@ -75,7 +76,7 @@ fn put_rest(out: &mut [u8], k: usize, m: usize, w: u64)
 
 // The first m tiles of a record's part from byte 3; what is past them keeps its value.
 pub fn unpack(part: &[u8], m: usize, tiles: &mut [u8])
-    requires { ⌜ (m ≤ 961) × (3 * m ≤ 8 * length (now part)) × (m ≤ length (now tiles)) ⌝ }
+    requires { ⌜ (m ≤ tilesMost) × (3 * m ≤ 8 * length (now part)) × (m ≤ length (now tiles)) ⌝ }
     ensures { λ _. ⌜ now (tiles .exit) ≡ unpacked (now (part .entry)) m ++ drop m (now (tiles .entry)) ⌝ }
 {
     let n = m / 8;

@@ -1,4 +1,4 @@
--- What is promised of records, each with its sentence.
+-- What is promised of records (FORMAT 8.10, 8.11).
 use mathlib.Core.Path.{_≡_, refl, sym, ap, ap₂, _∙_, subst}
 use mathlib.Core.Logic.{_≢_}
 use mathlib.Core.List.{List, _++_}

@@ -1,6 +1,6 @@
-// The remainder of a word by the generator, and what is made of it: the test and the check bytes. (Document 004 takes the
-// remainder first: the five sums of the remainder are those of the word.) Five bytes are packed in one number, the highest power
-// on top. One pass serves a word and the lanes of a strip: their chains of steps need not wait for each other.
+// The remainder of a word by the generator, and what is made of it: the test, the check bytes, and the five sums, which are those
+// of the remainder. Five bytes are packed in one number, the highest power on top. One pass serves a word and the lanes of a strip,
+// whose chains of steps need not wait for each other.
 ghost use mathlib.Core.Path.{_≡_};
 ghost use Prim.Native.Nat.{_+_, _*_, _/_, _%_, _<_, _≤_};
 ghost use lib.ListN.{length};

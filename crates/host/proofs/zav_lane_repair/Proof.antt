@@ -57,8 +57,9 @@ same-length c = search needs
 
 returns-4 : tie.Need-returns-4
 returns-4 c =
-    let a = c .before .before .before .before .before .before .before .before .before .before .before .before .before .before .before .before .before .before .args in
     let l = c .before .before .before .before .before .before .before .before .before .before .before .lane-of in
+    let s = c .before .before .before .before .before .before .before .before .before .before .before .before in
+    let a = s .before .before .before .before .before .before .args in
     let m = c .before .before .before .before .before .before .before .before .before .before .lane-of2 in
     let x = c .before .before .before .before .before .before .before .before .before .repair-lane in
     let z = c .before .before .before .before .before .before .answer .given in

@@ -63,7 +63,14 @@ add-result-4 c = search needs
 
 returns : tie.Need-returns
 returns c =
-    rw (c .before .before .before .before .wide .ensures .0, c .before .before .before .wide2 .ensures .0, c .before .before .wide3 .ensures .0, c .before .wide4 .ensures .0, c .wide5 .ensures .0) (ap packedSums (c .before .before .before .before .before .syndrome-of .ensures))
+    rw (
+      c .before .before .before .before .wide .ensures .0,
+      c .before .before .before .wide2 .ensures .0,
+      c .before .before .wide3 .ensures .0,
+      c .before .wide4 .ensures .0,
+      c .wide5 .ensures .0,
+    )
+    (ap packedSums (c .before .before .before .before .before .syndrome-of .ensures))
 
 pub zav-syndrome-spec : {M : Type 1} → statement M
 zav-syndrome-spec =

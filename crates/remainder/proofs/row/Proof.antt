@@ -62,4 +62,5 @@ returns c = ((λ j h. c .before .loop .inv .done j (omega (arith, h))), omega (a
 
 pub row-spec : {M : Type 1} → statement M
 row-spec =
-    tie.close (tie.spec Inv-loop μ-loop loop-holds add-step mul-step element-copy-out-step step-requires mul-out element-write-out add-j loop-less loop-again returns)
+    tie.close
+    (tie.spec Inv-loop μ-loop loop-holds add-step mul-step element-copy-out-step step-requires mul-out element-write-out add-j loop-less loop-again returns)

@@ -1,9 +1,10 @@
 -- What the lent table holds, and what is read from it.
 use mathlib.Core.Path.{_≡_}
 use mathlib.Core.List.{List}
-use Prim.Native.Nat.{ℕ, suc, _+_, _-_, _<_}
+use Prim.Native.Nat.{ℕ, _+_, _<_}
 use lib.ListN.{getD}
 use Rattle.account.specs.Field.{power}
+use Rattle.account.specs.Errata.{place}
 use Rattle.account.specs.Search.{HalfOf}
 use Rattle.gf256.specs.Gf256.{gf256}
 
@@ -28,7 +29,7 @@ pub record IsLog (x r : ℕ) : Type 0 where
 
 -- the place of cell p of n
 abbrev pub placeOf : ℕ → ℕ → ℕ
-placeOf n p = power gf256 2 (n - suc p)
+placeOf = place gf256
 
 -- the inverse of a byte other than 0: its power 254
 unfoldable pub inverseOf : ℕ → ℕ

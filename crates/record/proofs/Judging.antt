@@ -13,8 +13,8 @@ use Rattle.level.specs.Reading.{tilesOf, levelOf, Shaped, judging}
 use Rattle.level.proofs.Dealing.{within}
 use Rattle.level.proofs.Judged.{length-tiles}
 use Rattle.level.proofs.Windows.{field-below}
-use Rattle.tiles.specs.Sum.{weight, Tallied}
-use Rattle.tiles.proofs.Part.{partOf, length-part, bit-on, unpacked-part}
+use Rattle.tiles.specs.Sum.{weight, PartSummed}
+use Rattle.tiles.proofs.Part.{partOf, length-part, bit-on, tilesFrom-part}
 use Rattle.record.specs.declared.read.Head.{Head}
 use Rattle.record.specs.declared.read.Judged.{Judged}
 use Rattle.record.specs.Sum.{BoardCode, SumCode}
@@ -48,10 +48,10 @@ module _ (R : ℕ) (bs : List ℕ) (some : 0 < R) (s : Shaped R bs) where
   part-fits = omega (arith, tiles-fit, length-part bs)
 
   -- what the part adds is what the tiles do
-  pub tallied-tiles : (x : ℕ) → Tallied (partOf bs) x → x ≡ weight (tilesOf bs)
-  tallied-tiles x t =
+  pub summed-tiles : (x : ℕ) → PartSummed (partOf bs) x → x ≡ weight (tilesOf bs)
+  summed-tiles x t =
       t .sum (fieldAt bs 4 5 * fieldAt bs 9 5) part-fits (λ p a b. bit-on bs p ∙ s .filling (24 + p) (omega arith) (omega (arith, length-part bs)))
-      ∙ ap weight (unpacked-part bs (fieldAt bs 4 5 * fieldAt bs 9 5))
+      ∙ ap weight (tilesFrom-part bs (fieldAt bs 4 5 * fieldAt bs 9 5))
 
 module _ (bs : List ℕ) (f : Head) (hd : Heads bs f) where
   pub area-is : f .width * f .height ≡ fieldAt bs 4 5 * fieldAt bs 9 5
@@ -68,11 +68,11 @@ module _ (bs : List ℕ) (f : Head) (hd : Heads bs f) where
   }
 
   -- what the tiles add tells their refusal
-  pub boarded : f .version ≡ 1 → (R x code : ℕ) → 0 < R → Shaped R bs → Tallied (partOf bs) x → SumCode 1 x code
+  pub boarded : f .version ≡ 1 → (R x code : ℕ) → 0 < R → Shaped R bs → PartSummed (partOf bs) x → SumCode 1 x code
       → BoardCode (fieldAt bs 0 4) (tilesOf bs) code
   boarded v R x code some s t j =
       subst (λ (y : ℕ). BoardCode y (tilesOf bs) code) (sym v ∙ hd .version)
-      (j .code-of (tilesOf bs) (omega (arith, length-tiles bs (fieldAt bs 4 5 * fieldAt bs 9 5), area-is, area-few)) (tallied-tiles R bs some s x t))
+      (j .code-of (tilesOf bs) (omega (arith, length-tiles bs (fieldAt bs 4 5 * fieldAt bs 9 5), area-is, area-few)) (summed-tiles R bs some s x t))
 
   pub judged-0 : (R code : ℕ) → code ≡ 0 → Ranged (levelOf bs) → Shaped R bs → BoardCode (fieldAt bs 0 4) (tilesOf bs) code
       → JudgedAs R bs (record { code = 0; width = f .width; height = f .height; par = f .par })

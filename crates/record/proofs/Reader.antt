@@ -15,8 +15,8 @@ use Rattle.level.specs.Strip.{columns}
 use Rattle.level.specs.Reading.{tilesIn, tilesOf, levelOf, Shaped, judging, readingRecord}
 use Rattle.level.proofs.Fields.{same-level}
 use Rattle.level.proofs.Judged.{length-tiles, spelled-record, spelled-level}
-use Rattle.tiles.specs.Part.{unpacked}
-use Rattle.tiles.proofs.Part.{partOf, unpacked-part}
+use Rattle.tiles.specs.Part.{tilesFrom}
+use Rattle.tiles.proofs.Part.{partOf, tilesFrom-part}
 use Rattle.record.specs.declared.read.Judged.{Judged}
 use Rattle.record.specs.declared.read.RecordRead.the-variants as read
 use Rattle.record.specs.Reading.{RecordReadsAs, JudgedAs, AcceptedAs}
@@ -75,13 +75,13 @@ module _ (lanes : ℕ) (bs : List ℕ) (r : Judged) (J : JudgedAs lanes bs r) (o
     pub room-for : 0 < lanes → 3 * (r .width * r .height) ≤ 8 * length (partOf bs)
     room-for some = omega (arith, area, part-fits lanes bs some (passed lanes bs (r .code) z (J .first) .1 .0))
 
-    pub accepted : (new : List ℕ) → new ≡ unpacked (partOf bs) (r .width * r .height) ++ drop (r .width * r .height) old → AcceptedAs lanes bs old new r
+    pub accepted : (new : List ℕ) → new ≡ tilesFrom (partOf bs) (r .width * r .height) ++ drop (r .width * r .height) old → AcceptedAs lanes bs old new r
     accepted new e = record {
       first = J .first;
       width = λ z. J .spells z .width;
       height = λ z. J .spells z .height;
       par = λ z. J .spells z .par;
-      tiles = λ _. e ∙ ap (λ (ts : List ℕ). ts ++ drop (r .width * r .height) old) (unpacked-part bs (r .width * r .height) ∙ ap (tilesIn bs) area);
+      tiles = λ _. e ∙ ap (λ (ts : List ℕ). ts ++ drop (r .width * r .height) old) (tilesFrom-part bs (r .width * r .height) ∙ ap (tilesIn bs) area);
       kept = λ n. absurd (n z);
     }
 

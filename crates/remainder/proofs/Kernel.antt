@@ -81,11 +81,8 @@ joined k a b x z X Z = record {
       ∙ sym (laws.add-mul gf256 field256 a b (power gf256 (alphaTo gf256 j) (5 + k)));
 }
 
-low : (x : ℕ) → x % 256 < 256
+pub low : (x : ℕ) → x % 256 < 256
 low x = mod-lt x (zero-lt-suc 255)
-
-pub byte : (x : ℕ) → x % 256 < 256
-byte = low
 
 pub top-byte : (r : ℕ) → r < packedEnd → r / 4294967296 < 256
 top-byte r h = omega arith

@@ -4,7 +4,7 @@ use mathlib.Core.List.{List, [], _∷_, _++_, append-assoc}
 use mathlib.Core.Logic.{_⊎_, ⊎-elim, inl, inr}
 use mathlib.Core.Bool.{Bool, true, false}
 use Prim.Native.Nat.{ℕ, zero, suc, _+_, _*_, _-_, _/_, _%_, _<_, _≤_}
-use native.Mathlib.Nat.{mul-add, mul-suc, mul-zero, mul-one, mul-comm, mul-assoc, mul-le-mul-left, mul-div-le, mul-div-right, div-add-mod, mod-lt, mul-mod-right, mod-self}
+use native.Mathlib.Nat.{mul-add, mul-suc, mul-zero, mul-one, mul-comm, mul-assoc, mul-le-mul-left, mul-div-le, div-add-mod, mod-lt, mul-mod-right, mod-self}
 use native.Mathlib.Numerals.{add-one}
 use native.Mathlib.Omega.{arith}
 use borrow.Author.Count.{below-more}
@@ -15,10 +15,10 @@ use lib.Seq.{ext-getD, getD-take, getD-drop, getD-set-same, getD-set-other, leng
 use Rattle.rules.proofs.Numbers.{lt-or-ge}
 use Rattle.account.specs.Lanes.{lane}
 use Rattle.account.proofs.Test.{both, both-left, both-right}
-use Rattle.account.proofs.Lanes.{length-lane, getD-lane, getD-past, cell-below}
+use Rattle.account.proofs.Lanes.{length-lane, getD-lane, getD-past, cell-below, columns-of}
 use Rattle.remainder.specs.Remainder.{packedEnd, Reduced, Moved, Remains, Checks, LanesTo, LanesRemain, LanesCheck, FewOf, Room, fiveAt, RowMoved, RowsMoved}
 use Rattle.reductions.specs.Tables.{fifth, sixth, seventh, eighth, ninth}
-use Rattle.remainder.proofs.Kernel.{AllBytes, moved1, moved5, byte, top-byte}
+use Rattle.remainder.proofs.Kernel.{AllBytes, moved1, moved5, low, top-byte}
 use Rattle.remainder.proofs.Rules.{at-5, at-6, at-7, at-8, at-9}
 use Rattle.remainder.proofs.Whole.{begins, goes-on, moved-none, moved-more, checked}
 
@@ -56,9 +56,9 @@ stepped R s p r h a b c d e x0 x1 x2 x3 x4 A B C D E e0 e1 e2 e3 e4 =
     subst (λ (v : List ℕ). Moved r v (bitXor (a * 4294967296 + b * 16777216 + c * 65536 + d * 256 + e) (bitXor (bitXor (bitXor x0 x1) (bitXor x2 x3)) x4)))
     (five-same R s p a b c d e (A .0) (B .0) (C .0) (D .0) (E .0))
     (moved5 r h a b c d e x0 x1 x2 x3 x4 (A .1) (B .1) (C .1) (D .1) (E .1)
-    (subst (Reduced 0 (r % 256)) (sym e0) (at-5 (r % 256) (byte r))) (subst (Reduced 1 (r / 256 % 256)) (sym e1) (at-6 (r / 256 % 256) (byte (r / 256))))
-    (subst (Reduced 2 (r / 65536 % 256)) (sym e2) (at-7 (r / 65536 % 256) (byte (r / 65536))))
-    (subst (Reduced 3 (r / 16777216 % 256)) (sym e3) (at-8 (r / 16777216 % 256) (byte (r / 16777216))))
+    (subst (Reduced 0 (r % 256)) (sym e0) (at-5 (r % 256) (low r))) (subst (Reduced 1 (r / 256 % 256)) (sym e1) (at-6 (r / 256 % 256) (low (r / 256))))
+    (subst (Reduced 2 (r / 65536 % 256)) (sym e2) (at-7 (r / 65536 % 256) (low (r / 65536))))
+    (subst (Reduced 3 (r / 16777216 % 256)) (sym e3) (at-8 (r / 16777216 % 256) (low (r / 16777216))))
     (subst (Reduced 4 (r / 4294967296)) (sym e4) (at-9 (r / 4294967296) (top-byte r h))))
 
 module _ (R : ℕ) where
@@ -97,9 +97,6 @@ module _ (R : ℕ) (some : 0 < R) where
   -- the cell k columns on
   on : (i j k : ℕ) → R * i + j + k * R ≡ R * (i + k) + j
   on i j k = omega (arith, mul-add R i k, mul-comm R k)
-
-  pub columns-mul : (m : ℕ) (s : List ℕ) → length s ≡ R * m → length s / R ≡ m
-  columns-mul m s e = ap (λ (n : ℕ). n / R) e ∙ mul-div-right m some
 
   -- five cells of a lane, by their places
   five-cells : (s : List ℕ) (i j : ℕ) → j < R → i + 4 < length s / R
@@ -156,7 +153,7 @@ module _ (R : ℕ) (some : 0 < R) where
     five k = ap (λ (x : ℕ). x * k) (mul-comm 5 R) ∙ mul-assoc R 5 k
 
     lane-long : (j : ℕ) → length (lane R j s) ≡ 5 * (length s / (5 * R))
-    lane-long j = length-lane R some j s ∙ columns-mul (5 * (length s / (5 * R))) s (all ∙ five (length s / (5 * R)))
+    lane-long j = length-lane R some j s ∙ columns-of R some s (5 * (length s / (5 * R))) (all ∙ five (length s / (5 * R)))
 
     pub rows-0 : Rows R s o o 0
     rows-0 = record {
@@ -186,7 +183,7 @@ module _ (R : ℕ) (some : 0 < R) where
         long = long ∙ W .long;
         moved = λ j hj.
             let i : ℕ = 5 * W .m in
-            let l : 5 * W .m + 4 < length s / R = omega (arith, below h, columns-mul (5 * (length s / (5 * R))) s (all ∙ five (length s / (5 * R)))) in
+            let l : 5 * W .m + 4 < length s / R = omega (arith, below h, columns-of R some s (5 * (length s / (5 * R))) (all ∙ five (length s / (5 * R)))) in
             let z : 5 * (W .m + 1) ≡ 5 * W .m + 5 = omega arith in
             subst (λ (v : List ℕ). Moved (getD o j 0) v (getD x' j 0))
             (sym (ap (λ (n : ℕ). take n (lane R j s)) z ∙ take-five (lane R j s) (5 * W .m) (omega (arith, length-lane R some j s))))
@@ -261,7 +258,7 @@ module _ (R : ℕ) (some : 0 < R) where
           length-take-le (R * (length s / R) - R * h) (drop (R * h) s) (omega (arith, length-drop (R * h) s, mul-div-le (length s) R)) ∙ omega (arith, cut)
 
       part-wide : length (take (R * (length s / R) - R * h) (drop (R * h) s)) / R ≡ length s / R - h
-      part-wide = columns-mul (length s / R - h) (take (R * (length s / R) - R * h) (drop (R * h) s)) part-long
+      part-wide = columns-of R some (take (R * (length s / R) - R * h) (drop (R * h) s)) (length s / R - h) part-long
 
       wide : length (lane R j (take (R * (length s / R) - R * h) (drop (R * h) s))) ≡ length s / R - h
       wide = length-lane R some j (take (R * (length s / R) - R * h) (drop (R * h) s)) ∙ part-wide
@@ -294,7 +291,7 @@ module _ (R : ℕ) (some : 0 < R) where
       checked (lane R j d) (getD o j 0) (getD x j 0) (H j hj) (subst (λ (v : List ℕ). Moved (getD o j 0) v (getD x j 0)) zero-lane (M j hj))
     where
       five-long : length (lane R j z) ≡ 5
-      five-long = length-lane R some j z ∙ columns-mul 5 z (long ∙ mul-comm 5 R)
+      five-long = length-lane R some j z ∙ columns-of R some z 5 (long ∙ mul-comm 5 R)
 
       zero-lane : lane R j z ≡ 0 ∷ 0 ∷ 0 ∷ 0 ∷ 0 ∷ []
       zero-lane =
@@ -326,9 +323,6 @@ zero-room R l a b e t = record { some = a; few = b; long = e; small = λ j h. om
 -- ---- what the whole asks
 
 module _ (R : ℕ) (some : 0 < R) (s : List ℕ) where
-  abbrev n : ℕ
-  n = length s / R
-
   pub head-inside : R * (length s / R % 5) ≤ R * (length s / R)
   head-inside = mul-le-mul-left R (omega arith)
 

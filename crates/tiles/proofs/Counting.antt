@@ -11,8 +11,8 @@ use Rattle.rules.proofs.Numbers.{lt-or-ge}
 use Rattle.account.specs.Lists.{listOf, sumOf}
 use Rattle.account.proofs.Lanes.{getD-past}
 use Rattle.level.specs.Record.{bitAt, fieldAt}
-use Rattle.tiles.specs.Part.{unpacked, threeAt}
-use Rattle.tiles.specs.Sum.{weighed, weight, Tallied, pairsOf}
+use Rattle.tiles.specs.Part.{tilesFrom, threeAt}
+use Rattle.tiles.specs.Sum.{weighed, weight, PartSummed, pairsOf}
 use Rattle.tiles.proofs.Eight.{eight, eight-at, six-1, last-1, first-1, six-2, last-2, first-2, six-3, last-3, first-3, first-4, last-4}
 
 -- one pair more
@@ -125,11 +125,11 @@ module _ (part : List ℕ) (m : ℕ) (room : 3 * m ≤ 8 * length part) (none : 
   past : (i : ℕ) → addsAt part (m + i) ≡ 0
   past i = ap weighed (field-none part (3 * (m + i)) 3 (λ q h. blank q (omega arith)))
 
-  tiles : sumOf m (addsAt part) ≡ weight (unpacked part m)
-  unfolding unpacked
+  tiles : sumOf m (addsAt part) ≡ weight (tilesFrom part m)
+  unfolding tilesFrom
   tiles = sym (weight-list m (λ i. fieldAt part (3 * i) 3))
 
-  all-tiles : (x g : ℕ) → length part ≤ 3 * g → x ≡ sumOf (8 * g) (addsAt part) → x ≡ weight (unpacked part m)
+  all-tiles : (x g : ℕ) → length part ≤ 3 * g → x ≡ sumOf (8 * g) (addsAt part) → x ≡ weight (tilesFrom part m)
   all-tiles x g all e =
       let n : 8 * g ≡ m + (8 * g - m) = omega arith in
       omega (
@@ -140,5 +140,5 @@ module _ (part : List ℕ) (m : ℕ) (room : 3 * m ≤ 8 * length part) (none : 
         tiles,
       )
 
-pub tallied : (part : List ℕ) (x g : ℕ) → length part ≤ 3 * g → x ≡ sumOf (8 * g) (addsAt part) → Tallied part x
-tallied part x g all e = record { sum = λ m room none. all-tiles part m room none x g all e }
+pub part-summed : (part : List ℕ) (x g : ℕ) → length part ≤ 3 * g → x ≡ sumOf (8 * g) (addsAt part) → PartSummed part x
+part-summed part x g all e = record { sum = λ m room none. all-tiles part m room none x g all e }

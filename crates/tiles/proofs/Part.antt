@@ -10,15 +10,15 @@ use Rattle.level.specs.Record.{bitAt, fieldAt}
 use Rattle.level.specs.Reading.{tilesIn}
 use Rattle.level.proofs.Judged.{length-tiles, getD-tiles}
 use Rattle.level.proofs.Windows.{bit-part, field-part}
-use Rattle.tiles.specs.Part.{unpacked}
+use Rattle.tiles.specs.Part.{tilesFrom}
 
-pub length-unpacked : (part : List ℕ) (m : ℕ) → length (unpacked part m) ≡ m
-unfolding unpacked
-length-unpacked part m = length-listOf m (λ i. fieldAt part (3 * i) 3)
+pub length-tilesFrom : (part : List ℕ) (m : ℕ) → length (tilesFrom part m) ≡ m
+unfolding tilesFrom
+length-tilesFrom part m = length-listOf m (λ i. fieldAt part (3 * i) 3)
 
-pub getD-unpacked : (part : List ℕ) (m i : ℕ) → i < m → getD (unpacked part m) i 0 ≡ fieldAt part (3 * i) 3
-unfolding unpacked
-getD-unpacked part m i h = getD-listOf m (λ k. fieldAt part (3 * k) 3) i h
+pub getD-tilesFrom : (part : List ℕ) (m i : ℕ) → i < m → getD (tilesFrom part m) i 0 ≡ fieldAt part (3 * i) 3
+unfolding tilesFrom
+getD-tilesFrom part m i h = getD-listOf m (λ k. fieldAt part (3 * k) 3) i h
 
 -- the part as it is lent
 module _ (bs : List ℕ) where
@@ -37,8 +37,8 @@ module _ (bs : List ℕ) where
   pub bit-on : (p : ℕ) → bitAt partOf p ≡ bitAt bs (24 + p)
   bit-on p = bit-part bs partOf 3 same p
 
-  pub unpacked-part : (m : ℕ) → unpacked partOf m ≡ tilesIn bs m
-  unpacked-part m =
-      ext-getD 0 (unpacked partOf m) (tilesIn bs m) (length-unpacked partOf m ∙ sym (length-tiles bs m)) (λ i l.
-      let k : i < m = omega (arith, length-unpacked partOf m) in
-      getD-unpacked partOf m i k ∙ field-part bs partOf 3 same (3 * i) 3 ∙ sym (getD-tiles bs m i k))
+  pub tilesFrom-part : (m : ℕ) → tilesFrom partOf m ≡ tilesIn bs m
+  tilesFrom-part m =
+      ext-getD 0 (tilesFrom partOf m) (tilesIn bs m) (length-tilesFrom partOf m ∙ sym (length-tiles bs m)) (λ i l.
+      let k : i < m = omega (arith, length-tilesFrom partOf m) in
+      getD-tilesFrom partOf m i k ∙ field-part bs partOf 3 same (3 * i) 3 ∙ sym (getD-tiles bs m i k))

@@ -9,9 +9,9 @@ use lib.ListN.{length, getD, take, drop, set, length-append, length-drop, List·
 use lib.Seq.{sets, sets-eq, getD-take, getD-drop, getD-append-add, length-take-le, ext-getD, getD-set-same, getD-set-other}
 use Rattle.rules.proofs.Numbers.{lt-or-ge}
 use Rattle.level.specs.Record.{fieldAt}
-use Rattle.tiles.specs.Part.{unpacked, threeAt}
+use Rattle.tiles.specs.Part.{tilesFrom, threeAt}
 use Rattle.tiles.specs.Put.{spreadOf, byteOf, Puts}
-use Rattle.tiles.proofs.Part.{length-unpacked, getD-unpacked}
+use Rattle.tiles.proofs.Part.{length-tilesFrom, getD-tilesFrom}
 use Rattle.tiles.proofs.Eight.{eight, eight-at, six-1, last-1, first-1, six-2, last-2, first-2, six-3, last-3, first-3, first-4, last-4}
 
 -- ---- pairs spread
@@ -202,16 +202,16 @@ tiles-next part old new g m w by ew p h i a b =
 
 -- all of them, and the rest as it was
 pub tiles-put : (part old new : List ℕ) (m : ℕ) → m ≤ length old → length new ≡ length old → ((i : ℕ) → i < m → getD new i 0 ≡ fieldAt part (3 * i) 3)
-    → ((i : ℕ) → m ≤ i → getD new i 0 ≡ getD old i 0) → new ≡ unpacked part m ++ drop m old
+    → ((i : ℕ) → m ≤ i → getD new i 0 ≡ getD old i 0) → new ≡ tilesFrom part m ++ drop m old
 tiles-put part old new m room same tile past =
-    ext-getD 0 new (unpacked part m ++ drop m old)
-    (omega (arith, length-append (unpacked part m) (drop m old), length-drop m old, length-unpacked part m)) (λ i l. ⊎-elim (λ a.
-    tile i a ∙ sym (getD-unpacked part m i a) ∙ sym (List·getD-append (unpacked part m) (drop m old) 0 i (omega (arith, length-unpacked part m)))) (λ b.
-    let e : m + (i - m) ≡ i = omega arith in subst (λ (q : ℕ). getD new q 0 ≡ getD (unpacked part m ++ drop m old) q 0) e (at (i - m))) (lt-or-ge i m))
+    ext-getD 0 new (tilesFrom part m ++ drop m old)
+    (omega (arith, length-append (tilesFrom part m) (drop m old), length-drop m old, length-tilesFrom part m)) (λ i l. ⊎-elim (λ a.
+    tile i a ∙ sym (getD-tilesFrom part m i a) ∙ sym (List·getD-append (tilesFrom part m) (drop m old) 0 i (omega (arith, length-tilesFrom part m)))) (λ b.
+    let e : m + (i - m) ≡ i = omega arith in subst (λ (q : ℕ). getD new q 0 ≡ getD (tilesFrom part m ++ drop m old) q 0) e (at (i - m))) (lt-or-ge i m))
   where
-    at : (d : ℕ) → getD new (m + d) 0 ≡ getD (unpacked part m ++ drop m old) (m + d) 0
+    at : (d : ℕ) → getD new (m + d) 0 ≡ getD (tilesFrom part m ++ drop m old) (m + d) 0
     at d =
         past (m + d) (omega arith)
         ∙ sym (getD-drop m old d 0)
-        ∙ sym (getD-append-add (unpacked part m) (drop m old) d 0)
-        ∙ ap (λ (n : ℕ). getD (unpacked part m ++ drop m old) (n + d) 0) (length-unpacked part m)
+        ∙ sym (getD-append-add (tilesFrom part m) (drop m old) d 0)
+        ∙ ap (λ (n : ℕ). getD (tilesFrom part m ++ drop m old) (n + d) 0) (length-tilesFrom part m)

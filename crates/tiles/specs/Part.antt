@@ -6,9 +6,9 @@ use Rattle.account.specs.Lists.{listOf}
 use Rattle.level.specs.Record.{fieldAt}
 
 -- the first m tiles
-unfoldable pub unpacked : List ℕ → ℕ → List ℕ
+unfoldable pub tilesFrom : List ℕ → ℕ → List ℕ
 unfolding listOf
-unpacked part m = listOf m (λ i. fieldAt part (3 * i) 3)
+tilesFrom part m = listOf m (λ i. fieldAt part (3 * i) 3)
 
 -- ---- parts
 

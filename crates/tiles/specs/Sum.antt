@@ -7,7 +7,7 @@ use lib.Dec.{ltb}
 use lib.ListN.{length}
 use Rattle.level.specs.Tile.{Row, adds}
 use Rattle.level.specs.Record.{bitAt}
-use Rattle.tiles.specs.Part.{unpacked}
+use Rattle.tiles.specs.Part.{tilesFrom}
 
 -- twelve bits a sum; 36 to 47 are free
 abbrev pub packed : Row → ℕ
@@ -22,8 +22,8 @@ weight [] = 0
 weight (t ∷ ts) = weighed t + weight ts
 
 -- the sum of the tiles of a record's part, however many there are before its filling
-pub record Tallied (part : List ℕ) (r : ℕ) : Type 0 where
-  pub sum : (m : ℕ) → 3 * m ≤ 8 * length part → ((p : ℕ) → 3 * m ≤ p → p < 8 * length part → bitAt part p ≡ 0) → r ≡ weight (unpacked part m)
+pub record PartSummed (part : List ℕ) (r : ℕ) : Type 0 where
+  pub sum : (m : ℕ) → 3 * m ≤ 8 * length part → ((p : ℕ) → 3 * m ≤ p → p < 8 * length part → bitAt part p ≡ 0) → r ≡ weight (tilesFrom part m)
 
 -- ---- parts
 

@@ -3,7 +3,7 @@ ghost use mathlib.Core.Path.{_≡_};
 ghost use mathlib.Core.List.{_++_};
 ghost use Prim.Native.Nat.{_+_, _*_, _/_, _%_, _≤_, _<_};
 ghost use lib.ListN.{length, drop};
-ghost use Rattle.tiles.specs.Part.{unpacked};
+ghost use Rattle.tiles.specs.Part.{tilesFrom};
 ghost use Rattle.tiles.specs.Put.{spreadOf, Puts};
 ghost use Rattle.level.specs.Sizes.{tilesMost};
 
@@ -77,7 +77,7 @@ fn put_rest(out: &mut [u8], k: usize, m: usize, w: u64)
 // The first m tiles of a record's part from byte 3; what is past them keeps its value.
 pub fn unpack(part: &[u8], m: usize, tiles: &mut [u8])
     requires { ⌜ (m ≤ tilesMost) × (3 * m ≤ 8 * length (now part)) × (m ≤ length (now tiles)) ⌝ }
-    ensures { λ _. ⌜ now (tiles .exit) ≡ unpacked (now (part .entry)) m ++ drop m (now (tiles .entry)) ⌝ }
+    ensures { λ _. ⌜ now (tiles .exit) ≡ tilesFrom (now (part .entry)) m ++ drop m (now (tiles .entry)) ⌝ }
 {
     let n = m / 8;
     let mut g: usize = 0;

@@ -6,7 +6,7 @@ use lib.ListN.{length}
 use Rattle.account.specs.Lists.{sumOf}
 use Rattle.tiles.specs.Sum.{weighed}
 use Rattle.tiles.specs.Sum.{pairsOf}
-use Rattle.tiles.proofs.Counting.{addsAt, sum-next, tallied}
+use Rattle.tiles.proofs.Counting.{addsAt, sum-next, part-summed}
 use Rattle.tiles.proofs.count.tally.Statement.{statement}
 use Rattle.tiles.proofs.count.tally.Tie as tie
 
@@ -73,7 +73,7 @@ returns c =
     let part = c .before .before .before .before .before .before .before .args .part .now in
     let k = c .before .before .before .before .before .before .shared-slice-known .given in
     let e = c .eight-last .ensures .0 ∙ ap (pairsOf weighed 4) (c .before .last .ensures) in
-    tallied part (l .x + c .eight-last .result) (l .g + 1) (omega arith) (omega (arith, e, sum-next weighed part (l .g) (λ q. omega (arith, k q)), l .inv .2))
+    part-summed part (l .x + c .eight-last .result) (l .g + 1) (omega arith) (omega (arith, e, sum-next weighed part (l .g) (λ q. omega (arith, k q)), l .inv .2))
 
 pub tally-spec : {M : Type 1} → statement M
 tally-spec =

@@ -18,7 +18,7 @@ use Rattle.tiles.proofs.Part.{partOf, length-part, bit-on, tilesFrom-part}
 use Rattle.record.specs.declared.read.Head.{Head}
 use Rattle.record.specs.declared.read.Judged.{Judged}
 use Rattle.record.specs.Sum.{BoardCode, SumCode}
-use Rattle.record.specs.Reading.{Heads, without, JudgedAs}
+use Rattle.record.specs.Reading.{Heads, HeadRanged, without, JudgedAs}
 use Rattle.record.proofs.Tiles.{area-small}
 use Rattle.record.proofs.Reading.{field-5}
 
@@ -26,7 +26,7 @@ module _ (R : ℕ) (bs : List ℕ) where
   refusal : (code : ℕ) → (code ≡ 0 → ⊥) → First (asked (λ ask. ask bs) (judging R)) code → JudgedAs R bs (without code)
   refusal code n f = record { first = f; spells = λ z. absurd (n z); none = λ _. refl }
 
-  judged-none : (r : Judged) (code : ℕ) → r ≡ without code → (code ≡ 0 → ⊥) → First (asked (λ ask. ask bs) (judging R)) code → JudgedAs R bs r
+  pub judged-none : (r : Judged) (code : ℕ) → r ≡ without code → (code ≡ 0 → ⊥) → First (asked (λ ask. ask bs) (judging R)) code → JudgedAs R bs r
   judged-none r code e n f = subst (JudgedAs R bs) (sym e) (refusal code n f)
 
   pub judged-7 : (r : Judged) → r ≡ without 7 → (Ranged (levelOf bs) → ⊥) → JudgedAs R bs r
@@ -34,10 +34,6 @@ module _ (R : ℕ) (bs : List ℕ) where
 
   pub judged-8 : (r : Judged) → r ≡ without 8 → Ranged (levelOf bs) → (Shaped R bs → ⊥) → JudgedAs R bs r
   judged-8 r e h n = judged-none r 8 e (λ z. omega arith) (stops 1 (asked (λ ask. ask bs) (judging R)) 8 (h, (n, refl)))
-
-  pub judged-later : (r : Judged) (code : ℕ) → r ≡ without code → (code ≡ 0 → ⊥) → Ranged (levelOf bs) → Shaped R bs
-      → BoardCode (fieldAt bs 0 4) (tilesOf bs) code → JudgedAs R bs r
-  judged-later r code e n h s f = judged-none r code e n (inr (h, inr (s, f)))
 
 -- the bytes have room for the tiles, and so has their part from byte 3
 module _ (R : ℕ) (bs : List ℕ) (some : 0 < R) (s : Shaped R bs) where
@@ -53,6 +49,10 @@ module _ (R : ℕ) (bs : List ℕ) (some : 0 < R) (s : Shaped R bs) where
       t .sum (fieldAt bs 4 5 * fieldAt bs 9 5) part-fits (λ p a b. bit-on bs p ∙ s .filling (24 + p) (omega arith) (omega (arith, length-part bs)))
       ∙ ap weight (tilesFrom-part bs (fieldAt bs 4 5 * fieldAt bs 9 5))
 
+-- the head is one that a level has
+abbrev pub Opens : Head → Type 0
+Opens f = HeadRanged (f .version) (f .width) (f .height)
+
 module _ (bs : List ℕ) (f : Head) (hd : Heads bs f) where
   pub area-is : f .width * f .height ≡ fieldAt bs 4 5 * fieldAt bs 9 5
   area-is = ap₂ (λ (x y : ℕ). x * y) (hd .width) (hd .height)
@@ -60,24 +60,41 @@ module _ (bs : List ℕ) (f : Head) (hd : Heads bs f) where
   pub area-few : f .width * f .height ≤ 961
   area-few = area-small (f .width) (f .height) (omega (arith, hd .width, field-5 bs 4)) (omega (arith, hd .height, field-5 bs 9))
 
-  pub headed : f .version ≡ 1 → 1 ≤ f .width → 1 ≤ f .height → Ranged (levelOf bs)
-  headed v w h = record {
-    known = omega (arith, hd .version);
-    sized = record { wide = omega (arith, hd .width); not-wider = field-5 bs 4; high = omega (arith, hd .height); not-higher = field-5 bs 9 };
+  pub headed : Opens f → Ranged (levelOf bs)
+  headed k = record {
+    known = omega (arith, hd .version, k .known);
+    sized = record {
+      wide = omega (arith, hd .width, k .wide);
+      not-wider = field-5 bs 4;
+      high = omega (arith, hd .height, k .high);
+      not-higher = field-5 bs 9;
+    };
     par-small = omega (arith, field-below bs 14 10);
   }
 
+  pub head-of-level : Ranged (levelOf bs) → Opens f
+  head-of-level r = record {
+    known = omega (arith, hd .version, r .known);
+    wide = omega (arith, hd .width, r .sized .wide);
+    high = omega (arith, hd .height, r .sized .high);
+  }
+
   -- what the tiles add tells their refusal
-  pub boarded : f .version ≡ 1 → (R x code : ℕ) → 0 < R → Shaped R bs → PartSummed (partOf bs) x → SumCode 1 x code
+  boarded : f .version ≡ 1 → (R x code : ℕ) → 0 < R → Shaped R bs → PartSummed (partOf bs) x → SumCode 1 x code
       → BoardCode (fieldAt bs 0 4) (tilesOf bs) code
   boarded v R x code some s t j =
       subst (λ (y : ℕ). BoardCode y (tilesOf bs) code) (sym v ∙ hd .version)
       (j .code-of (tilesOf bs) (omega (arith, length-tiles bs (fieldAt bs 4 5 * fieldAt bs 9 5), area-is, area-few)) (summed-tiles R bs some s x t))
 
-  pub judged-0 : (R code : ℕ) → code ≡ 0 → Ranged (levelOf bs) → Shaped R bs → BoardCode (fieldAt bs 0 4) (tilesOf bs) code
+  -- where head and shape hold, the tiles decide
+  pub judged-by-tiles : (R x code : ℕ) → 0 < R → Opens f → Shaped R bs → PartSummed (partOf bs) x → SumCode 1 x code
+      → First (asked (λ ask. ask bs) (judging R)) code
+  judged-by-tiles R x code some k s t j = inr (headed k, inr (s, boarded (k .known) R x code some s t j))
+
+  pub judged-0 : (R code : ℕ) → code ≡ 0 → First (asked (λ ask. ask bs) (judging R)) code
       → JudgedAs R bs (record { code = 0; width = f .width; height = f .height; par = f .par })
-  judged-0 R code z h s k = record {
-    first = inr (h, inr (s, subst (BoardCode (fieldAt bs 0 4) (tilesOf bs)) z k));
+  judged-0 R code z k = record {
+    first = subst (First (asked (λ ask. ask bs) (judging R))) z k;
     spells = λ _. record { width = hd .width; height = hd .height; par = hd .par; few = area-few };
     none = λ n. absurd (n refl);
   }

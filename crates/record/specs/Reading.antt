@@ -36,6 +36,12 @@ pub record Heads (bs : List ℕ) (r : Head) : Type 0 where
   pub height : r .height ≡ fieldAt bs 9 5
   pub par : r .par ≡ fieldAt bs 14 10
 
+-- of a version and a size that a level has
+pub record HeadRanged (version width height : ℕ) : Type 0 where
+  pub known : version ≡ 1
+  pub wide : 1 ≤ width
+  pub high : 1 ≤ height
+
 -- a refusal
 abbrev pub without : ℕ → Judged
 without code = record { code = code; width = 0; height = 0; par = 0 }

@@ -5,7 +5,7 @@ ghost use lib.ListN.{length};
 ghost use Rattle.rules.specs.Says.{Says};
 ghost use Rattle.level.specs.Record.{bitAt, fieldAt};
 ghost use Rattle.level.specs.Reading.{Shaped};
-ghost use Rattle.record.specs.Reading.{Heads, without, JudgedAs, AcceptedAs, RecordReadsAs};
+ghost use Rattle.record.specs.Reading.{Heads, HeadRanged, without, JudgedAs, AcceptedAs, RecordReadsAs};
 ghost use Rattle.level.specs.Sizes.{tilesMost, recordLeast, recordMost};
 use level::RECORD_LEAST;
 use level::RECORD_MOST;
@@ -32,6 +32,22 @@ fn head_of(bs: &[u8]) -> Head
         height: b / 4 % 32,
         par: b % 4 * 256 + c,
     }
+}
+
+// The fields are in their ranges; the bits of each leave no room above.
+fn head_ranged(version: usize, width: usize, height: usize) -> bool
+    ensures { λ r. ⌜ Says r (HeadRanged version width height) ⌝ }
+{
+    if version != 1 {
+        return false;
+    }
+    if width < 1 {
+        return false;
+    }
+    if height < 1 {
+        return false;
+    }
+    true
 }
 
 // Bit p, the most significant of each byte first.
@@ -97,13 +113,7 @@ fn judge(bs: &[u8], lanes: usize) -> Judged
     ensures { λ r. ⌜ JudgedAs lanes (now (bs .entry)) r ⌝ }
 {
     let f = head_of(bs);
-    if f.version != 1 {
-        return refused(7);
-    }
-    if f.width < 1 {
-        return refused(7);
-    }
-    if f.height < 1 {
+    if !head_ranged(f.version, f.width, f.height) {
         return refused(7);
     }
     let m = f.width * f.height;

@@ -2,6 +2,7 @@
 ghost use mathlib.Core.Path.{_≡_};
 ghost use Prim.Native.Nat.{ℕ, _+_, _*_, _≤_, _<_};
 ghost use lib.ListN.{length};
+ghost use Rattle.rules.specs.Refusal.{Within};
 ghost use Rattle.rules.specs.Says.{Says};
 ghost use Rattle.level.specs.Record.{bitAt, fieldAt};
 ghost use Rattle.level.specs.Reading.{Shaped};
@@ -78,7 +79,7 @@ fn blank(bs: &[u8], from: usize) -> bool
 
 // The length is that of the size, and what is left over is blank.
 fn shaped(bs: &[u8], lanes: usize, m: usize) -> bool
-    requires { ⌜ (length (now bs) ≤ recordMost) × (1 ≤ lanes) × (lanes ≤ 16) × (m ≡ fieldAt (now bs) 4 5 * fieldAt (now bs) 9 5) × (m ≤ tilesMost) ⌝ }
+    requires { ⌜ (length (now bs) ≤ recordMost) × Within 1 16 lanes × (m ≡ fieldAt (now bs) 4 5 * fieldAt (now bs) 9 5) × (m ≤ tilesMost) ⌝ }
     ensures { λ r. ⌜ Says r (Shaped lanes (now (bs .entry))) ⌝ }
 {
     let n = 3 + (3 * m + 7) / 8;
@@ -109,7 +110,7 @@ fn refused(code: u8) -> Judged
 
 // Refusals 7 to 10 of a record, or of the data cells of a strip of that many lanes.
 fn judge(bs: &[u8], lanes: usize) -> Judged
-    requires { ⌜ (recordLeast ≤ length (now bs)) × (length (now bs) ≤ recordMost) × (1 ≤ lanes) × (lanes ≤ 16) ⌝ }
+    requires { ⌜ Within recordLeast recordMost (length (now bs)) × Within 1 16 lanes ⌝ }
     ensures { λ r. ⌜ JudgedAs lanes (now (bs .entry)) r ⌝ }
 {
     let f = head_of(bs);
@@ -144,7 +145,7 @@ pub enum RecordRead {
 
 // The record judged, or the data cells of a strip of that many lanes; its tiles are written only where nothing is refused.
 pub fn accept(bs: &[u8], lanes: usize, tiles: &mut [u8]) -> Judged
-    requires { ⌜ (recordLeast ≤ length (now bs)) × (length (now bs) ≤ recordMost) × (1 ≤ lanes) × (lanes ≤ 16) × (tilesMost ≤ length (now tiles)) ⌝ }
+    requires { ⌜ Within recordLeast recordMost (length (now bs)) × Within 1 16 lanes × (tilesMost ≤ length (now tiles)) ⌝ }
     ensures { λ r. ⌜ AcceptedAs lanes (now (bs .entry)) (now (tiles .entry)) (now (tiles .exit)) r ⌝ }
 {
     let j = judge(bs, lanes);

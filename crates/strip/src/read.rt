@@ -3,6 +3,7 @@ ghost use mathlib.Core.Path.{_≡_};
 ghost use Prim.Native.Nat.{_*_, _-_, _≤_, _<_};
 ghost use lib.ListN.{length};
 ghost use Rattle.account.specs.Reach.{countTo, isMarked};
+ghost use Rattle.rules.specs.Refusal.{Within};
 ghost use Rattle.rules.specs.Says.{Says};
 ghost use Rattle.level.specs.Strip.{Legal, wearOf};
 ghost use Rattle.lanes.specs.Lanes.{Ready, MendedAs};
@@ -76,7 +77,7 @@ fn enter(strip: &[u8], marks: &[u8], tiles: usize, scratch: usize) -> Entered
 
 // Percent of the cells that were mended, rounded down.
 fn wear(mended: usize, n: usize) -> usize
-    requires { ⌜ (mended ≤ 8) × (stripLeast ≤ n) × (n ≤ stripMost) ⌝ }
+    requires { ⌜ (mended ≤ 8) × Within stripLeast stripMost n ⌝ }
     ensures { λ r. ⌜ r ≡ wearOf mended n ⌝ }
 {
     100 * mended / n
@@ -94,7 +95,7 @@ fn mend(strip: &[u8], marks: &[u8], f: usize, scratch: &mut [u8]) -> lanes::Mend
 
 // The record in the data cells of a strip of n cells of which so many were mended.
 fn finish(bs: &[u8], n: usize, mended: usize, tiles: &mut [u8]) -> Reading
-    requires { ⌜ (recordLeast ≤ length (now bs)) × (length (now bs) ≤ recordMost) × (tilesMost ≤ length (now tiles)) × (mended ≤ 8) × (stripLeast ≤ n) × (n ≤ stripMost) ⌝ }
+    requires { ⌜ Within recordLeast recordMost (length (now bs)) × (tilesMost ≤ length (now tiles)) × (mended ≤ 8) × Within stripLeast stripMost n ⌝ }
     ensures { λ r. ⌜ FinishedAs 4 (now (bs .entry)) n mended (now (tiles .entry)) (now (tiles .exit)) (stripNumbers r) ⌝ }
 {
     let j = record::read::accept(bs, 4, tiles);

@@ -32,8 +32,8 @@ unpack-requires c κs =
     let j = c .before .before .before .before .judge in
     let z : j .result .code ≡ 0 = omega (arith, c .before .before .before .if1 .left) in
     let few = j .ensures .spells z .few in
-    let room = room-for (o .args .lanes) (o .args .bs .now) (j .result) (j .ensures) (o .args .tiles .now) z (o .pre .2) in
-    (omega (arith, few), omega (arith, room), omega (arith, few, o .pre .4))
+    let room = room-for (o .args .lanes) (o .args .bs .now) (j .result) (j .ensures) (o .args .tiles .now) z (o .pre .1 .from) in
+    (omega (arith, few), omega (arith, room), omega (arith, few, o .pre .2))
 
 same-length : tie.Need-same-length
 same-length c = search needs

@@ -34,7 +34,7 @@ shaped-requires c κs =
     let f = c .before .before .before .head-of in
     let o = c .before .before .before .before .before in
     let bs = o .args .bs .now in
-    (o .pre .1, o .pre .2, o .pre .3, area-is bs (f .result) (f .ensures), area-few bs (f .result) (f .ensures))
+    (o .pre .0 .to, o .pre .1, area-is bs (f .result) (f .ensures), area-few bs (f .result) (f .ensures))
 
 refused-requires-2 : tie.Need-refused-requires-2
 refused-requires-2 c κs = search needs
@@ -76,7 +76,7 @@ returns-3 c =
     let f = q .before .before .before .before .head-of in
     let o = q .before .before .before .before .before .before in
     judged-none (o .args .lanes) (o .args .bs .now) (c .refused3 .result) (b .result) (c .refused3 .ensures) (λ z. omega (arith, z, c .before .if3 .taken))
-    (judged-by-tiles (o .args .bs .now) (f .result) (f .ensures) (o .args .lanes) (s .tally .result) (b .result) (o .pre .2)
+    (judged-by-tiles (o .args .bs .now) (f .result) (f .ensures) (o .args .lanes) (s .tally .result) (b .result) (o .pre .1 .from)
     (said (Opens (f .result)) (t .result) (not-false (t .result) (q .before .before .if1 .left)) (t .ensures))
     (said (Shaped (o .args .lanes) (o .args .bs .now)) (q .shaped .result) (not-false (q .shaped .result) (s .before .before .if2 .left)) (q .shaped .ensures))
     (s .tally .ensures) (b .ensures))
@@ -90,7 +90,7 @@ returns-4 c =
     let f = q .before .before .before .before .head-of in
     let o = q .before .before .before .before .before .before in
     judged-0 (o .args .bs .now) (f .result) (f .ensures) (o .args .lanes) (b .result) (omega (arith, c .if3 .left))
-    (judged-by-tiles (o .args .bs .now) (f .result) (f .ensures) (o .args .lanes) (s .tally .result) (b .result) (o .pre .2)
+    (judged-by-tiles (o .args .bs .now) (f .result) (f .ensures) (o .args .lanes) (s .tally .result) (b .result) (o .pre .1 .from)
     (said (Opens (f .result)) (t .result) (not-false (t .result) (q .before .before .if1 .left)) (t .ensures))
     (said (Shaped (o .args .lanes) (o .args .bs .now)) (q .shaped .result) (not-false (q .shaped .result) (s .before .before .if2 .left)) (q .shaped .ensures))
     (s .tally .ensures) (b .ensures))

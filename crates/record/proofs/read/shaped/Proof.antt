@@ -26,7 +26,7 @@ mul-if1 : tie.Need-mul-if1
 mul-if1 c = let a = c .before .args in omega (arith, few (a .lanes) (a .m) (omega arith) (omega arith))
 
 returns : tie.Need-returns
-returns c = let a = c .before .before .args in misfits (a .lanes) (a .m) (a .bs .now) (c .before .before .pre .3) (λ z. omega (arith, z, c .if1 .taken))
+returns c = let a = c .before .before .args in misfits (a .lanes) (a .m) (a .bs .now) (c .before .before .pre .2) (λ z. omega (arith, z, c .if1 .taken))
 
 mul-blank : tie.Need-mul-blank
 mul-blank c = search needs
@@ -40,7 +40,7 @@ blank-requires c κs = search needs
 returns-2 : tie.Need-returns-2
 returns-2 c =
     let a = c .before .before .before .args in
-    blank-is (c .blank .result) (a .lanes) (a .m) (a .bs .now) (c .before .before .before .pre .3) (c .before .if1 .left) (c .blank .ensures)
+    blank-is (c .blank .result) (a .lanes) (a .m) (a .bs .now) (c .before .before .before .pre .2) (c .before .if1 .left) (c .blank .ensures)
 
 pub shaped-spec : {M : Type 1} → statement M
 shaped-spec =

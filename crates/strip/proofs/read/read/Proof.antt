@@ -79,14 +79,10 @@ finish-requires c κs =
     let e : length x ≡ length (a .scratch .now) = search needs in
     let l : length (take (length (a .strip .now) - 20 - 0) x) ≡ length (a .strip .now) - 20 = length-take-le (length (a .strip .now) - 20 - 0) x
     (omega (arith, r .legal .to, r .legal .cells, h .1 .1 .1 .1 .0, e)) ∙ omega arith in (
-      omega (arith, l, r .legal .from, r .legal .cells),
-      omega
-          (arith, l, r .legal .to, r .legal .cells),
+      record { from = omega (arith, l, r .legal .from, r .legal .cells); to = omega (arith, l, r .legal .to, r .legal .cells) },
       h .1 .1 .1 .0,
       c .before .before .before .before .before .before .mend .ensures .small,
-      omega
-          (arith, r .legal .from, r .legal .cells),
-      omega (arith, r .legal .to, r .legal .cells),
+      record { from = omega (arith, r .legal .from, r .legal .cells); to = omega (arith, r .legal .to, r .legal .cells) },
     )
 
 same-length-2 : tie.Need-same-length-2

@@ -7,3 +7,4 @@ pub mod Gathering
 pub mod CheckCells
 pub mod Answers
 pub mod Theorems
+pub mod Patching

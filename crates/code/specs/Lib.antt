@@ -3,3 +3,4 @@ pub mod Marks
 pub mod Repair
 pub mod Lane
 pub mod Lanes
+pub mod Patched

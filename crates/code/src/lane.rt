@@ -17,6 +17,15 @@ pub struct LaneRepair {
     pub answer: Repaired,
 }
 
+// At most five cells of a lane with the bytes that belong there, and how many unmarked ones were wrong; or that none will do.
+pub struct LaneErrata {
+    pub good: bool,
+    pub mended: usize,
+    pub count: usize,
+    pub cells: [usize; 5],
+    pub bytes: [u8; 5],
+}
+
 // The lane becomes the clean lane within reach, if there is one. Its marks are a lane too.
 pub fn repair_lane(lane: Lane, marks: Lane) -> LaneRepair
     ensures { λ r. ⌜ LaneRepairsAs lane marks r ⌝ }

@@ -13,6 +13,10 @@ ghost use Rattle.code.specs.Lane.{wordOf};
 ghost use Rattle.code.specs.Lanes.{LanesTested};
 ghost use Rattle.level.specs.Strip.{markedIn};
 ghost use Rattle.lanes.specs.Lanes.{Ready, Scattered, OneAs, MendedAs};
+
+pub mod fixes; // what is to be put right in a strip
+pub mod window; // parts of the mended strip
+
 use code::lane::Lane;
 use code::repair::Repaired;
 

@@ -1,10 +1,11 @@
 // Reading a record: judged first, and its tiles written only where nothing is refused.
 ghost use mathlib.Core.Path.{_≡_};
-ghost use Prim.Native.Nat.{ℕ, _+_, _*_, _≤_, _<_};
+ghost use Prim.Native.Nat.{ℕ, _+_, _*_, _/_, _≤_, _<_};
 ghost use lib.ListN.{length};
 ghost use Rattle.rules.specs.Refusal.{Within};
 ghost use Rattle.rules.specs.Says.{Says};
 ghost use Rattle.level.specs.Record.{bitAt, fieldAt};
+ghost use Rattle.level.specs.Strip.{columns};
 ghost use Rattle.level.specs.Reading.{Shaped};
 ghost use Rattle.record.specs.Reading.{Heads, HeadRanged, without, JudgedAs, AcceptedAs, RecordReadsAs};
 ghost use Rattle.level.specs.Sizes.{tilesMost, recordLeast, recordMost};
@@ -20,7 +21,7 @@ pub struct Head {
     pub par: usize,
 }
 
-fn head_of(bs: &[u8]) -> Head
+pub fn head_of(bs: &[u8]) -> Head
     requires { ⌜ 3 ≤ length (now bs) ⌝ }
     ensures { λ r. ⌜ Heads (now (bs .entry)) r ⌝ }
 {
@@ -36,7 +37,7 @@ fn head_of(bs: &[u8]) -> Head
 }
 
 // The fields are in their ranges; the bits of each leave no room above.
-fn head_ranged(version: usize, width: usize, height: usize) -> bool
+pub fn head_ranged(version: usize, width: usize, height: usize) -> bool
     ensures { λ r. ⌜ Says r (HeadRanged version width height) ⌝ }
 {
     if version != 1 {
@@ -62,7 +63,7 @@ fn bit(bs: &[u8], p: usize) -> u8
 }
 
 // No bit is set from a place on.
-fn blank(bs: &[u8], from: usize) -> bool
+pub fn blank(bs: &[u8], from: usize) -> bool
     requires { ⌜ length (now bs) ≤ recordMost ⌝ }
     ensures { λ r. ⌜ Says r ((p : ℕ) → from ≤ p → p < 8 * length (now (bs .entry)) → bitAt (now (bs .entry)) p ≡ 0) ⌝ }
 {
@@ -77,13 +78,24 @@ fn blank(bs: &[u8], from: usize) -> bool
     true
 }
 
+// So many bytes are those of m tiles, for a record (lanes = 1) or the data cells of a strip.
+pub fn fits(len: usize, lanes: usize, m: usize) -> bool
+    requires { ⌜ Within 1 16 lanes × (m ≤ tilesMost) ⌝ }
+    ensures { λ r. ⌜ Says r (len ≡ lanes * columns lanes (3 + (3 * m + 7) / 8)) ⌝ }
+{
+    let n = 3 + (3 * m + 7) / 8;
+    if len != lanes * ((n + (lanes - 1)) / lanes) {
+        return false;
+    }
+    true
+}
+
 // The length is that of the size, and what is left over is blank.
 fn shaped(bs: &[u8], lanes: usize, m: usize) -> bool
     requires { ⌜ (length (now bs) ≤ recordMost) × Within 1 16 lanes × (m ≡ fieldAt (now bs) 4 5 * fieldAt (now bs) 9 5) × (m ≤ tilesMost) ⌝ }
     ensures { λ r. ⌜ Says r (Shaped lanes (now (bs .entry))) ⌝ }
 {
-    let n = 3 + (3 * m + 7) / 8;
-    if bs.len() != lanes * ((n + (lanes - 1)) / lanes) {
+    if !fits(bs.len(), lanes, m) {
         return false;
     }
     blank(bs, 24 + 3 * m)
@@ -97,7 +109,7 @@ pub struct Judged {
     pub par: usize,
 }
 
-fn refused(code: u8) -> Judged
+pub fn refused(code: u8) -> Judged
     ensures { λ r. ⌜ r ≡ without code ⌝ }
 {
     Judged {

@@ -22,7 +22,7 @@ fn tally(rows: &[u64; 8], tiles: &[u8]) -> u64
 }
 
 // Refusals 9 and 10, by what the tiles add: a code of the table each; one player, a crate, and as many crates as goals.
-pub(crate) fn sum_code(x: u64) -> u8
+pub fn sum_code(x: u64) -> u8
     ensures { λ r. ⌜ SumCode 1 x r ⌝ }
 {
     if x / 281474976710656 != 0 {

@@ -12,7 +12,7 @@ use Rattle.account.specs.Lists.{listOf, sumOf}
 use Rattle.account.proofs.Lanes.{getD-past}
 use Rattle.level.specs.Record.{bitAt, fieldAt}
 use Rattle.tiles.specs.Part.{tilesFrom, threeAt}
-use Rattle.tiles.specs.Sum.{weighed, weight, PartSummed, pairsOf}
+use Rattle.tiles.specs.Sum.{weighed, weight, PartSummed, addsAt, Counted, pairsOf}
 use Rattle.tiles.proofs.Eight.{eight, eight-at, six-1, last-1, first-1, six-2, last-2, first-2, six-3, last-3, first-3, first-4, last-4}
 
 -- one pair more
@@ -46,10 +46,6 @@ four-pairs w x y z hx hy hz =
       first-4 x y z hx,
       last-4 x y z,
     ) (omega arith)
-
--- what tile t adds
-abbrev pub addsAt : List ℕ → ℕ → ℕ
-addsAt part t = weighed (fieldAt part (3 * t) 3)
 
 sum-eight : (f : ℕ → ℕ) (n : ℕ)
     → sumOf (n + 8) f ≡ sumOf n f + (f (n + 0) + f (n + 1) + f (n + 2) + f (n + 3) + f (n + 4) + f (n + 5) + f (n + 6) + f (n + 7))
@@ -92,12 +88,12 @@ unfolding sumOf
 sum-first zero f = omega arith
 sum-first (suc n) f = omega (arith, sum-first n f)
 
-sum-append : (k n : ℕ) (f : ℕ → ℕ) → sumOf (k + n) f ≡ sumOf k f + sumOf n (λ i. f (k + i))
+pub sum-append : (k n : ℕ) (f : ℕ → ℕ) → sumOf (k + n) f ≡ sumOf k f + sumOf n (λ i. f (k + i))
 unfolding sumOf
 sum-append k zero f = let e : k + 0 ≡ k = omega arith in omega (arith, ap (λ (j : ℕ). sumOf j f) e)
 sum-append k (suc n) f = let e : k + suc n ≡ suc (k + n) = omega arith in omega (arith, ap (λ (j : ℕ). sumOf j f) e, sum-append k n f)
 
-sum-none : (n : ℕ) (f : ℕ → ℕ) → ((i : ℕ) → f i ≡ 0) → sumOf n f ≡ 0
+pub sum-none : (n : ℕ) (f : ℕ → ℕ) → ((i : ℕ) → f i ≡ 0) → sumOf n f ≡ 0
 unfolding sumOf
 sum-none zero f h = refl
 sum-none (suc n) f h = omega (arith, sum-none n f h, h n)
@@ -108,11 +104,11 @@ weight-list zero f = refl
 weight-list (suc n) f = ap (λ (k : ℕ). weighed (f 0) + k) (weight-list n (λ i. f (suc i))) ∙ sym (sum-first n (λ i. weighed (f i)))
 
 -- bits past the end, and fields of none
-bit-past : (part : List ℕ) (p : ℕ) → 8 * length part ≤ p → bitAt part p ≡ 0
+pub bit-past : (part : List ℕ) (p : ℕ) → 8 * length part ≤ p → bitAt part p ≡ 0
 unfolding bitAt
 bit-past part p h = ap (λ (x : ℕ). x / 2 ^ (7 - p % 8) % 2) (getD-past part (p / 8) (omega arith)) ∙ ap (λ (x : ℕ). x % 2) (zero-div (2 ^ (7 - p % 8)))
 
-field-none : (part : List ℕ) (p n : ℕ) → ((q : ℕ) → p ≤ q → bitAt part q ≡ 0) → fieldAt part p n ≡ 0
+pub field-none : (part : List ℕ) (p n : ℕ) → ((q : ℕ) → p ≤ q → bitAt part q ≡ 0) → fieldAt part p n ≡ 0
 unfolding fieldAt
 field-none part p zero h = refl
 field-none part p (suc n) h = omega (arith, field-none part p n h, h (p + n) (omega arith))
@@ -142,3 +138,6 @@ module _ (part : List ℕ) (m : ℕ) (room : 3 * m ≤ 8 * length part) (none : 
 
 pub part-summed : (part : List ℕ) (x g : ℕ) → length part ≤ 3 * g → x ≡ sumOf (8 * g) (addsAt part) → PartSummed part x
 part-summed part x g all e = record { sum = λ m room none. all-tiles part m room none x g all e }
+
+pub counted-summed : (part : List ℕ) (x : ℕ) → Counted part x → PartSummed part x
+counted-summed part x C = part-summed part x (length part / 3 + 1) (omega arith) (C .all)

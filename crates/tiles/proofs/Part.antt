@@ -31,14 +31,14 @@ module _ (bs : List ℕ) where
   pub length-part : length partOf ≡ length bs - 3
   length-part = ap length all ∙ length-drop 3 bs
 
-  same : (q : ℕ) → getD partOf q 0 ≡ getD bs (3 + q) 0
-  same q = ap (λ (s : List ℕ). getD s q 0) all ∙ getD-drop 3 bs q 0
+  pub part-same : (q : ℕ) → getD partOf q 0 ≡ getD bs (3 + q) 0
+  part-same q = ap (λ (s : List ℕ). getD s q 0) all ∙ getD-drop 3 bs q 0
 
   pub bit-on : (p : ℕ) → bitAt partOf p ≡ bitAt bs (24 + p)
-  bit-on p = bit-part bs partOf 3 same p
+  bit-on p = bit-part bs partOf 3 part-same p
 
   pub tilesFrom-part : (m : ℕ) → tilesFrom partOf m ≡ tilesIn bs m
   tilesFrom-part m =
       ext-getD 0 (tilesFrom partOf m) (tilesIn bs m) (length-tilesFrom partOf m ∙ sym (length-tiles bs m)) (λ i l.
       let k : i < m = omega (arith, length-tilesFrom partOf m) in
-      getD-tilesFrom partOf m i k ∙ field-part bs partOf 3 same (3 * i) 3 ∙ sym (getD-tiles bs m i k))
+      getD-tilesFrom partOf m i k ∙ field-part bs partOf 3 part-same (3 * i) 3 ∙ sym (getD-tiles bs m i k))

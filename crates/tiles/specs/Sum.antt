@@ -6,7 +6,8 @@ use Prim.Native.Nat.{ℕ, zero, suc, _+_, _*_, _/_, _%_, _≤_, _<_}
 use lib.Dec.{ltb}
 use lib.ListN.{length}
 use Rattle.level.specs.Tile.{Row, adds}
-use Rattle.level.specs.Record.{bitAt}
+use Rattle.account.specs.Lists.{sumOf}
+use Rattle.level.specs.Record.{bitAt, fieldAt}
 use Rattle.tiles.specs.Part.{tilesFrom}
 
 -- twelve bits a sum; 36 to 47 are free
@@ -26,6 +27,15 @@ pub record PartSummed (part : List ℕ) (r : ℕ) : Type 0 where
   pub sum : (m : ℕ) → 3 * m ≤ 8 * length part → ((p : ℕ) → 3 * m ≤ p → p < 8 * length part → bitAt part p ≡ 0) → r ≡ weight (tilesFrom part m)
 
 -- ---- parts
+
+-- what tile t of a part adds
+abbrev pub addsAt : List ℕ → ℕ → ℕ
+addsAt part t = weighed (fieldAt part (3 * t) 3)
+
+-- what all its groups of eight tiles add, the last of them perhaps cut short or not there
+pub record Counted (part : List ℕ) (r : ℕ) : Type 0 where
+  pub all : r ≡ sumOf (8 * (length part / 3 + 1)) (addsAt part)
+  pub small : r ≤ 2251799813685248 * (length part / 3 + 1)
 
 -- what n pairs of tiles add, the last pair in the lowest six bits, where a tile adds w
 unfoldable pub pairsOf : (ℕ → ℕ) → ℕ → ℕ → ℕ

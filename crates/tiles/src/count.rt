@@ -2,7 +2,7 @@
 ghost use mathlib.Core.Path.{_≡_};
 ghost use Prim.Native.Nat.{_+_, _/_, _%_, _≤_, _<_};
 ghost use lib.ListN.{length};
-ghost use Rattle.tiles.specs.Sum.{weighed, PartSummed, pairsOf};
+ghost use Rattle.tiles.specs.Sum.{weighed, Counted, pairsOf};
 ghost use Rattle.tiles.specs.Rows.{Packs};
 
 // What the eight tiles in the lowest 24 bits add.
@@ -47,7 +47,7 @@ fn eight_last(rows: &[u64; 8], v: u64) -> u64
 // What the tiles of a record's part from byte 3 add, in all; its filling is floor, which adds nothing.
 pub fn tally(part: &[u8]) -> u64
     requires { ⌜ length (now part) ≤ 361 ⌝ }
-    ensures { λ r. ⌜ PartSummed (now (part .entry)) r ⌝ }
+    ensures { λ r. ⌜ Counted (now (part .entry)) r ⌝ }
 {
     let mut x: u64 = 0;
     let mut g: usize = 0;

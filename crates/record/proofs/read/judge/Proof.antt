@@ -3,6 +3,7 @@ use borrow.Author.Tests.{not-true, not-false}
 use borrow.Author.Needs.{needs}
 use Rattle.rules.proofs.Tests.{said, denied}
 use Rattle.level.specs.Reading.{Shaped}
+use Rattle.tiles.proofs.Counting.{counted-summed}
 use Rattle.record.proofs.Judging.{Opens, judged-none, judged-7, judged-8, judged-0, area-is, area-few, headed, head-of-level, judged-by-tiles}
 use Rattle.record.proofs.read.judge.Statement.{statement}
 use Rattle.record.proofs.read.judge.Tie as tie
@@ -79,7 +80,7 @@ returns-3 c =
     (judged-by-tiles (o .args .bs .now) (f .result) (f .ensures) (o .args .lanes) (s .tally .result) (b .result) (o .pre .1 .from)
     (said (Opens (f .result)) (t .result) (not-false (t .result) (q .before .before .if1 .left)) (t .ensures))
     (said (Shaped (o .args .lanes) (o .args .bs .now)) (q .shaped .result) (not-false (q .shaped .result) (s .before .before .if2 .left)) (q .shaped .ensures))
-    (s .tally .ensures) (b .ensures))
+    (counted-summed _ (s .tally .result) (s .tally .ensures)) (b .ensures))
 
 returns-4 : tie.Need-returns-4
 returns-4 c =
@@ -93,7 +94,7 @@ returns-4 c =
     (judged-by-tiles (o .args .bs .now) (f .result) (f .ensures) (o .args .lanes) (s .tally .result) (b .result) (o .pre .1 .from)
     (said (Opens (f .result)) (t .result) (not-false (t .result) (q .before .before .if1 .left)) (t .ensures))
     (said (Shaped (o .args .lanes) (o .args .bs .now)) (q .shaped .result) (not-false (q .shaped .result) (s .before .before .if2 .left)) (q .shaped .ensures))
-    (s .tally .ensures) (b .ensures))
+    (counted-summed _ (s .tally .result) (s .tally .ensures)) (b .ensures))
 
 pub judge-spec : {M : Type 1} → statement M
 judge-spec =

@@ -1,32 +1,25 @@
-use Rattle.record.proofs.Reading.{blank-is, misfits, few}
+use mathlib.Core.Path.{_≡_}
+use Prim.Native.Nat.{_+_, _*_, _/_}
 use native.Mathlib.Omega.{arith}
+use borrow.Author.Tests.{not-true, not-false}
 use borrow.Author.Needs.{needs}
+use lib.ListN.{length}
+use Rattle.rules.proofs.Tests.{said, denied}
+use Rattle.level.specs.Strip.{columns}
+use Rattle.record.proofs.Reading.{blank-is, misfits}
 use Rattle.record.proofs.read.shaped.Statement.{statement}
 use Rattle.record.proofs.read.shaped.Tie as tie
 
-mul-n : tie.Need-mul-n
-mul-n c = search needs
-
-add-n : tie.Need-add-n
-add-n c = search needs
-
-add-n-2 : tie.Need-add-n-2
-add-n-2 c = search needs
-
-sub-if1 : tie.Need-sub-if1
-sub-if1 c = search needs
-
-add-if1 : tie.Need-add-if1
-add-if1 c = search needs
-
-div-if1 : tie.Need-div-if1
-div-if1 c = search needs
-
-mul-if1 : tie.Need-mul-if1
-mul-if1 c = let a = c .before .args in omega (arith, few (a .lanes) (a .m) (omega arith) (omega arith))
+fits-requires : tie.Need-fits-requires
+fits-requires c κs = search needs
 
 returns : tie.Need-returns
-returns c = let a = c .before .before .args in misfits (a .lanes) (a .m) (a .bs .now) (c .before .before .pre .2) (λ z. omega (arith, z, c .if1 .taken))
+returns c =
+    let s = c .before .before .before in
+    let a = s .args in
+    let f = c .before .fits2 in
+    misfits (a .lanes) (a .m) (a .bs .now) (s .pre .2)
+    (denied (length (a .bs .now) ≡ a .lanes * columns (a .lanes) (3 + (3 * a .m + 7) / 8)) (f .result) (not-true (f .result) (c .if1 .taken)) (f .ensures))
 
 mul-blank : tie.Need-mul-blank
 mul-blank c = search needs
@@ -39,22 +32,12 @@ blank-requires c κs = search needs
 
 returns-2 : tie.Need-returns-2
 returns-2 c =
-    let a = c .before .before .before .args in
-    blank-is (c .blank .result) (a .lanes) (a .m) (a .bs .now) (c .before .before .before .pre .2) (c .before .if1 .left) (c .blank .ensures)
+    let s = c .before .before .before .before in
+    let a = s .args in
+    let f = c .before .before .fits2 in
+    blank-is (c .blank .result) (a .lanes) (a .m) (a .bs .now) (s .pre .2)
+    (said (length (a .bs .now) ≡ a .lanes * columns (a .lanes) (3 + (3 * a .m + 7) / 8)) (f .result) (not-false (f .result) (c .before .if1 .left)) (f .ensures))
+    (c .blank .ensures)
 
 pub shaped-spec : {M : Type 1} → statement M
-shaped-spec =
-    tie.close
-    (tie.spec
-    mul-n
-    add-n
-    add-n-2
-    sub-if1
-    add-if1
-    div-if1
-    mul-if1
-    returns
-    mul-blank
-    add-blank
-    blank-requires
-    returns-2)
+shaped-spec = tie.close (tie.spec fits-requires returns mul-blank add-blank blank-requires returns-2)

@@ -1,12 +1,11 @@
 use mathlib.Core.Path.{_≡_, refl, ap, _∙_}
-use Prim.Native.Nat.{ℕ, _+_, _*_, _-_, _≤_}
+use Prim.Native.Nat.{ℕ, _+_, _*_, _-_, _/_, _≤_}
 use native.Mathlib.Omega.{arith}
 use borrow.Author.Needs.{needs}
 use lib.ListN.{length}
 use Rattle.account.specs.Lists.{sumOf}
-use Rattle.tiles.specs.Sum.{weighed}
-use Rattle.tiles.specs.Sum.{pairsOf}
-use Rattle.tiles.proofs.Counting.{addsAt, sum-next, part-summed}
+use Rattle.tiles.specs.Sum.{weighed, addsAt, pairsOf}
+use Rattle.tiles.proofs.Counting.{sum-next}
 use Rattle.tiles.proofs.count.tally.Statement.{statement}
 use Rattle.tiles.proofs.count.tally.Tie as tie
 
@@ -15,13 +14,13 @@ unfolding sumOf
 none f = refl
 
 abbrev Inv-loop : tie.InvT-loop
-Inv-loop part x₀ g₀ x g = (g ≤ 120) × (x ≤ 2251799813685248 * g) × (x ≡ sumOf (8 * g) (addsAt part))
+Inv-loop part x₀ g₀ x g = (g ≤ 120) × (x ≤ 2251799813685248 * g) × (x ≡ sumOf (8 * g) (addsAt part)) × (3 * g ≤ length part)
 
 abbrev μ-loop : tie.MeasureT-loop
 μ-loop part x₀ g₀ x g = length part - 3 * g
 
 loop-holds : tie.Need-loop-holds Inv-loop μ-loop
-loop-holds c = (omega arith, omega arith, none _)
+loop-holds c = (omega arith, omega arith, none _, omega arith)
 
 mul-loop : tie.Need-mul-loop Inv-loop μ-loop
 mul-loop c = search needs
@@ -53,6 +52,7 @@ loop-again c =
       omega arith,
       omega (arith, c .eight .ensures .1, l .inv .1),
       omega (arith, e, sum-next weighed part (l .g) (λ q. omega (arith, k q)), l .inv .2),
+      omega arith,
     )
 
 rows-requires : tie.Need-rows-requires Inv-loop μ-loop
@@ -73,7 +73,11 @@ returns c =
     let part = c .before .before .before .before .before .before .before .args .part .now in
     let k = c .before .before .before .before .before .before .shared-slice-known .given in
     let e = c .eight-last .ensures .0 ∙ ap (pairsOf weighed 4) (c .before .last .ensures) in
-    part-summed part (l .x + c .eight-last .result) (l .g + 1) (omega arith) (omega (arith, e, sum-next weighed part (l .g) (λ q. omega (arith, k q)), l .inv .2))
+    let d : length part / 3 ≡ l .g = omega (arith, l .inv .3) in
+    record {
+      all = omega (arith, e, sum-next weighed part (l .g) (λ q. omega (arith, k q)), l .inv .2, ap (λ (g : ℕ). sumOf (8 * (g + 1)) (addsAt part)) d);
+      small = omega (arith, c .eight-last .ensures .1, l .inv .1, d);
+    }
 
 pub tally-spec : {M : Type 1} → statement M
 tally-spec =

@@ -1,0 +1,43 @@
+use Rattle.lanes.proofs.Windows.{patched-one}
+use borrow.Author.Needs.{needs}
+use Rattle.lanes.proofs.window.patch_one.Statement.{statement}
+use Rattle.lanes.proofs.window.patch_one.Tie as tie
+
+inside-requires : tie.Need-inside-requires
+inside-requires c κs = search needs
+
+offset-requires : tie.Need-offset-requires
+offset-requires c κs = search needs
+
+slice-read-pick : tie.Need-slice-read-pick
+slice-read-pick c = search needs
+
+pick-requires : tie.Need-pick-requires
+pick-requires c κs = search needs
+
+slice-write-window : tie.Need-slice-write-window
+slice-write-window c = search needs
+
+same-length : tie.Need-same-length
+same-length c = search needs
+
+returns : tie.Need-returns
+returns c =
+    let s = c .before .before .before .before .before in
+    let i = c .before .before .before .inside in
+    let o = c .before .before .offset in
+    let v = c .pick in
+    patched-one (s .args .from) (s .args .p) (s .args .b) (o .result) (v .result) (s .args .window .now) (s .pre) (o .ensures .0) (o .ensures .1)
+    (i .result) (i .ensures) (v .ensures .0) (v .ensures .1)
+
+pub patch-one-spec : {M : Type 1} → statement M
+patch-one-spec =
+    tie.close
+    (tie.spec
+    inside-requires
+    offset-requires
+    slice-read-pick
+    pick-requires
+    slice-write-window
+    same-length
+    returns)

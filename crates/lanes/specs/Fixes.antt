@@ -1,0 +1,62 @@
+-- Parts: cells of a strip that are to be put right, noted lane by lane and put in where a window has them.
+use mathlib.Core.Path.{_≡_}
+use mathlib.Core.List.{List}
+use Prim.Native.Nat.{ℕ, _+_, _/_, _≤_, _<_}
+use lib.ListN.{length, getD}
+use Rattle.account.specs.Lanes.{lane}
+use Rattle.code.specs.Patched.{patched}
+use Rattle.code.specs.declared.lane.LaneErrata.{LaneErrata}
+
+-- ---- noting
+
+-- what noting the errata of lane l of R goes by, where k cells are noted
+pub record Noting (R l k : ℕ) (e : LaneErrata) (cells bytes : List ℕ) : Type 0 where
+  pub inside : l < R
+  pub lanes : R ≤ 16
+  pub few : e .count ≤ 5
+  pub below : (i : ℕ) → i < e .count → getD (e .cells) i 0 < 255
+  pub room : k + 5 ≤ 80
+  pub cells-long : length cells ≡ 80
+  pub bytes-long : length bytes ≡ 80
+
+-- the errata are those of a strip s: each at a cell of its lane
+abbrev pub AreOf : ℕ → LaneErrata → ℕ → List ℕ → Type 0
+AreOf R e k s = (i : ℕ) → i < k → getD (e .cells) i 0 < length s / R
+
+-- put right by the n cells that are noted now, lane l is what its errata make of it, and the other lanes are as they were
+pub record Noted (R l k : ℕ) (e : LaneErrata) (cells bytes cells' bytes' : List ℕ) (n : ℕ) : Type 0 where
+  pub count : n ≡ k + e .count
+  pub cells-long : length cells' ≡ 80
+  pub bytes-long : length bytes' ≡ 80
+  pub own : (s : List ℕ) → AreOf R e (e .count) s
+      → lane R l (patched cells' bytes' n s) ≡ patched (e .cells) (e .bytes) (e .count) (lane R l (patched cells bytes k s))
+  pub others : (s : List ℕ) → AreOf R e (e .count) s → (j : ℕ) → j < R → (j ≡ l → ⊥) → lane R j (patched cells' bytes' n s) ≡ lane R j (patched cells bytes k s)
+
+-- ---- windows
+
+-- cell p is in the window from cell a on
+pub record Inside (a p : ℕ) : Type 0 where
+  pub from : a ≤ p
+  pub to : p < a + 96
+
+-- cell p of the strip is b, if the window w from cell a on has it; all else is as it was
+pub record PatchedAt (a p b : ℕ) (w w' : List ℕ) : Type 0 where
+  pub long : length w' ≡ length w
+  pub here : (q : ℕ) → q < 96 → a + q ≡ p → getD w' q 0 ≡ b
+  pub other : (q : ℕ) → q < 96 → (a + q ≡ p → ⊥) → getD w' q 0 ≡ getD w q 0
+
+-- n cells of a strip s are in front of w, from cell a on
+abbrev pub Shows : List ℕ → ℕ → ℕ → List ℕ → Type 0
+Shows s a n w = (q : ℕ) → q < n → getD w q 0 ≡ getD s (a + q) 0
+
+-- a window on a strip, with what is to be put right, is one on the strip put right
+pub record WindowPatched (cells bytes : List ℕ) (count a : ℕ) (w w' : List ℕ) : Type 0 where
+  pub long : length w' ≡ length w
+  pub shows : (s : List ℕ) (n : ℕ) → n ≤ 96 → a + n ≤ length s → Shows s a n w → Shows (patched cells bytes count s) a n w'
+
+-- the n cells of the strip put right from cell a on, up to cell b, or 96 of them
+pub record Shown (s cells bytes : List ℕ) (count a b : ℕ) (w : List ℕ) (n : ℕ) : Type 0 where
+  pub most : n ≤ 96
+  pub before : a + n ≤ b
+  pub full : a + n < b → n ≡ 96
+  pub shows : Shows (patched cells bytes count s) a n w

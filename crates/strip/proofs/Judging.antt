@@ -1,0 +1,59 @@
+-- The record of a mended strip judged, from what its windows show.
+use mathlib.Core.Path.{_≡_, sym, _∙_}
+use mathlib.Core.Bool.{Bool, true, false, not}
+use mathlib.Core.List.{List}
+use Prim.Native.Nat.{ℕ, _+_, _*_, _/_, _<_}
+use native.Mathlib.Omega.{arith}
+use borrow.Author.Tests.{not-true, not-false}
+use lib.ListN.{length}
+use Rattle.rules.specs.Says.{Says}
+use Rattle.rules.specs.Refusal.{First, asked}
+use Rattle.rules.proofs.Tests.{said, denied}
+use Rattle.level.specs.Strip.{columns}
+use Rattle.level.specs.Reading.{Shaped, judging}
+use Rattle.record.specs.declared.read.Head.{Head}
+use Rattle.record.specs.declared.read.Judged.{Judged}
+use Rattle.record.specs.Sum.{SumCode}
+use Rattle.record.specs.Reading.{Heads, without, JudgedAs}
+use Rattle.record.proofs.Reading.{blank-is, misfits}
+use Rattle.record.proofs.Judging.{Opens, judged-none, judged-7, judged-8, judged-0, area-is, headed, head-of-level, judged-by-tiles}
+use Rattle.strip.specs.declared.windows.Weighed.{Weighed}
+use Rattle.strip.specs.Windows.{WeighedAs}
+
+module _ (R to : ℕ) (bs : List ℕ) (long : length bs ≡ to) (f : Head) (hd : Heads bs f) where
+  abbrev tiles : ℕ
+  tiles = f .width * f .height
+
+  abbrev Fitting : Type 0
+  Fitting = to ≡ R * columns R (3 + (3 * tiles + 7) / 8)
+
+  pub not-ranged : (b : Bool) → not b ≡ true → Says b (Opens f) → (r : Judged) → r ≡ without 7 → JudgedAs R bs r
+  not-ranged b n o r e = judged-7 R bs r e (λ h. denied (Opens f) b (not-true b n) o (head-of-level bs f hd h))
+
+  module _ (b : Bool) (y : not b ≡ false) (o : Says b (Opens f)) where
+    opens : Opens f
+    opens = said (Opens f) b (not-false b y) o
+
+    pub not-fitting : (d : Bool) → not d ≡ true → Says d Fitting → (r : Judged) → r ≡ without 8 → JudgedAs R bs r
+    not-fitting d n q r e =
+        judged-8 R bs r e (headed bs f hd opens)
+        (misfits R tiles bs (area-is bs f hd) (λ z. denied Fitting d (not-true d n) q (sym long ∙ z)))
+
+    module _ (d : Bool) (z : not d ≡ false) (q : Says d Fitting) (w : Weighed) (W : WeighedAs bs (24 + 3 * tiles) w) where
+      shape : Says (w .blank) (Shaped R bs)
+      shape = blank-is (w .blank) R tiles bs (area-is bs f hd) (long ∙ said Fitting d (not-false d z) q) (W .blank)
+
+      pub not-blank-after : not (w .blank) ≡ true → (r : Judged) → r ≡ without 8 → JudgedAs R bs r
+      not-blank-after n r e = judged-8 R bs r e (headed bs f hd opens) (denied (Shaped R bs) (w .blank) (not-true (w .blank) n) shape)
+
+      module _ (n : not (w .blank) ≡ false) (some : 0 < R) (code : ℕ) (C : SumCode 1 (w .sum) code) where
+        by-tiles : First (asked (λ ask. ask bs) (judging R)) code
+        by-tiles =
+            judged-by-tiles bs f hd R (w .sum) code some opens (said (Shaped R bs) (w .blank) (not-false (w .blank) n) shape)
+            (W .sum (not-false (w .blank) n)) C
+
+        pub tiles-refused : (code ≡ 0 → ⊥) → (r : Judged) → r ≡ without code → JudgedAs R bs r
+        tiles-refused k r e = judged-none R bs r code e k by-tiles
+
+        pub tiles-good : code ≡ 0 → JudgedAs R bs (record { code = 0; width = f .width; height = f .height; par = f .par })
+        tiles-good k = judged-0 bs f hd R code k by-tiles

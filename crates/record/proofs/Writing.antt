@@ -1,12 +1,11 @@
--- A record written byte after byte.
+-- A record written: its fields, then its tiles.
 use mathlib.Core.Path.{_≡_, refl, sym, ap, ap₂, _∙_, subst}
 use mathlib.Core.Logic.{⊎-elim}
 use mathlib.Core.List.{List, [], _∷_, _++_}
 use Prim.Native.Nat.{ℕ, zero, suc, _+_, _*_, _-_, _/_, _%_, _^_, _≤_, _<_}
-use native.Mathlib.Numerals.{add-one}
 use native.Mathlib.Omega.{arith}
-use lib.ListN.{length, getD, take, drop, set, length-append, length-drop}
-use lib.Seq.{sets, sets-eq, take-at, drop-at, drop-cons, drop-set-lt, set-at, append-snoc}
+use lib.ListN.{length, getD, take, drop}
+use lib.Seq.{sets, take-at, drop-at}
 use Rattle.account.specs.Lists.{listOf}
 use Rattle.account.proofs.Lanes.{getD-past}
 use Rattle.account.proofs.Lists.{length-listOf}
@@ -16,7 +15,9 @@ use Rattle.level.proofs.Written.{digit, recordBit, recordByte, recordOf}
 use Rattle.rules.proofs.Numbers.{lt-or-ge}
 use Rattle.level.proofs.RecordOf.{bit-1, bit-2, bit-3, bit-4, bit-5, record-of}
 use Rattle.level.proofs.Windows.{run, run-append, window}
-use Rattle.record.specs.Writing.{headBytes, threeOf, tileByte, RecordPut}
+use Rattle.tiles.specs.Pack.{threeOf, tileByte, PackedIn}
+use Rattle.tiles.proofs.Putting.{sets-at, sets-past, filled}
+use Rattle.record.specs.Writing.{headBytes, RecordPut}
 
 -- past the tiles are zeros
 pub codes-all : (ts : List ℕ) → AllTiles 1 ts → (q : ℕ) → getD ts q 0 ≤ 6
@@ -116,20 +117,20 @@ module _ (l : Level) where
     unfolding recordByte
     head-2 = paired 16 2 8 0 (l .par % 256) (omega arith) (omega arith) (omega arith)
 
-    head-put : (o : List ℕ) → 3 ≤ length o → sets o 0 (headBytes (l .width) (l .height) (l .par)) ≡ listOf 3 (recordByte l) ++ drop 3 o
-    unfolding listOf
-    head-put o room = sets-eq (headBytes (l .width) (l .height) (l .par)) o 0 room ∙ rw (head-0, head-1, head-2) refl
+    abbrev head : List ℕ
+    head = headBytes (l .width) (l .height) (l .par)
 
-    pub head-past : (o mid : List ℕ) → mid ≡ sets o 0 (headBytes (l .width) (l .height) (l .par)) → (n : ℕ) → 3 ≤ n → drop n mid ≡ drop n o
-    head-past o mid e n k =
-        ap (drop n) e
-        ∙ drop-set-lt n (set (set o 0 (16 + l .width / 2)) 1 (l .width % 2 * 128 + l .height * 4 + l .par / 256)) 2 (l .par % 256) (omega arith)
-        ∙ drop-set-lt n (set o 0 (16 + l .width / 2)) 1 (l .width % 2 * 128 + l .height * 4 + l .par / 256) (omega arith)
-        ∙ drop-set-lt n o 0 (16 + l .width / 2) (omega arith)
+    head-is : (i : ℕ) → i < 3 → getD head i 0 ≡ recordByte l i
+    head-is zero h = sym head-0
+    head-is (suc zero) h = sym head-1
+    head-is (suc (suc zero)) h = sym head-2
+    head-is (suc (suc (suc i))) h = absurd (omega arith)
 
-    pub head-start : (o mid : List ℕ) → 3 ≤ length o → mid ≡ sets o 0 (headBytes (l .width) (l .height) (l .par))
-        → mid ≡ listOf 3 (recordByte l) ++ drop 3 mid
-    head-start o mid room e = e ∙ head-put o room ∙ ap (λ (s : List ℕ). listOf 3 (recordByte l) ++ s) (sym (head-past o mid e 3 (omega arith)))
+    head-in : (o : List ℕ) → 3 ≤ length o → (i : ℕ) → i < 3 → getD (sets o 0 head) i 0 ≡ recordByte l i
+    head-in o room i h = let e : i ≡ 0 + i = omega arith in ap (λ (k : ℕ). getD (sets o 0 head) k 0) e ∙ sets-at o head 0 room i h ∙ head-is i h
+
+    head-out : (o : List ℕ) → 3 ≤ length o → (i : ℕ) → 3 ≤ i → getD (sets o 0 head) i 0 ≡ getD o i 0
+    head-out o room i h = sets-past o head 0 room i h
 
 -- the same, byte for byte
 pub byte-is : (l : Level) (b : ℕ) → AllTiles 1 (l .tiles) → tileByte (l .tiles) b ≡ recordByte l (3 + b)
@@ -153,56 +154,36 @@ byte-is l b codes = go (b % 3) refl
     go (suc (suc (suc i))) e = absurd (omega arith)
 
 -- the record in front, and what is past it
-pub record-put : (l : Level) (old new : List ℕ) (n : ℕ) → IsLevel l → n ≡ recordLength (l .width) (l .height) → n ≤ 364
-    → new ≡ listOf n (recordByte l) ++ drop n old → RecordPut l old new n
-unfolding recordOf
-record-put l old new n il e short is = record {
-  size = e;
-  short = short;
-  is-record =
-      subst (IsRecord l) (sym (ap (take n) is ∙ take-at (listOf n (recordByte l)) (drop n old) n size ∙ ap (λ (k : ℕ). listOf k (recordByte l)) e))
-      (record-of l il);
-  past = ap (drop n) is ∙ drop-at (listOf n (recordByte l)) (drop n old) n size;
-}
-  where
-    size : length (listOf n (recordByte l)) ≡ n
-    size = length-listOf n (recordByte l)
+module _ (l : Level) (il : IsLevel l) (old new : List ℕ) (n : ℕ) (e : n ≡ recordLength (l .width) (l .height)) where
+  front-put : n ≤ 364 → new ≡ listOf n (recordByte l) ++ drop n old → RecordPut l old new n
+  unfolding recordOf
+  front-put short is = record {
+    size = e;
+    short = short;
+    is-record =
+        subst (IsRecord l) (sym (ap (take n) is ∙ take-at (listOf n (recordByte l)) (drop n old) n size ∙ ap (λ (k : ℕ). listOf k (recordByte l)) e))
+        (record-of l il);
+    past = ap (drop n) is ∙ drop-at (listOf n (recordByte l)) (drop n old) n size;
+  }
+    where
+      size : length (listOf n (recordByte l)) ≡ n
+      size = length-listOf n (recordByte l)
 
--- the three of them, from tiles as they are lent
-module _ (ts : List ℕ) (b : ℕ) where
-  at-rest : (i : ℕ) → b % 3 ≡ i → threeOf (λ j. getD ts (b / 3 * 8 + j) 0) i ≡ tileByte ts b
-  at-rest i e = ap (threeOf (λ j. getD ts (b / 3 * 8 + j) 0)) (sym e)
+  -- the fields first, then the tiles
+  module _ (v : l .version ≡ 1) (room : n ≤ length old) (p : PackedIn (l .tiles) (sets old 0 (headBytes (l .width) (l .height) (l .par))) new) where
+    long : 3 ≤ length old
+    long = omega (arith, e)
 
-  pub tile-byte-0 : (t0 t1 t2 : ℕ) → b % 3 ≡ 0 → t0 ≡ getD ts (b / 3 * 8) 0 → t1 ≡ getD ts (b / 3 * 8 + 1) 0 → t2 ≡ getD ts (b / 3 * 8 + 2) 0
-      → t0 * 32 + t1 * 4 + t2 / 2 ≡ tileByte ts b
-  tile-byte-0 t0 t1 t2 r e0 e1 e2 =
-      let y : b / 3 * 8 ≡ b / 3 * 8 + 0 = omega arith in
-      rw (e0 ∙ ap (λ (k : ℕ). getD ts k 0) y, e1, e2) (at-rest 0 r)
+    at : (i : ℕ) → i < n → getD new i 0 ≡ recordByte l i
+    at i h =
+        ⊎-elim (λ a. p .before i a ∙ head-in l v (il .ranged .sized .not-wider) (il .ranged .sized .not-higher) (il .ranged .par-small) old long i a) (λ b.
+        let k : 3 + (i - 3) ≡ i = omega arith in
+        subst (λ (q : ℕ). getD new q 0 ≡ recordByte l q) k (p .put (i - 3) (omega (arith, e, il .count)) ∙ byte-is l (i - 3) (il .codes))) (lt-or-ge i 3)
 
-  pub tile-byte-1 : (t2 t3 t4 t5 : ℕ) → b % 3 ≡ 1 → t2 ≡ getD ts (b / 3 * 8 + 2) 0 → t3 ≡ getD ts (b / 3 * 8 + 3) 0
-      → t4 ≡ getD ts (b / 3 * 8 + 4) 0 → t5 ≡ getD ts (b / 3 * 8 + 5) 0 → t2 % 2 * 128 + t3 * 16 + t4 * 2 + t5 / 4 ≡ tileByte ts b
-  tile-byte-1 t2 t3 t4 t5 r e2 e3 e4 e5 = rw (e2, e3, e4, e5) (at-rest 1 r)
+    past : (i : ℕ) → n ≤ i → getD new i 0 ≡ getD old i 0
+    past i h =
+        p .past i (omega (arith, e, il .count))
+        ∙ head-out l v (il .ranged .sized .not-wider) (il .ranged .sized .not-higher) (il .ranged .par-small) old long i (omega (arith, e))
 
-  pub tile-byte-2 : (t5 t6 t7 : ℕ) → b % 3 ≡ 2 → t5 ≡ getD ts (b / 3 * 8 + 5) 0 → t6 ≡ getD ts (b / 3 * 8 + 6) 0 → t7 ≡ getD ts (b / 3 * 8 + 7) 0
-      → t5 % 4 * 64 + t6 * 8 + t7 ≡ tileByte ts b
-  tile-byte-2 t5 t6 t7 r e5 e6 e7 = rw (e5, e6, e7) (at-rest 2 r)
-
--- ---- one after the other
-
-snoc : (n : ℕ) (f : ℕ → ℕ) → listOf (suc n) f ≡ listOf n f ++ (f n ∷ [])
-unfolding listOf
-snoc zero f = refl
-snoc (suc n) f = ap (λ (l : List ℕ). f 0 ∷ l) (snoc n (λ i. f (suc i)))
-
-put-next : (w o : List ℕ) (k v : ℕ) → length w ≡ k → k < length o → set (w ++ drop k o) k v ≡ (w ++ (v ∷ [])) ++ drop (k + 1) o
-put-next w o k v e h = rw (add-one, drop-cons o k 0) (set-at w (getD o k 0) (drop (suc k) o) v k e ∙ sym (append-snoc w v (drop (suc k) o)))
-
-filled-length : (w o : List ℕ) (k : ℕ) → length w ≡ k → k ≤ length o → length (w ++ drop k o) ≡ length o
-filled-length w o k e h = simp (length-append, length-drop) (omega arith)
-
-module _ (f : ℕ → ℕ) (o : List ℕ) where
-  pub long : (out : List ℕ) (k : ℕ) → k ≤ length o → out ≡ listOf k f ++ drop k o → length out ≡ length o
-  long out k h e = rw e (filled-length (listOf k f) o k (length-listOf k f) h)
-
-  pub next : (out : List ℕ) (k v : ℕ) → k < length o → out ≡ listOf k f ++ drop k o → v ≡ f k → set out k v ≡ listOf (k + 1) f ++ drop (k + 1) o
-  next out k v h e t = rw (e, t, add-one, snoc) (rw add-one at (put-next (listOf k f) o k (f k) (length-listOf k f) h))
+    pub record-put : n ≤ 364 → length new ≡ length old → RecordPut l old new n
+    record-put short same = front-put short (filled (recordByte l) old new n room same at past)

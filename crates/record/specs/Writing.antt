@@ -36,13 +36,3 @@ pub record InRange (w h par : ℕ) : Type 0 where
 -- version 1, width, height and par
 abbrev pub headBytes : ℕ → ℕ → ℕ → List ℕ
 headBytes w h par = (16 + w / 2) ∷ (w % 2 * 128 + h * 4 + par / 256) ∷ (par % 256) ∷ []
-
--- eight tiles make three bytes: the first, the second and the third
-abbrev pub threeOf : (ℕ → ℕ) → ℕ → ℕ
-threeOf t zero = t 0 * 32 + t 1 * 4 + t 2 / 2
-threeOf t (suc zero) = t 2 % 2 * 128 + t 3 * 16 + t 4 * 2 + t 5 / 4
-threeOf t (suc (suc i)) = t 5 % 4 * 64 + t 6 * 8 + t 7
-
--- byte b of the tiles
-abbrev pub tileByte : List ℕ → ℕ → ℕ
-tileByte tiles b = threeOf (λ j. getD tiles (b / 3 * 8 + j) 0) (b % 3)

@@ -1,14 +1,14 @@
 // Writing a record: a level, bit-packed.
 ghost use mathlib.Core.Path.{_≡_};
-ghost use Prim.Native.Nat.{_+_, _*_, _≤_, _<_};
-ghost use lib.ListN.{length, getD};
+ghost use Prim.Native.Nat.{_≤_};
+ghost use lib.ListN.{length};
 ghost use lib.Seq.{sets};
 ghost use Rattle.rules.specs.Says.{Says};
 ghost use Rattle.rules.specs.Refusal.{First, asked};
-ghost use Rattle.level.specs.Level.{Sized, AllTiles, IsLevel, lending};
+ghost use Rattle.level.specs.Level.{Sized, IsLevel, lending};
 ghost use Rattle.level.specs.Record.{recordLength};
 ghost use Rattle.level.specs.Writing.{lent};
-ghost use Rattle.record.specs.Writing.{RecordWritesAs, RecordPut, InRange, headBytes, tileByte};
+ghost use Rattle.record.specs.Writing.{RecordWritesAs, RecordPut, InRange, headBytes};
 ghost use Rattle.level.specs.Sizes.{recordMost};
 use code::word::Written;
 use level::RECORD_MOST;
@@ -52,32 +52,6 @@ fn put_head(w: usize, h: usize, par: usize, out: &mut [u8])
     out[2] = (par % 256) as u8;
 }
 
-// Tile i, and floor past the end.
-fn tile_at(tiles: &[u8], i: usize) -> u8
-    requires { ⌜ AllTiles 1 (now tiles) ⌝ }
-    ensures { λ r. ⌜ (r ≡ getD (now (tiles .entry)) i 0) × (r ≤ 6) ⌝ }
-{
-    tiles::group::cell(tiles, i)
-}
-
-// Byte b of the tiles. Eight tiles make three bytes.
-fn tile_byte(tiles: &[u8], b: usize) -> u8
-    requires { ⌜ AllTiles 1 (now tiles) × (b ≤ recordMost) ⌝ }
-    ensures { λ r. ⌜ r ≡ tileByte (now (tiles .entry)) b ⌝ }
-{
-    let k = b / 3 * 8;
-    if b % 3 == 0 {
-        return tile_at(tiles, k) * 32 + tile_at(tiles, k + 1) * 4 + tile_at(tiles, k + 2) / 2;
-    }
-    if b % 3 == 1 {
-        return tile_at(tiles, k + 2) % 2 * 128
-            + tile_at(tiles, k + 3) * 16
-            + tile_at(tiles, k + 4) * 2
-            + tile_at(tiles, k + 5) / 4;
-    }
-    tile_at(tiles, k + 5) % 4 * 64 + tile_at(tiles, k + 6) * 8 + tile_at(tiles, k + 7)
-}
-
 // The record of a level, in the first bytes of a buffer; its length is returned.
 pub fn put_record(w: usize, h: usize, par: usize, tiles: &[u8], out: &mut [u8]) -> usize
     requires { ⌜ IsLevel (lent w h par (now tiles)) × (recordLength w h ≤ length (now out)) ⌝ }
@@ -85,11 +59,7 @@ pub fn put_record(w: usize, h: usize, par: usize, tiles: &[u8], out: &mut [u8]) 
 {
     let n = record_length(w, h);
     put_head(w, h, par, out);
-    let mut q: usize = 3;
-    while q < n {
-        out[q] = tile_byte(tiles, q - 3);
-        q += 1;
-    }
+    tiles::pack::pack(tiles, out);
     n
 }
 

@@ -4,3 +4,4 @@ pub mod Eight
 pub mod Part
 pub mod Counting
 pub mod Putting
+pub mod Packing

@@ -8,10 +8,11 @@ use native.Mathlib.Omega.{arith}
 use lib.ListN.{length, getD, take, drop, set, length-append, length-drop, List·getD-append}
 use lib.Seq.{sets, sets-eq, getD-take, getD-drop, getD-append-add, length-take-le, ext-getD, getD-set-same, getD-set-other}
 use Rattle.rules.proofs.Numbers.{lt-or-ge}
+use Rattle.account.specs.Lists.{listOf}
+use Rattle.account.proofs.Lists.{length-listOf, getD-listOf}
 use Rattle.level.specs.Record.{fieldAt}
 use Rattle.tiles.specs.Part.{tilesFrom, threeAt}
 use Rattle.tiles.specs.Put.{spreadOf, byteOf, Puts}
-use Rattle.tiles.proofs.Part.{length-tilesFrom, getD-tilesFrom}
 use Rattle.tiles.proofs.Eight.{eight, eight-at, six-1, last-1, first-1, six-2, last-2, first-2, six-3, last-3, first-3, first-4, last-4}
 
 -- ---- pairs spread
@@ -111,14 +112,14 @@ module _ (l vs : List ℕ) (k : ℕ) (room : k + length vs ≤ length l) where
       ∙ List·getD-append (take k l) vs 0 i (omega (arith, front))
       ∙ getD-take k l i 0 h
 
-  sets-at : (j : ℕ) → j < length vs → getD (sets l k vs) (k + j) 0 ≡ getD vs j 0
+  pub sets-at : (j : ℕ) → j < length vs → getD (sets l k vs) (k + j) 0 ≡ getD vs j 0
   sets-at j h =
       ap (λ (s : List ℕ). getD s (k + j) 0) (sets-eq vs l k room)
       ∙ List·getD-append (take k l ++ vs) (drop (k + length vs) l) 0 (k + j) (omega (arith, fits))
       ∙ ap (λ (n : ℕ). getD (take k l ++ vs) (n + j) 0) (sym front)
       ∙ getD-append-add (take k l) vs j 0
 
-  sets-past : (i : ℕ) → k + length vs ≤ i → getD (sets l k vs) i 0 ≡ getD l i 0
+  pub sets-past : (i : ℕ) → k + length vs ≤ i → getD (sets l k vs) i 0 ≡ getD l i 0
   sets-past i h =
       let e : k + length vs + (i - (k + length vs)) ≡ i = omega arith in
       subst (λ (q : ℕ). getD (sets l k vs) q 0 ≡ getD l q 0) e (at (i - (k + length vs)))
@@ -200,18 +201,24 @@ tiles-next part old new g m w by ew p h i a b =
     (p .put (i - 8 * g) (omega arith) (omega arith) ∙ ap (byteOf (i - 8 * g)) ew ∙ tile-byte part g by (i - 8 * g) (omega arith)))
     (lt-or-ge i (8 * g))
 
--- all of them, and the rest as it was
-pub tiles-put : (part old new : List ℕ) (m : ℕ) → m ≤ length old → length new ≡ length old → ((i : ℕ) → i < m → getD new i 0 ≡ fieldAt part (3 * i) 3)
-    → ((i : ℕ) → m ≤ i → getD new i 0 ≡ getD old i 0) → new ≡ tilesFrom part m ++ drop m old
-tiles-put part old new m room same tile past =
-    ext-getD 0 new (tilesFrom part m ++ drop m old)
-    (omega (arith, length-append (tilesFrom part m) (drop m old), length-drop m old, length-tilesFrom part m)) (λ i l. ⊎-elim (λ a.
-    tile i a ∙ sym (getD-tilesFrom part m i a) ∙ sym (List·getD-append (tilesFrom part m) (drop m old) 0 i (omega (arith, length-tilesFrom part m)))) (λ b.
-    let e : m + (i - m) ≡ i = omega arith in subst (λ (q : ℕ). getD new q 0 ≡ getD (tilesFrom part m ++ drop m old) q 0) e (at (i - m))) (lt-or-ge i m))
+-- the first elements of a list given one by one, and the rest as it was
+pub filled : (f : ℕ → ℕ) (old new : List ℕ) (m : ℕ) → m ≤ length old → length new ≡ length old → ((i : ℕ) → i < m → getD new i 0 ≡ f i)
+    → ((i : ℕ) → m ≤ i → getD new i 0 ≡ getD old i 0) → new ≡ listOf m f ++ drop m old
+filled f old new m room same first past =
+    ext-getD 0 new (listOf m f ++ drop m old)
+    (omega (arith, length-append (listOf m f) (drop m old), length-drop m old, length-listOf m f)) (λ i l. ⊎-elim (λ a.
+    first i a ∙ sym (getD-listOf m f i a) ∙ sym (List·getD-append (listOf m f) (drop m old) 0 i (omega (arith, length-listOf m f)))) (λ b.
+    let e : m + (i - m) ≡ i = omega arith in subst (λ (q : ℕ). getD new q 0 ≡ getD (listOf m f ++ drop m old) q 0) e (at (i - m))) (lt-or-ge i m))
   where
-    at : (d : ℕ) → getD new (m + d) 0 ≡ getD (tilesFrom part m ++ drop m old) (m + d) 0
+    at : (d : ℕ) → getD new (m + d) 0 ≡ getD (listOf m f ++ drop m old) (m + d) 0
     at d =
         past (m + d) (omega arith)
         ∙ sym (getD-drop m old d 0)
-        ∙ sym (getD-append-add (tilesFrom part m) (drop m old) d 0)
-        ∙ ap (λ (n : ℕ). getD (tilesFrom part m ++ drop m old) (n + d) 0) (length-tilesFrom part m)
+        ∙ sym (getD-append-add (listOf m f) (drop m old) d 0)
+        ∙ ap (λ (n : ℕ). getD (listOf m f ++ drop m old) (n + d) 0) (length-listOf m f)
+
+-- all tiles of a part
+pub tiles-put : (part old new : List ℕ) (m : ℕ) → m ≤ length old → length new ≡ length old → ((i : ℕ) → i < m → getD new i 0 ≡ fieldAt part (3 * i) 3)
+    → ((i : ℕ) → m ≤ i → getD new i 0 ≡ getD old i 0) → new ≡ tilesFrom part m ++ drop m old
+unfolding tilesFrom
+tiles-put part old new m room same tile past = filled (λ i. fieldAt part (3 * i) 3) old new m room same tile past

@@ -4,3 +4,4 @@ mod table; // the same of two tiles
 pub mod group; // eight tiles in three bytes
 pub mod count; // what they add
 pub mod put; // the tiles, a byte each
+pub mod pack; // a byte each, packed

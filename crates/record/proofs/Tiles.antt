@@ -4,25 +4,14 @@ use mathlib.Core.Logic.{_⊎_, inl, inr}
 use mathlib.Core.List.{List, [], _∷_}
 use Prim.Native.Nat.{ℕ, zero, suc, _+_, _*_, _/_, _%_, _≤_, _<_}
 use native.Mathlib.Nat.{mul-le-mul}
-use native.Mathlib.Numerals.{add-one}
 use native.Mathlib.Omega.{arith}
-use lib.ListN.{length, getD, drop}
-use lib.Seq.{drop-cons, drop-length}
+use lib.ListN.{length}
 use Rattle.rules.proofs.Numbers.{lt-or-ge}
 use Rattle.level.specs.Tile.{adds, totals}
 use Rattle.level.specs.Level.{Sized, AllTiles}
 use Rattle.level.specs.Record.{recordLength}
 use Rattle.tiles.specs.Sum.{packed, weighed, weight}
 use Rattle.tiles.proofs.Rows.{adds-small, adds-none, weighed-in, weighed-out}
-
--- one tile after the other
-pub weight-next : (ts : List ℕ) (i : ℕ) → i < length ts → weight (drop i ts) ≡ weighed (getD ts i 0) + weight (drop (i + 1) ts)
-unfolding weight
-weight-next ts i h = rw (add-one, drop-cons ts i 0) refl
-
-pub weight-end : (ts : List ℕ) (i : ℕ) → i ≡ length ts → weight (drop i ts) ≡ 0
-unfolding weight
-weight-end ts i h = rw (h, drop-length) refl
 
 -- what the sum is made of
 record Counts (ts : List ℕ) : Type 0 where

@@ -5,3 +5,4 @@ pub mod Part
 pub mod Counting
 pub mod Putting
 pub mod Packing
+pub mod Codes

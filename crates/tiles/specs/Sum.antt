@@ -41,3 +41,7 @@ pub record Counted (part : List ℕ) (r : ℕ) : Type 0 where
 unfoldable pub pairsOf : (ℕ → ℕ) → ℕ → ℕ → ℕ
 pairsOf w zero v = 0
 pairsOf w (suc n) v = w (v % 64 / 8) + w (v % 64 % 8) + pairsOf w n (v / 64)
+
+-- 1 if tile t has code c, else 0
+abbrev pub same : ℕ → ℕ → ℕ
+same c t = cond (ltb t c) 0 (cond (ltb c t) 0 1)

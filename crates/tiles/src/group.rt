@@ -18,7 +18,7 @@ fn three(x: u8, y: u8, z: u8) -> u64
 }
 
 // Byte q, and 0 past the end.
-pub fn cell(bs: &[u8], q: usize) -> u8
+pub(crate) fn cell(bs: &[u8], q: usize) -> u8
     ensures { λ r. ⌜ r ≡ getD (now (bs .entry)) q 0 ⌝ }
 {
     if q < bs.len() {

@@ -2,9 +2,6 @@ use borrow.Author.Needs.{needs}
 use Rattle.record.proofs.tile.board_code.Statement.{statement}
 use Rattle.record.proofs.tile.board_code.Tie as tie
 
-rows-requires : tie.Need-rows-requires
-rows-requires c κs = search needs
-
 tally-requires : tie.Need-tally-requires
 tally-requires c κs = search needs
 
@@ -13,8 +10,8 @@ sum-code-requires c κs = search needs
 
 returns : tie.Need-returns
 returns c =
-    let o = c .before .before .before .before .before in
+    let o = c .before .before .before in
     c .sum-code .ensures .code-of (o .args .tiles .now) (o .pre) (c .before .tally .ensures)
 
 pub board-code-spec : {M : Type 1} → statement M
-board-code-spec = tie.close (tie.spec rows-requires tally-requires sum-code-requires returns)
+board-code-spec = tie.close (tie.spec tally-requires sum-code-requires returns)

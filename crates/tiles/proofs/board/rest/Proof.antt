@@ -1,19 +1,19 @@
-use Rattle.record.proofs.Tiles.{weight-next, weight-end}
+use Rattle.tiles.proofs.Codes.{weight-next, weight-end}
 use Rattle.tiles.proofs.Rows.{weighed-small}
 use Rattle.tiles.specs.Sum.{weight}
 use borrow.Author.Needs.{needs}
 use lib.ListN.{length, getD, drop}
 use native.Mathlib.Omega.{arith}
 use Prim.Native.Nat.{_+_, _*_, _-_, _≤_}
 use mathlib.Core.Path.{_≡_}
-use Rattle.record.proofs.tile.tally.Statement.{statement}
-use Rattle.record.proofs.tile.tally.Tie as tie
+use Rattle.tiles.proofs.board.rest.Statement.{statement}
+use Rattle.tiles.proofs.board.rest.Tie as tie
 
 abbrev Inv-loop : tie.InvT-loop
-Inv-loop rows tiles x₀ i₀ x i = (i ≤ length tiles) × (x ≤ 281474976710656 * i) × (x + weight (drop i tiles) ≡ weight tiles)
+Inv-loop rows tiles k x₀ i₀ x i = (k ≤ i) × (i ≤ length tiles) × (x + 281474976710656 * k ≤ 281474976710656 * i) × (x + weight (drop i tiles) ≡ weight (drop k tiles))
 
 abbrev μ-loop : tie.MeasureT-loop
-μ-loop rows tiles x₀ i₀ x i = length tiles - i
+μ-loop rows tiles k x₀ i₀ x i = length tiles - i
 
 loop-holds : tie.Need-loop-holds Inv-loop μ-loop
 loop-holds c = search needs
@@ -40,13 +40,15 @@ loop-again c =
     let l = c .before .before .before .loop in
     let ts = c .before .before .before .before .before .args .tiles .now in
     let w = weighed-small (getD ts (l .i) 0) in
-    (omega arith, omega (arith, w, c .weigh .ensures), omega (arith, weight-next ts (l .i) (omega arith), c .weigh .ensures, l .inv .2))
+    (omega arith, omega arith, omega (arith, w, c .weigh .ensures), omega (arith, weight-next ts (l .i) (omega arith), c .weigh .ensures, l .inv .3))
 
 returns : tie.Need-returns Inv-loop μ-loop
-returns c = let l = c .before .loop in omega (arith, weight-end (c .before .before .before .args .tiles .now) (l .i) (omega arith), l .inv .2)
+returns c =
+    let l = c .before .loop in
+    (omega (arith, weight-end (c .before .before .before .args .tiles .now) (l .i) (omega arith), l .inv .3), omega (arith, l .inv .2))
 
-pub tally-spec : {M : Type 1} → statement M
-tally-spec =
+pub rest-spec : {M : Type 1} → statement M
+rest-spec =
     tie.close
     (tie.spec
     Inv-loop

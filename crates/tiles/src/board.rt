@@ -1,0 +1,85 @@
+// What the tiles of a board add, from a byte each.
+ghost use mathlib.Core.Path.{_≡_};
+ghost use Prim.Native.Nat.{_+_, _*_, _≤_};
+ghost use lib.ListN.{length, getD, drop};
+ghost use Rattle.account.specs.Lists.{sumOf};
+ghost use Rattle.level.specs.Sizes.{tilesMost};
+ghost use Rattle.tiles.specs.Sum.{weighed, weight, same};
+ghost use Rattle.tiles.specs.Rows.{Packs};
+
+// 1 if tile t has code c, else 0.
+fn is(t: u8, c: u8) -> u8
+    ensures { λ r. ⌜ r ≡ same c t ⌝ }
+{
+    if t == c {
+        return 1;
+    }
+    0
+}
+
+// How many of the 64 tiles from k on have code c. A sum of bytes over a fixed number of them becomes vector code.
+fn count(tiles: &[u8], k: usize, c: u8) -> u8
+    requires { ⌜ k + 64 ≤ length (now tiles) ⌝ }
+    ensures { λ r. ⌜ r ≡ sumOf 64 (λ i. same c (getD (now (tiles .entry)) (k + i) 0)) ⌝ }
+{
+    let mut n: u8 = 0;
+    let mut i: usize = 0;
+    while i < 64 {
+        n += is(tiles[k + i], c);
+        i += 1;
+    }
+    n
+}
+
+fn wide(x: u8) -> u64
+    ensures { λ r. ⌜ r ≡ x ⌝ }
+{
+    x as u64
+}
+
+// What the 64 tiles from k on add: for each code its row as often as it is there, and the last row for the others.
+fn block(rows: &[u64; 8], tiles: &[u8], k: usize) -> u64
+    requires { ⌜ Packs (now rows) × (k + 64 ≤ length (now tiles)) ⌝ }
+    ensures { λ r. ⌜ r ≡ sumOf 64 (λ i. weighed (getD (now (tiles .entry)) (k + i) 0)) ⌝ }
+{
+    let mut x: u64 = 0;
+    let mut others: u64 = 64;
+    let mut c: u8 = 0;
+    while c < 7 {
+        let n = wide(count(tiles, k, c));
+        x += rows[c as usize] * n;
+        others -= n;
+        c += 1;
+    }
+    x + rows[7] * others
+}
+
+// What the tiles from k on add, one after the other.
+fn rest(rows: &[u64; 8], tiles: &[u8], k: usize) -> u64
+    requires { ⌜ Packs (now rows) × (k ≤ length (now tiles)) × (length (now tiles) ≤ tilesMost) ⌝ }
+    ensures { λ r. ⌜ (r ≡ weight (drop k (now (tiles .entry)))) × (r ≤ 281474976710656 * tilesMost) ⌝ }
+{
+    let mut x: u64 = 0;
+    let mut i = k;
+    while i < tiles.len() {
+        x += super::tile::weigh(rows, tiles[i]);
+        i += 1;
+    }
+    x
+}
+
+// What the tiles of a board add, in all.
+pub fn tally(tiles: &[u8]) -> u64
+    requires { ⌜ length (now tiles) ≤ tilesMost ⌝ }
+    ensures { λ r. ⌜ r ≡ weight (now (tiles .entry)) ⌝ }
+{
+    let rows = super::tile::rows();
+    let n = tiles.len() / 64;
+    let mut x: u64 = 0;
+    let mut g: usize = 0;
+    while g < n {
+        x += block(&rows, tiles, 64 * g);
+        g += 1;
+    }
+    x + rest(&rows, tiles, 64 * n)
+}

@@ -5,3 +5,4 @@ pub mod Reader
 pub mod Writing
 pub mod Answers
 pub mod Theorems
+pub mod Filling

@@ -1,7 +1,7 @@
 // Reading a record: judged first, and its tiles written only where nothing is refused.
 ghost use mathlib.Core.Path.{_≡_};
-ghost use Prim.Native.Nat.{ℕ, _+_, _*_, _/_, _≤_, _<_};
-ghost use lib.ListN.{length};
+ghost use Prim.Native.Nat.{ℕ, _+_, _-_, _*_, _/_, _%_, _^_, _≤_, _<_};
+ghost use lib.ListN.{length, getD};
 ghost use Rattle.rules.specs.Refusal.{Within};
 ghost use Rattle.rules.specs.Says.{Says};
 ghost use Rattle.level.specs.Record.{bitAt, fieldAt};
@@ -52,30 +52,41 @@ pub fn head_ranged(version: usize, width: usize, height: usize) -> bool
     true
 }
 
-// Bit p, the most significant of each byte first.
-fn bit(bs: &[u8], p: usize) -> u8
-    requires { ⌜ p < 8 * length (now bs) ⌝ }
-    ensures { λ r. ⌜ r ≡ bitAt (now (bs .entry)) p ⌝ }
+// The bits of a byte from bit k on, the most significant being bit 0.
+fn low_bits(b: u8, k: usize) -> usize
+    requires { ⌜ k < 8 ⌝ }
+    ensures { λ r. ⌜ r ≡ b % 2 ^ (8 - k) ⌝ }
 {
-    let at = p / 8;
-    let b = bs[at];
-    (b >> (7 - p % 8)) % 2
+    (b as usize) & ((256 >> k) - 1)
 }
 
-// No bit is set from a place on.
+// No byte is other than zero from a place on.
+fn zeros(bs: &[u8], from: usize) -> bool
+    ensures { λ r. ⌜ Says r ((q : ℕ) → from ≤ q → q < length (now (bs .entry)) → getD (now (bs .entry)) q 0 ≡ 0) ⌝ }
+{
+    let mut q = from;
+    while q < bs.len() {
+        if bs[q] != 0 {
+            return false;
+        }
+        q += 1;
+    }
+    true
+}
+
+// No bit is set from a place on: in the byte of that place, and in those after it.
 pub fn blank(bs: &[u8], from: usize) -> bool
     requires { ⌜ length (now bs) ≤ recordMost ⌝ }
     ensures { λ r. ⌜ Says r ((p : ℕ) → from ≤ p → p < 8 * length (now (bs .entry)) → bitAt (now (bs .entry)) p ≡ 0) ⌝ }
 {
-    let end = 8 * bs.len();
-    let mut p = from;
-    while p < end {
-        if bit(bs, p) != 0 {
-            return false;
-        }
-        p += 1;
+    let at = from / 8;
+    if bs.len() <= at {
+        return true;
     }
-    true
+    if low_bits(bs[at], from % 8) != 0 {
+        return false;
+    }
+    zeros(bs, at + 1)
 }
 
 // So many bytes are those of m tiles, for a record (lanes = 1) or the data cells of a strip.

@@ -1,60 +1,36 @@
 use borrow.Author.Needs.{needs}
-use Rattle.record.proofs.Reading.{range-more}
-use Rattle.level.specs.Record.{bitAt}
-use lib.ListN.{length}
+use Rattle.record.proofs.Filling.{first-set, rest-is}
+use mathlib.Core.Path.{sym, _∙_}
 use native.Mathlib.Omega.{arith}
-use Prim.Native.Nat.{ℕ, _*_, _-_, _≤_, _<_}
-use mathlib.Core.Path.{_≡_}
 use Rattle.record.proofs.read.blank.Statement.{statement}
 use Rattle.record.proofs.read.blank.Tie as tie
 
-abbrev Inv-loop : tie.InvT-loop
-Inv-loop bs from end p₀ p = (end ≡ 8 * length bs) × (from ≤ p) × ((q : ℕ) → from ≤ q → q < p → bitAt bs q ≡ 0)
+returns : tie.Need-returns
+returns c = search needs
 
-abbrev μ-loop : tie.MeasureT-loop
-μ-loop bs from end p₀ p = end - p
+shared-slice-read-low-bits : tie.Need-shared-slice-read-low-bits
+shared-slice-read-low-bits c = search needs
 
-mul-end : tie.Need-mul-end Inv-loop μ-loop
-mul-end c = search needs
+low-bits-requires : tie.Need-low-bits-requires
+low-bits-requires c κs = search needs
 
-loop-holds : tie.Need-loop-holds Inv-loop μ-loop
-loop-holds c = (omega arith, omega arith, λ q a b. absurd (omega arith))
+returns-2 : tie.Need-returns-2
+returns-2 c =
+    let a = c .before .before .before .before .before .args in
+    first-set (a .bs .now) (a .from) (omega arith) (λ z. c .if2 .taken (c .before .low-bits .ensures ∙ z))
 
-bit-requires : tie.Need-bit-requires Inv-loop μ-loop
-bit-requires c κs = search needs
+add-zeros : tie.Need-add-zeros
+add-zeros c = search needs
 
-returns : tie.Need-returns Inv-loop μ-loop
-returns c = λ f. let l = c .before .before .before .loop in omega (arith, f (l .p) (l .inv .1) (omega arith), c .before .bit .ensures)
+zeros-requires : tie.Need-zeros-requires
+zeros-requires c κs = search needs
 
-add-p : tie.Need-add-p Inv-loop μ-loop
-add-p c = search needs
-
-loop-less : tie.Need-loop-less Inv-loop μ-loop
-loop-less c = search needs
-
-loop-again : tie.Need-loop-again Inv-loop μ-loop
-loop-again c =
-    let l = c .before .before .before .loop in (
-      omega arith,
-      omega arith,
-      range-more (λ q. bitAt (c .before .before .before .before .before .args .bs .now) q ≡ 0)
-          (c .before .before .before .before .before .args .from) (l .p) (l .inv .2) (omega (arith, c .before .bit .ensures)),
-    )
-
-returns-2 : tie.Need-returns-2 Inv-loop μ-loop
-returns-2 c = λ q a b. c .before .loop .inv .2 q a (omega arith)
+returns-3 : tie.Need-returns-3
+returns-3 c =
+    let a = c .before .before .before .before .before .before .args in
+    let k = c .before .before .before .before .before .shared-slice-known .given in
+    rest-is (a .bs .now) (a .from) (λ q. omega (arith, k q)) (omega arith) (c .zeros .result)
+    (sym (c .before .before .low-bits .ensures) ∙ omega arith) (c .zeros .ensures)
 
 pub blank-spec : {M : Type 1} → statement M
-blank-spec =
-    tie.close
-    (tie.spec
-    Inv-loop
-    μ-loop
-    mul-end
-    loop-holds
-    bit-requires
-    returns
-    add-p
-    loop-less
-    loop-again
-    returns-2)
+blank-spec = tie.close (tie.spec returns shared-slice-read-low-bits low-bits-requires returns-2 add-zeros zeros-requires returns-3)

@@ -1,4 +1,4 @@
-/* beside.c - libfec for the same code, and a clock. */
+/* beside.c - libfec for the same code, and two sides timed in turn. */
 #define _POSIX_C_SOURCE 199309L /* for clock_gettime */
 #include "beside.h"
 
@@ -6,6 +6,10 @@
 #include <stdio.h>
 #include <stdlib.h>
 #include <time.h>
+
+enum { RUNS = 9 }; /* of a row; odd, so that one ratio is the median */
+
+/* ---- libfec ---- */
 
 /* The same code: field 0x11D, first root alpha^253 = alpha^-2, five roots. */
 void *new_fec(size_t len)
@@ -35,10 +39,85 @@ void find_erasures(const uint8_t *marks, size_t len,
             erasures[count++] = (int)i;
 }
 
-double now(void)
+/* ---- timing ---- */
+
+void require(bool right, const char *who)
+{
+    if (!right) {
+        fprintf(stderr, "%s: a result is not as it must be\n", who);
+        exit(1);
+    }
+}
+
+/* In ns. */
+static double now(void)
 {
     struct timespec t;
 
     clock_gettime(CLOCK_MONOTONIC, &t);
     return (double)t.tv_sec * 1e9 + (double)t.tv_nsec;
+}
+
+static void keep_least(double *least, double ns)
+{
+    if (ns < *least)
+        *least = ns;
+}
+
+static void time_side(const struct row *r, const struct side *s, double *least)
+{
+    r->restore(r->batch);
+
+    const double start = now();
+
+    s->run(r->batch);
+    keep_least(least, (now() - start) / r->count);
+    s->check(r->batch);
+}
+
+struct times {
+    double theirs, ours;
+};
+
+static struct times run_row(const struct row *r)
+{
+    struct times t = {1e18, 1e18};
+
+    for (int round = 0; round < r->rounds; round++) {
+        r->fill(r->batch);
+        time_side(r, &r->theirs, &t.theirs);
+        time_side(r, &r->ours, &t.ours);
+    }
+    return t;
+}
+
+static int by_size(const void *a, const void *b)
+{
+    const double x = *(const double *)a, y = *(const double *)b;
+
+    return (x > y) - (x < y);
+}
+
+void print_heads(const char *theirs)
+{
+    printf(" %9s %8s %9s  (least to greatest of %d runs)\n", theirs, "ours",
+           "median", RUNS);
+}
+
+void print_row(const struct row *r)
+{
+    struct times least = {1e18, 1e18};
+    double ratio[RUNS];
+
+    for (int run = 0; run < RUNS; run++) {
+        const struct times t = run_row(r);
+
+        keep_least(&least.theirs, t.theirs);
+        keep_least(&least.ours, t.ours);
+        ratio[run] = t.theirs / t.ours;
+    }
+    qsort(ratio, RUNS, sizeof ratio[0], by_size);
+    printf(" %9.0f %8.0f %7.1f x  (%.1f to %.1f)\n", least.theirs, least.ours,
+           ratio[RUNS / 2], ratio[0], ratio[RUNS - 1]);
+    fflush(stdout);
 }

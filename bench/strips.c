@@ -21,7 +21,7 @@
 
 enum {
     STRIPS = 16, /* strips per pass: few enough for the cache */
-    ROUNDS = 300 /* passes of each, in turn; the quickest counts */
+    ROUNDS = 32  /* of a run */
 };
 
 struct damage {
@@ -33,14 +33,12 @@ struct damage {
 
 /* ---- a batch of strips with one kind of damage ---- */
 
-/* New levels in every round, so that no branch can be learnt by heart. */
-
 typedef uint8_t lanes[REF_LANES][REF_LANE_MAX];
 typedef int erasures[REF_LANES][REF_CHECK_BYTES];
 
 struct batch {
     void *fec;
-    size_t width, height;
+    size_t width, height, cells;
     const struct damage *damage;
     struct board level[STRIPS];
     struct picture picture[STRIPS];
@@ -74,8 +72,16 @@ static void fill_strip(struct batch *b, int i)
     }
 }
 
-static void restore(struct batch *b)
+static void fill(void *batch)
 {
+    for (int i = 0; i < STRIPS; i++)
+        fill_strip(batch, i);
+}
+
+static void restore(void *batch)
+{
+    struct batch *b = batch;
+
     memcpy(b->work, b->damaged, sizeof b->work);
     memcpy(b->work_marked, b->marked, sizeof b->work_marked);
     memset(b->strip, 0, sizeof b->strip);
@@ -84,10 +90,10 @@ static void restore(struct batch *b)
 
 /* ---- passes over a batch ---- */
 
-typedef void pass(struct batch *b);
-
-static void our_write(struct batch *b)
+static void our_write(void *batch)
 {
+    struct batch *b = batch;
+
     for (int i = 0; i < STRIPS; i++) {
         const struct board *l = &b->level[i];
 
@@ -97,8 +103,9 @@ static void our_write(struct batch *b)
     }
 }
 
-static void fec_write(struct batch *b)
+static void fec_write(void *batch)
 {
+    struct batch *b = batch;
     const size_t k = lane_len(&b->picture[0]) - REF_CHECK_BYTES;
 
     for (int i = 0; i < STRIPS; i++)
@@ -106,8 +113,10 @@ static void fec_write(struct batch *b)
             encode_rs_char(b->fec, b->work[i][lane], b->work[i][lane] + k);
 }
 
-static void our_read(struct batch *b)
+static void our_read(void *batch)
 {
+    struct batch *b = batch;
+
     for (int i = 0; i < STRIPS; i++) {
         const struct picture *p = &b->picture[i];
 
@@ -117,8 +126,9 @@ static void our_read(struct batch *b)
     }
 }
 
-static void fec_read(struct batch *b)
+static void fec_read(void *batch)
 {
+    struct batch *b = batch;
     const int marked = (int)b->damage->marked;
 
     for (int i = 0; i < STRIPS; i++)
@@ -128,23 +138,16 @@ static void fec_read(struct batch *b)
                            marked);
 }
 
-/* ---- a pass that gives wrong results is not worth timing ---- */
-
-static void require(bool right, const char *who)
-{
-    if (!right) {
-        fprintf(stderr, "%s: a result is not as it must be\n", who);
-        exit(1);
-    }
-}
+/* ---- what a pass must leave ---- */
 
 static bool is_reached(const struct damage *d)
 {
     return 2 * d->wrong + d->marked <= REF_REACH;
 }
 
-static void require_lanes(const struct batch *b)
+static void check_lanes(void *batch)
 {
+    const struct batch *b = batch;
     const size_t len = lane_len(&b->picture[0]);
 
     for (int i = 0; i < STRIPS; i++)
@@ -154,8 +157,10 @@ static void require_lanes(const struct batch *b)
                     "libfec");
 }
 
-static void require_strips(const struct batch *b)
+static void check_strips(void *batch)
 {
+    const struct batch *b = batch;
+
     for (int i = 0; i < STRIPS; i++) {
         const struct picture *p = &b->picture[i];
 
@@ -183,51 +188,27 @@ static bool is_right(const struct batch *b, int i)
            memcmp(b->tiles[i], l->tiles, l->tiles_len) == 0;
 }
 
-static void require_levels(const struct batch *b)
+static void check_levels(void *batch)
 {
     for (int i = 0; i < STRIPS; i++)
-        require(is_right(b, i), "ours");
+        require(is_right(batch, i), "ours");
 }
 
 /* ---- timing ---- */
 
-static void time_pass(struct batch *b, pass *run, double *least)
+static void compare(struct batch *b, const struct damage *d, pass *theirs,
+                    struct side ours)
 {
-    restore(b);
-
-    const double start = now();
-
-    run(b);
-
-    const double each = (now() - start) / STRIPS;
-
-    if (each < *least)
-        *least = each;
-}
-
-struct row {
-    pass *ours, *theirs;
-    void (*require_ours)(const struct batch *);
-};
-
-static void compare(struct batch *b, const struct damage *d, struct row row)
-{
-    double our_ns = 1e18, fec_ns = 1e18;
+    const struct row row = {
+        .batch = b, .count = STRIPS, .rounds = ROUNDS, .fill = fill,
+        .restore = restore, .theirs = {theirs, check_lanes}, .ours = ours};
 
     b->damage = d;
-    for (int round = 0; round < ROUNDS; round++) {
-        for (int i = 0; i < STRIPS; i++)
-            fill_strip(b, i);
-        time_pass(b, row.theirs, &fec_ns);
-        require_lanes(b);
-        time_pass(b, row.ours, &our_ns);
-        row.require_ours(b);
-    }
-    printf("%5zu  %-26s %8.0f %8.0f %7.1f x\n", b->picture[0].strip_len,
-           d->name, fec_ns, our_ns, fec_ns / our_ns);
+    printf("%5zu  %-26s", b->cells, d->name);
+    print_row(&row);
 }
 
-static void time_size(size_t width, size_t height, size_t lane_cells)
+static void time_size(size_t width, size_t height, size_t cells)
 {
     static const struct damage none = {"write", 0, 0, 0};
     static const struct damage damages[] = {
@@ -237,16 +218,17 @@ static void time_size(size_t width, size_t height, size_t lane_cells)
         {"read, 5 marked a lane", 0, 0, 5},
         {"read, 3 wrong in lane 3", 3, 3, 0},
     };
-    static const struct row write = {our_write, fec_write, require_strips};
-    static const struct row read = {our_read, fec_read, require_levels};
+    static const struct side write = {our_write, check_strips};
+    static const struct side read = {our_read, check_levels};
     static struct batch b;
 
-    b.fec = new_fec(lane_cells);
+    b.fec = new_fec(cells / REF_LANES);
     b.width = width;
     b.height = height;
-    compare(&b, &none, write);
+    b.cells = cells;
+    compare(&b, &none, fec_write, write);
     for (size_t k = 0; k < COUNT(damages); k++)
-        compare(&b, &damages[k], read);
+        compare(&b, &damages[k], fec_read, read);
     free_rs_char(b.fec);
 }
 
@@ -254,9 +236,10 @@ int main(void)
 {
     draw_seed(1);
     printf("ns per strip, and for libfec per four lanes\n");
-    printf("%5s  %-26s %8s %8s\n", "cells", "", "libfec", "ours");
-    time_size(31, 31, REF_STRIP_MAX / REF_LANES);
-    time_size(2, 1, REF_STRIP_MIN / REF_LANES);
+    printf("%5s  %-26s", "cells", "");
+    print_heads("libfec");
+    time_size(31, 31, REF_STRIP_MAX);
+    time_size(2, 1, REF_STRIP_MIN);
     printf("Three wrong cells in lane 3 are refused (6).\n");
     return 0;
 }

@@ -19,7 +19,7 @@
 
 enum {
     WORDS = 64,    /* words per pass: few enough for the cache */
-    ROUNDS = 200,  /* passes of each, in turn; the quickest counts */
+    ROUNDS = 24,   /* of a run */
     DRAWN = 20000, /* damaged words per line of the second table */
     FULL = REF_WORD_MAX
 };
@@ -32,12 +32,10 @@ struct damage {
 
 /* ---- a batch of words with one kind of damage ---- */
 
-/* New words in every round, so that no branch can be learnt by heart. */
-
 struct batch {
     void *fec;
     size_t len;
-    int marked;
+    const struct damage *damage;
     uint8_t written[WORDS][FULL];
     uint8_t damaged[WORDS][FULL];
     uint8_t marks[WORDS][FULL];
@@ -47,9 +45,11 @@ struct batch {
     uint64_t result[WORDS];
 };
 
-static void fill(struct batch *b, const struct damage *d)
+static void fill(void *batch)
 {
-    b->marked = d->marked;
+    struct batch *b = batch;
+    const struct damage *d = b->damage;
+
     for (int i = 0; i < WORDS; i++) {
         struct sample s;
 
@@ -62,104 +62,105 @@ static void fill(struct batch *b, const struct damage *d)
     }
 }
 
-static void restore(struct batch *b)
+static void restore(void *batch)
 {
+    struct batch *b = batch;
+
     memcpy(b->work, b->damaged, sizeof b->work);
     memcpy(b->work_erasures, b->erasures, sizeof b->work_erasures);
 }
 
 /* ---- passes over a batch ---- */
 
-typedef void pass(struct batch *b);
-
-static void our_write(struct batch *b)
+static void our_write(void *batch)
 {
+    struct batch *b = batch;
+
     for (int i = 0; i < WORDS; i++)
         b->result[i] = zav_word_write(b->written[i], b->len - REF_CHECK_BYTES,
                                       b->work[i], b->len);
 }
 
-static void fec_write(struct batch *b)
+static void fec_write(void *batch)
 {
+    struct batch *b = batch;
+
     for (int i = 0; i < WORDS; i++)
         encode_rs_char(b->fec, b->work[i],
                        b->work[i] + b->len - REF_CHECK_BYTES);
 }
 
-static void our_test(struct batch *b)
+static void our_test(void *batch)
 {
+    struct batch *b = batch;
+
     for (int i = 0; i < WORDS; i++)
         b->result[i] = zav_word_test(b->work[i], b->len);
 }
 
-static void our_repair(struct batch *b)
+static void our_repair(void *batch)
 {
+    struct batch *b = batch;
+
     for (int i = 0; i < WORDS; i++)
         b->result[i] =
             zav_word_repair(b->work[i], b->len, b->marks[i], b->len);
 }
 
-static void fec_repair(struct batch *b)
+static void fec_repair(void *batch)
 {
+    struct batch *b = batch;
+    const int marked = b->damage->marked;
+
     for (int i = 0; i < WORDS; i++)
         b->result[i] = (uint64_t)decode_rs_char(
-            b->fec, b->work[i], b->marked > 0 ? b->work_erasures[i] : NULL,
-            b->marked);
+            b->fec, b->work[i], marked > 0 ? b->work_erasures[i] : NULL,
+            marked);
+}
+
+/* ---- what a pass must leave ---- */
+
+static bool is_reached(const struct damage *d)
+{
+    return 2 * d->wrong + d->marked <= REF_REACH;
+}
+
+static void check_fec(void *batch)
+{
+    const struct batch *b = batch;
+
+    for (int i = 0; i < WORDS; i++)
+        require(!is_reached(b->damage) ||
+                memcmp(b->work[i], b->written[i], b->len) == 0, "libfec");
+}
+
+static void check_ours(void *batch)
+{
+    const struct batch *b = batch;
+    const bool reached = is_reached(b->damage);
+
+    for (int i = 0; i < WORDS; i++) {
+        const uint8_t *expected = reached ? b->written[i] : b->damaged[i];
+
+        require(memcmp(b->work[i], expected, b->len) == 0, "ours");
+        require(zav_code(b->result[i]) ==
+                (reached ? ZAV_DONE : ZAV_BEYOND_REACH), "ours");
+    }
 }
 
 /* ---- timing ---- */
 
-static void time_pass(struct batch *b, pass *run, double *least)
-{
-    restore(b);
-
-    const double start = now();
-
-    run(b);
-
-    const double each = (now() - start) / WORDS;
-
-    if (each < *least)
-        *least = each;
-}
-
-/* A pass that gives wrong words is not worth timing. */
-static void require_words(const struct batch *b, uint8_t (*expected)[FULL],
-                          const char *who)
-{
-    for (int i = 0; i < WORDS; i++)
-        if (memcmp(b->work[i], expected[i], b->len) != 0) {
-            fprintf(stderr, "%s: word %d is not as it must be\n", who, i);
-            exit(1);
-        }
-}
-
-static void require_code(const struct batch *b, unsigned code)
-{
-    for (int i = 0; i < WORDS; i++)
-        if (zav_code(b->result[i]) != code) {
-            fprintf(stderr, "ours: code %u\n", zav_code(b->result[i]));
-            exit(1);
-        }
-}
-
 static void compare(struct batch *b, const struct damage *d, pass *ours,
                     pass *theirs)
 {
-    const bool reached = 2 * d->wrong + d->marked <= REF_REACH;
-    double our_ns = 1e18, fec_ns = 1e18;
+    const struct row row = {
+        .batch = b, .count = WORDS, .rounds = ROUNDS, .fill = fill,
+        .restore = restore, .theirs = {theirs, check_fec},
+        .ours = {ours, check_ours}};
 
-    for (int round = 0; round < ROUNDS; round++) {
-        fill(b, d);
-        time_pass(b, theirs, &fec_ns);
-        if (reached)
-            require_words(b, b->written, "libfec");
-        time_pass(b, ours, &our_ns);
-        require_words(b, reached ? b->written : b->damaged, "ours");
-        require_code(b, reached ? ZAV_DONE : ZAV_BEYOND_REACH);
-    }
-    printf("%5zu  %-20s %8.0f %8.0f %7.1f x\n", b->len, d->name, fec_ns,
-           our_ns, fec_ns / our_ns);
+    b->damage = d;
+    printf("%5zu  %-20s", b->len, d->name);
+    print_row(&row);
 }
 
 static void time_length(size_t len)
@@ -268,7 +269,8 @@ int main(void)
 
     draw_seed(1);
     printf("ns per word\n");
-    printf("%5s  %-20s %8s %8s\n", "n", "", "libfec", "ours");
+    printf("%5s  %-20s", "n", "");
+    print_heads("libfec");
     for (size_t k = 0; k < COUNT(lengths); k++)
         time_length(lengths[k]);
 

@@ -8,7 +8,6 @@ use native.Mathlib.Omega.{arith}
 use native.Mathlib.Decide.{ℕ-discrete}
 use lib.Dec.{T, eqb, eqb→eq, eqb-refl}
 use lib.ListN.{length, getD}
-use borrow.Author.Tests.{eq-eqb}
 use Rattle.account.specs.Reach.{oneIf, and, countTo, isMarked, differsAt}
 use Rattle.account.specs.Errata.{Outside, Below, Distinct}
 use Rattle.account.specs.Search.{addIf, places}
@@ -189,16 +188,6 @@ pub twice-not : (b : Bool) → T b → T (not (not b))
 twice-not true t = tt
 twice-not false t = t
 
-pub unmarked-at : (marks : List ℕ) (j : ℕ) → T (not (isMarked marks j)) → getD marks j 0 ≡ 0
-unmarked-at marks j t = eqb→eq (getD marks j 0) 0 (not-not (eqb (getD marks j 0) 0) t)
-
-pub marked-not : (marks : List ℕ) (i p : ℕ) → T (isMarked marks i) → getD marks p 0 ≡ 0 → i ≢ p
-marked-not marks i p t e q = go (eqb (getD marks i 0) 0) (eq-eqb (getD marks i 0) 0 (ap (λ (x : ℕ). getD marks x 0) q ∙ e)) t
-  where
-    go : (b : Bool) → b ≡ true → T (not b) → ⊥
-    go true q u = u
-    go false q u = subst (λ (x : Bool). T (not x)) q tt
-
 -- an unmarked cell that does not differ is the same
 pub same-at : (marks r w : List ℕ) (j : ℕ) → T (not (isMarked marks j)) → T (not (differsAt marks r w j)) → getD w j 0 ≡ getD r j 0
 same-at marks r w j = go (isMarked marks j) (eqb (getD w j 0) (getD r j 0)) refl
@@ -224,8 +213,8 @@ marked-differs marks r w j t = go (isMarked marks j) t
     go false u = absurd u
 
 -- what differs is not marked
-pub differs-unmarked : (marks r w : List ℕ) (j : ℕ) → T (differsAt marks r w j) → getD marks j 0 ≡ 0
-differs-unmarked marks r w j t = unmarked-at marks j (left (not (isMarked marks j)) (not (eqb (getD w j 0) (getD r j 0))) t)
+pub differs-unmarked : (marks r w : List ℕ) (j : ℕ) → T (differsAt marks r w j) → T (not (isMarked marks j))
+differs-unmarked marks r w j t = left (not (isMarked marks j)) (not (eqb (getD w j 0) (getD r j 0))) t
   where
     left : (a b : Bool) → T (and a b) → T a
     left true b u = tt

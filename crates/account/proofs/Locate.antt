@@ -5,9 +5,8 @@ use mathlib.Core.List.{List, [], _∷_}
 use Prim.Native.Nat.{ℕ, zero, suc, _+_, _-_, _≤_, _<_}
 use native.Mathlib.Omega.{arith}
 use native.Mathlib.Decide.{ℕ-discrete}
-use lib.ListN.{length, getD}
 use Rattle.account.specs.Field.{Ops, In, IsField, power}
-use Rattle.account.specs.Errata.{place, filt}
+use Rattle.account.specs.Errata.{Outside, place, filt}
 use Rattle.account.specs.Search.{Zeros, Fits, CellOf, Found1, Found2, Joined, Splits, HalfOf}
 use Rattle.account.proofs.Laws as laws
 use Rattle.account.proofs.Powers as powers
@@ -19,11 +18,11 @@ module _ (O : Ops) (F : IsField O) where
   infixl 70 _⊗_
   -- ---- the cell of a place
 
-  pub no-cell : (marks : List ℕ) (x : ℕ) → x ≡ 0 → CellOf O x marks (length marks)
-  no-cell marks x e = record {
+  pub no-cell : (n : ℕ) (ps : List ℕ) (x : ℕ) → x ≡ 0 → CellOf O x n ps n
+  no-cell n ps x e = record {
     within = omega arith;
     right = λ l. absurd (omega arith);
-    all = λ p l q u. absurd (powers.pow-some O F (length marks - suc p) (q ∙ e));
+    all = λ p l q u. absurd (powers.pow-some O F (n - suc p) (q ∙ e));
   }
 
   one-power : (i j : ℕ) → i < order → j < order → power O α i ≡ power O α j → i ≡ j
@@ -34,35 +33,35 @@ module _ (O : Ops) (F : IsField O) where
       go (no ne) = absurd (powers.pow-apart O F i j hi hj ne e)
 
   -- x is the i-th power
-  module _ (marks : List ℕ) (x i : ℕ) (short : length marks ≤ order) (small : i < order) (is : power O α i ≡ x) where
-    its : (p : ℕ) → p < length marks → place O (length marks) p ≡ x → length marks - suc p ≡ i
-    its p l q = one-power (length marks - suc p) i (omega arith) small (q ∙ sym is)
+  module _ (n : ℕ) (ps : List ℕ) (x i : ℕ) (short : n ≤ order) (small : i < order) (is : power O α i ≡ x) where
+    its : (p : ℕ) → p < n → place O n p ≡ x → n - suc p ≡ i
+    its p l q = one-power (n - suc p) i (omega arith) small (q ∙ sym is)
 
-    pub far-cell : length marks ≤ i → CellOf O x marks (length marks)
+    pub far-cell : n ≤ i → CellOf O x n ps n
     far-cell h = record {
       within = omega arith;
       right = λ l. absurd (omega arith);
       all = λ p l q u. absurd (omega (arith, its p l q));
     }
 
-    pub marked-cell : i < length marks → (getD marks (length marks - (i + 1)) 0 ≡ 0 → ⊥) → CellOf O x marks (length marks)
+    pub marked-cell : i < n → (Outside ps (n - (i + 1)) → ⊥) → CellOf O x n ps n
     marked-cell h m = record {
       within = omega arith;
       right = λ l. absurd (omega arith);
-      all = λ p l q u. absurd (m (subst (λ (k : ℕ). getD marks k 0 ≡ 0) (there p l q) u));
+      all = λ p l q u. absurd (m (subst (Outside ps) (there p l q) u));
     }
       where
-        there : (p : ℕ) → p < length marks → place O (length marks) p ≡ x → p ≡ length marks - (i + 1)
+        there : (p : ℕ) → p < n → place O n p ≡ x → p ≡ n - (i + 1)
         there p l q = omega (arith, its p l q)
 
-    pub good-cell : i < length marks → getD marks (length marks - (i + 1)) 0 ≡ 0 → CellOf O x marks (length marks - (i + 1))
+    pub good-cell : i < n → Outside ps (n - (i + 1)) → CellOf O x n ps (n - (i + 1))
     good-cell h m = record {
       within = omega arith;
       right = λ l. (ap (power O α) back ∙ is, m);
       all = λ p l q u. omega (arith, its p l q);
     }
       where
-        back : length marks - suc (length marks - (i + 1)) ≡ i
+        back : n - suc (n - (i + 1)) ≡ i
         back = omega arith
 
   -- ---- one cell
@@ -73,43 +72,43 @@ module _ (O : Ops) (F : IsField O) where
   all-none s x k e h (suc m) l =
       laws.add-eq O F (s (suc m)) (x ⊗ s m) (h m (omega arith)) ∙ ap (λ (y : ℕ). x ⊗ y) (all-none s x k e h m (omega arith)) ∙ laws.mul-zero O F x
 
-  pub first-none : (t : ℕ → ℕ) (k : ℕ) (marks : List ℕ) → (Zeros (suc k) t → ⊥) → t 0 ≡ 0 → Found1 O t k marks (length marks)
-  first-none t k marks z e = record {
+  pub first-none : (t : ℕ → ℕ) (k n : ℕ) (ps : List ℕ) → (Zeros (suc k) t → ⊥) → t 0 ≡ 0 → Found1 O t k n ps n
+  first-none t k n ps z e = record {
     within = omega arith;
     fits = λ l. absurd (omega arith);
-    none = λ q p l f. z (all-none t (place O (length marks) p) k e (f .none));
+    none = λ q p l f. z (all-none t (place O n p) k e (f .none));
   }
 
   -- the ratio is the place
-  module _ (t : ℕ → ℕ) (k : ℕ) (marks : List ℕ) (x i r : ℕ) (hk : 1 ≤ k) (ei : t 0 ⊗ i ≡ 1) (ex : x ≡ t 1 ⊗ i) (C : CellOf O x marks r) where
+  module _ (t : ℕ → ℕ) (k n : ℕ) (ps : List ℕ) (x i r : ℕ) (hk : 1 ≤ k) (ei : t 0 ⊗ i ≡ 1) (ex : x ≡ t 1 ⊗ i) (C : CellOf O x n ps r) where
     abbrev at : ℕ → ℕ
-    at = place O (length marks)
+    at = place O n
 
-    ratio : (p : ℕ) → Fits O marks t k (p ∷ []) → at p ≡ x
+    ratio : (p : ℕ) → Fits O n ps t k (p ∷ []) → at p ≡ x
     ratio p f =
         sym (ex
         ∙ ap (λ (y : ℕ). y ⊗ i) (laws.add-eq O F (t 1) (at p ⊗ t 0) (f .none 0 (omega arith)))
-        ∙ F .mul-assoc (at p) (t 0) i ∙ ap (λ (y : ℕ). at p ⊗ y) ei ∙ F .mul-one (at p) (powers.place-in O F (length marks) p))
+        ∙ F .mul-assoc (at p) (t 0) i ∙ ap (λ (y : ℕ). at p ⊗ y) ei ∙ F .mul-one (at p) (powers.place-in O F n p))
 
-    pub out-of-range : length marks ≤ r → Found1 O t k marks (length marks)
+    pub out-of-range : n ≤ r → Found1 O t k n ps n
     out-of-range h = record {
       within = omega arith;
       fits = λ l. absurd (omega arith);
-      none = λ q p l f. absurd (omega (arith, C .all p l (ratio p f) (f .unmarked .0)));
+      none = λ q p l f. absurd (omega (arith, C .all p l (ratio p f) (f .free .0)));
     }
 
-    module _ (hr : r < length marks) where
-      pub it-fits : Zeros k (filt O (x ∷ []) t) → Found1 O t k marks r
+    module _ (hr : r < n) where
+      pub it-fits : Zeros k (filt O (x ∷ []) t) → Found1 O t k n ps r
       it-fits z = record {
         within = omega arith;
         fits = λ l. record {
-          unmarked = (C .right hr .1, tt);
+          free = (C .right hr .1, tt);
           none = λ m j. ap (λ (y : ℕ). t (suc m) ⊕ (y ⊗ t m)) (C .right hr .0) ∙ z m j;
         };
         none = λ q. absurd (omega arith);
       }
 
-      pub it-fails : (Zeros k (filt O (x ∷ []) t) → ⊥) → Found1 O t k marks (length marks)
+      pub it-fails : (Zeros k (filt O (x ∷ []) t) → ⊥) → Found1 O t k n ps n
       it-fails z = record {
         within = omega arith;
         fits = λ l. absurd (omega arith);
@@ -190,12 +189,9 @@ module _ (O : Ops) (F : IsField O) where
 
   -- ---- two cells
 
-  module _ (x y : ℕ) (t : ℕ → ℕ) (k : ℕ) (marks : List ℕ) where
-    abbrev n : ℕ
-    n = length marks
-
+  module _ (x y : ℕ) (t : ℕ → ℕ) (k n : ℕ) (ps : List ℕ) where
     apart : ((a b : ℕ) → a < n → b < n → place O n a ≡ x → place O n b ≡ y
-        → getD marks a 0 ≡ 0 → getD marks b 0 ≡ 0 → Zeros k (filt O (x ∷ y ∷ []) t) → ⊥) → Joined O x y t k marks n n
+        → Outside ps a → Outside ps b → Zeros k (filt O (x ∷ y ∷ []) t) → ⊥) → Joined O x y t k n ps n n
     apart h = record {
       within = omega arith;
       at-p = λ l. absurd (omega arith);
@@ -204,13 +200,13 @@ module _ (O : Ops) (F : IsField O) where
       none = λ e. h;
     }
 
-    pub not-first : (r : ℕ) → CellOf O x marks r → n ≤ r → Joined O x y t k marks n n
+    pub not-first : (r : ℕ) → CellOf O x n ps r → n ≤ r → Joined O x y t k n ps n n
     not-first r C h = apart (λ a b la lb ea eb ma mb z. absurd (omega (arith, C .all a la ea ma)))
 
-    pub not-second : (r : ℕ) → CellOf O y marks r → n ≤ r → Joined O x y t k marks n n
+    pub not-second : (r : ℕ) → CellOf O y n ps r → n ≤ r → Joined O x y t k n ps n n
     not-second r C h = apart (λ a b la lb ea eb ma mb z. absurd (omega (arith, C .all b lb eb mb)))
 
-    pub do-fit : (r s : ℕ) → CellOf O x marks r → CellOf O y marks s → r < n → s < n → Zeros k (filt O (x ∷ y ∷ []) t) → Joined O x y t k marks r s
+    pub do-fit : (r s : ℕ) → CellOf O x n ps r → CellOf O y n ps s → r < n → s < n → Zeros k (filt O (x ∷ y ∷ []) t) → Joined O x y t k n ps r s
     do-fit r s C D lr ls z = record {
       within = omega arith;
       at-p = λ l. C .right lr;
@@ -219,30 +215,30 @@ module _ (O : Ops) (F : IsField O) where
       none = λ e. absurd (omega arith);
     }
 
-    pub do-not-fit : (Zeros k (filt O (x ∷ y ∷ []) t) → ⊥) → Joined O x y t k marks n n
+    pub do-not-fit : (Zeros k (filt O (x ∷ y ∷ []) t) → ⊥) → Joined O x y t k n ps n n
     do-not-fit h = apart (λ a b la lb ea eb ma mb z. h z)
 
   -- no cell fits alone
-  module _ (t : ℕ → ℕ) (k : ℕ) (marks : List ℕ) (short : length marks ≤ order) (hk : 2 ≤ k)
-      (t1-in : In O (t 1)) (no-one : (p : ℕ) → p < length marks → Fits O marks t (suc k) (p ∷ []) → ⊥) where
+  module _ (t : ℕ → ℕ) (k n : ℕ) (ps : List ℕ) (short : n ≤ order) (hk : 2 ≤ k)
+      (t1-in : In O (t 1)) (no-one : (p : ℕ) → p < n → Fits O n ps t (suc k) (p ∷ []) → ⊥) where
     abbrev det : ℕ
     det = (t 1 ⊗ t 1) ⊕ (t 0 ⊗ t 2)
 
-    module _ (p q : ℕ) (lp : p < length marks) (lq : q < p) (f : Fits O marks t k (p ∷ q ∷ [])) where
+    module _ (p q : ℕ) (lp : p < n) (lq : q < p) (f : Fits O n ps t k (p ∷ q ∷ [])) where
       abbrev X : ℕ
-      X = place O (length marks) p
+      X = place O n p
 
       abbrev Y : ℕ
-      Y = place O (length marks) q
+      Y = place O n q
 
       X-in : In O X
-      X-in = powers.place-in O F (length marks) p
+      X-in = powers.place-in O F n p
 
       Y-in : In O Y
-      Y-in = powers.place-in O F (length marks) q
+      Y-in = powers.place-in O F n q
 
       unlike : X ⊕ Y ≢ 0
-      unlike e = powers.place-apart O F (length marks) short p q lp (omega arith) (omega arith) (laws.add-eq O F X Y e)
+      unlike e = powers.place-apart O F n short p q lp (omega arith) (omega arith) (laws.add-eq O F X Y e)
 
       next : (m : ℕ) → m < k → t (suc (suc m)) ≡ ((X ⊕ Y) ⊗ t (suc m)) ⊕ ((X ⊗ Y) ⊗ t m)
       next m l =
@@ -265,12 +261,12 @@ module _ (O : Ops) (F : IsField O) where
           go : Dec (t 1 ⊕ (Y ⊗ t 0) ≡ 0) → ⊥
           go (yes z) =
               no-one q (omega arith) (record {
-                unmarked = (f .unmarked .1 .0, tt);
+                free = (f .free .1 .0, tt);
                 none = all-none (λ m. t (suc m) ⊕ (Y ⊗ t m)) X k z (λ m l. sym (swapped (t m) (t (suc m)) (t (suc (suc m))) X Y) ∙ f .none m l);
               })
           go (no c) =
               no-one p lp (record {
-                unmarked = (f .unmarked .0, tt);
+                free = (f .free .0, tt);
                 none = all-none (λ m. t (suc m) ⊕ (X ⊗ t m)) Y k
                     (laws.mul-cancel O F (t 1 ⊕ (Y ⊗ t 0)) (t 1 ⊕ (X ⊗ t 0)) (F .in-add (t 1) (Y ⊗ t 0) t1-in (F .in-mul Y (t 0)))
                     (F .in-add (t 1) (X ⊗ t 0) t1-in (F .in-mul X (t 0))) c (sym factors ∙ e))
@@ -297,13 +293,13 @@ module _ (O : Ops) (F : IsField O) where
 
         -- the pair is proposed, in one order or the other
         pub proposed : (u v x y a b : ℕ) → u ≡ ((t 1 ⊗ t 2) ⊕ (t 0 ⊗ t 3)) ⊗ i → v ≡ ((t 2 ⊗ t 2) ⊕ (t 1 ⊗ t 3)) ⊗ i
-            → Splits O u v x → y ≡ x ⊕ u → Joined O x y t k marks a b → a ≡ length marks → ⊥
+            → Splits O u v x → y ≡ x ⊕ u → Joined O x y t k n ps a b → a ≡ n → ⊥
         proposed u v x y a b eu ev S ey J e =
             ⊎-elim
-            (λ g. J .none e p q lp (omega arith) (sym g) (sym (ey ∙ ap₂ (λ (c w : ℕ). c ⊕ w) g (eu ∙ u-is) ∙ laws.gone O F X Y)) (f .unmarked .0)
-            (f .unmarked .1 .0)
+            (λ g. J .none e p q lp (omega arith) (sym g) (sym (ey ∙ ap₂ (λ (c w : ℕ). c ⊕ w) g (eu ∙ u-is) ∙ laws.gone O F X Y)) (f .free .0)
+            (f .free .1 .0)
             (λ m l. ap₂ (λ (c w : ℕ). filt O (c ∷ w ∷ []) t m) g (ey ∙ ap₂ (λ (c w : ℕ). c ⊕ w) g (eu ∙ u-is) ∙ laws.gone O F X Y) ∙ f .none m l))
-            (λ g. J .none e q p (omega arith) lp (sym g) (sym (ey ∙ ap₂ (λ (c w : ℕ). c ⊕ w) g (eu ∙ u-is) ∙ back)) (f .unmarked .1 .0) (f .unmarked .0)
+            (λ g. J .none e q p (omega arith) lp (sym g) (sym (ey ∙ ap₂ (λ (c w : ℕ). c ⊕ w) g (eu ∙ u-is) ∙ back)) (f .free .1 .0) (f .free .0)
             (λ m l. ap₂ (λ (c w : ℕ). filt O (c ∷ w ∷ []) t m) g (ey ∙ ap₂ (λ (c w : ℕ). c ⊕ w) g (eu ∙ u-is) ∙ back)
             ∙ swapped (t m) (t (suc m)) (t (suc (suc m))) Y X ∙ f .none m l))
             (S X Y X-in Y-in (sym (eu ∙ u-is)) (sym (ev ∙ v-is)))
@@ -311,28 +307,28 @@ module _ (O : Ops) (F : IsField O) where
             back : Y ⊕ (X ⊕ Y) ≡ X
             back = ap (λ (z : ℕ). Y ⊕ z) (F .add-comm X Y) ∙ laws.gone O F Y X
 
-    pub nowhere : ((p q : ℕ) → p < length marks → q < p → Fits O marks t k (p ∷ q ∷ []) → ⊥) → Found2 O t k marks (length marks) (length marks)
-    nowhere n = record {
+    pub nowhere : ((p q : ℕ) → p < n → q < p → Fits O n ps t k (p ∷ q ∷ []) → ⊥) → Found2 O t k n ps n n
+    nowhere h = record {
       within = omega arith;
       apart = λ l. absurd (omega arith);
       fits = λ l. absurd (omega arith);
-      none = λ e. n;
+      none = λ e. h;
     }
 
-    pub found : (x y u a b : ℕ) → y ≡ x ⊕ u → u ≢ 0 → In O u → Joined O x y t k marks a b
-        → (a ≡ length marks → (p q : ℕ) → p < length marks → q < p → Fits O marks t k (p ∷ q ∷ []) → ⊥) → Found2 O t k marks a b
-    found x y u a b ey nu ui J n = record {
+    pub found : (x y u a b : ℕ) → y ≡ x ⊕ u → u ≢ 0 → In O u → Joined O x y t k n ps a b
+        → (a ≡ n → (p q : ℕ) → p < n → q < p → Fits O n ps t k (p ∷ q ∷ []) → ⊥) → Found2 O t k n ps a b
+    found x y u a b ey nu ui J h = record {
       within = J .within;
       apart = λ l. (J .at-q l .0, λ e. nu (same l e));
       fits = λ l. record {
-        unmarked = (J .at-p l .1, (J .at-q l .2, tt));
+        free = (J .at-p l .1, (J .at-q l .2, tt));
         none = λ m j. ap₂ (λ (c w : ℕ). filt O (c ∷ w ∷ []) t m) (J .at-p l .0) (J .at-q l .1) ∙ J .zeros l m j;
       };
-      none = n;
+      none = h;
     }
       where
-        same : a < length marks → a ≡ b → u ≡ 0
+        same : a < n → a ≡ b → u ≡ 0
         same l e =
             sym (laws.gone O F x u)
-            ∙ ap (λ (z : ℕ). x ⊕ z) (sym ey ∙ sym (J .at-q l .1) ∙ ap (place O (length marks)) (sym e) ∙ J .at-p l .0)
+            ∙ ap (λ (z : ℕ). x ⊕ z) (sym ey ∙ sym (J .at-q l .1) ∙ ap (place O n) (sym e) ∙ J .at-p l .0)
             ∙ F .add-self x

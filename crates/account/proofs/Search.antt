@@ -2,7 +2,7 @@
 -- where it fits: where the sums that are left, with the guess filtered out, are nothing.
 use mathlib.Core.Path.{_≡_, refl, sym, ap, _∙_, subst}
 use mathlib.Core.Bool.{Bool, true, false, not}
-use mathlib.Core.List.{List, [], _∷_, _++_, map}
+use mathlib.Core.List.{List, [], _∷_, _++_, map, append-nil}
 use Prim.Native.Nat.{ℕ, _+_, _*_, _-_, _≤_, _<_}
 use native.Mathlib.Omega.{arith}
 use lib.Dec.{T}
@@ -10,23 +10,32 @@ use lib.ListN.{length, getD, length-append}
 use Rattle.account.specs.Field.{Ops, In, IsField}
 use Rattle.account.specs.Code.{Cells, Clean}
 use Rattle.account.specs.Errata.{Outside, Below, Distinct, place, filt, added, Applied}
-use Rattle.account.specs.Search.{places, erasures, Unmarked, Zeros, Fits}
+use Rattle.account.specs.Search.{places, erasures, Free, Zeros, Fits}
 use Rattle.account.specs.Reach.{countTo, isMarked, differsAt, marked, differing, Reach}
 use Rattle.account.proofs.Cells.{outside-left, outside-right, outside-append, outside-places, places-outside}
 use Rattle.account.proofs.Cells.{below-append, below-places, distinct-places}
-use Rattle.account.proofs.Cells.{Falling, falling-places, count-places, count-most, marked-not, marked-differs, differs-unmarked, same-at, not-differs}
+use Rattle.account.proofs.Cells.{Falling, falling-places, count-places, count-most, marked-differs, differs-unmarked, same-at, not-differs}
 use Rattle.account.proofs.Filter as filter
 use Rattle.account.proofs.Solve as solve
 use Rattle.account.proofs.Words.{sumsOf}
 use Rattle.account.proofs.Decode as decode
 use Rattle.account.proofs.Decode.{values}
 
-unmarked-outside : (marks : List ℕ) (i : ℕ) → T (isMarked marks i) → (ps : List ℕ) → Unmarked marks ps → Outside ps i
-unmarked-outside marks i t [] u = tt
-unmarked-outside marks i t (p ∷ ps) u = (marked-not marks i p t (u .0), unmarked-outside marks i t ps (u .1))
+pub distinct-append : (ps bs : List ℕ) → Distinct ps → Distinct bs → Free ps bs → Distinct (ps ++ bs)
+distinct-append [] bs d e f = e
+distinct-append (p ∷ ps) bs d e f = (outside-append ps bs p (d .0) (away bs f), distinct-append ps bs (d .1) e (rest bs f))
+  where
+    away : (bs : List ℕ) → Free (p ∷ ps) bs → Outside bs p
+    away [] f = tt
+    away (b ∷ bs) f = ((λ q. f .0 .0 (sym q)), away bs (f .1))
 
-pub distinct-guess : (marks bs : List ℕ) → Distinct bs → Unmarked marks bs → Distinct (erasures marks ++ bs)
-distinct-guess marks bs d u = distinct-places (isMarked marks) (length marks) bs d (λ i l t. unmarked-outside marks i t bs u)
+    rest : (bs : List ℕ) → Free (p ∷ ps) bs → Free ps bs
+    rest [] f = tt
+    rest (b ∷ bs) f = (f .0 .1, rest bs (f .1))
+
+pub distinct-erasures : (marks : List ℕ) → Distinct (erasures marks)
+distinct-erasures marks =
+    subst Distinct (append-nil (erasures marks)) (distinct-places (isMarked marks) (length marks) [] tt (λ i l t. tt))
 
 module _ (O : Ops) (F : IsField O) where
   open Ops O using (_⊕_, _⊗_, order)
@@ -61,7 +70,7 @@ module _ (O : Ops) (F : IsField O) where
     f-is = ap (countTo (isMarked marks)) (R .matched) ∙ sym (count-places (isMarked marks) n) ∙ sym (R .count)
 
     -- a guess that fits, with the solved values, gives a clean word within reach
-    pub mended : (bs : List ℕ) → Below bs n → Distinct bs → 2 * length bs + f ≤ 5 → Fits O marks t (5 - f - length bs) bs
+    pub mended : (bs : List ℕ) → Below bs n → Distinct bs → 2 * length bs + f ≤ 5 → Fits O n (erasures marks) t (5 - f - length bs) bs
         → (w : List ℕ) → Applied O (erasures marks ++ bs) (values O F (erasures marks ++ bs) r) r w → Clean O w × Reach marks r w × Cells O w
     mended bs bb db few fit w a = (clean, record { same-length = a .same-length; few = near }, record { cell = cell })
       where
@@ -73,7 +82,8 @@ module _ (O : Ops) (F : IsField O) where
 
         clean : Clean O w
         clean =
-            decode.sound O F r (erasures marks ++ bs) (omega (arith, R .matched, R .short)) below (distinct-guess marks bs db (fit .unmarked))
+            decode.sound O F r (erasures marks ++ bs) (omega (arith, R .matched, R .short)) below
+            (distinct-append (erasures marks) bs (distinct-erasures marks) db (fit .free))
             (subst (λ (k : ℕ). (m : ℕ) → m + length (erasures marks ++ bs) < 5 → filt O (map (place O k) (erasures marks ++ bs)) (sumsOf O r) m ≡ 0)
             (sym (R .matched))
             (λ m l. fit-at bs m l ∙ fit .none m (omega (arith, length-append (erasures marks) bs, R .count))))
@@ -104,8 +114,8 @@ module _ (O : Ops) (F : IsField O) where
     -- what is within reach has at most two wrong cells, and each guess of as many has failed
     pub refuted : (v : List ℕ) → Cells O v → Reach marks r v → Clean O v
         → (Zeros (5 - f) t → ⊥)
-        → (2 + f ≤ 5 → (p : ℕ) → p < n → Fits O marks t (5 - f - 1) (p ∷ []) → ⊥)
-        → (4 + f ≤ 5 → (p q : ℕ) → p < n → q < p → Fits O marks t (5 - f - 2) (p ∷ q ∷ []) → ⊥)
+        → (2 + f ≤ 5 → (p : ℕ) → p < n → Fits O n (erasures marks) t (5 - f - 1) (p ∷ []) → ⊥)
+        → (4 + f ≤ 5 → (p q : ℕ) → p < n → q < p → Fits O n (erasures marks) t (5 - f - 2) (p ∷ q ∷ []) → ⊥)
         → ⊥
     refuted v cv hv kv e0 e1 e2 =
         go (places wrong n) (falling-places wrong n) few
@@ -126,8 +136,8 @@ module _ (O : Ops) (F : IsField O) where
         few =
             omega (arith, count-places wrong n, f-is, ap (countTo wrong) (R .matched), hv .few)
 
-        plain : (p : ℕ) → T (wrong p) → getD marks p 0 ≡ 0
-        plain p u = differs-unmarked marks r v p u
+        plain : (p : ℕ) → T (wrong p) → Outside (erasures marks) p
+        plain p u = places-outside (isMarked marks) n p (differs-unmarked marks r v p u)
 
         go : (ws : List ℕ) → Falling wrong ws n → 2 * length ws + f ≤ 5
             → ((m : ℕ) → m + length (erasures marks ++ ws) < 5 → filt O (map X (erasures marks ++ ws)) (sumsOf O r) m ≡ 0) → ⊥
@@ -136,13 +146,13 @@ module _ (O : Ops) (F : IsField O) where
             near : (m : ℕ) → m < 5 - f → m + length (erasures marks ++ []) < 5
             near m h = omega (arith, length-append (erasures marks) [], R .count)
         go (p ∷ []) d l z =
-            e1 (omega arith) p (d .0) (record { unmarked = (plain p (d .1), tt); none = λ m h. sym (fit-at (p ∷ []) m (near m h)) ∙ z m (near m h) })
+            e1 (omega arith) p (d .0) (record { free = (plain p (d .1), tt); none = λ m h. sym (fit-at (p ∷ []) m (near m h)) ∙ z m (near m h) })
           where
             near : (m : ℕ) → m < 5 - f - 1 → m + length (erasures marks ++ p ∷ []) < 5
             near m h = omega (arith, length-append (erasures marks) (p ∷ []), R .count)
         go (p ∷ q ∷ []) d l z =
             e2 (omega arith) p q (d .0) (d .2 .0)
-            (record { unmarked = (plain p (d .1), (plain q (d .2 .1), tt)); none = λ m h. sym (fit-at (p ∷ q ∷ []) m (near m h)) ∙ z m (near m h) })
+            (record { free = (plain p (d .1), (plain q (d .2 .1), tt)); none = λ m h. sym (fit-at (p ∷ q ∷ []) m (near m h)) ∙ z m (near m h) })
           where
             near : (m : ℕ) → m < 5 - f - 2 → m + length (erasures marks ++ p ∷ q ∷ []) < 5
             near m h = omega (arith, length-append (erasures marks) (p ∷ q ∷ []), R .count)

@@ -4,10 +4,10 @@ use mathlib.Core.Logic.{_≢_, _⊎_}
 use mathlib.Core.Bool.{Bool, true, false}
 use mathlib.Core.List.{List, [], _∷_, map}
 use Prim.Native.Nat.{ℕ, zero, suc, _<_, _≤_}
-use lib.ListN.{length, getD}
+use lib.ListN.{length}
 use Rattle.account.specs.Field.{Ops, In}
 use Rattle.account.specs.Reach.{isMarked}
-use Rattle.account.specs.Errata.{place, filt}
+use Rattle.account.specs.Errata.{Outside, place, filt}
 
 -- ---- marked cells
 
@@ -24,12 +24,13 @@ places f (suc n) = addIf (f n) n (places f n)
 abbrev pub erasures : List ℕ → List ℕ
 erasures marks = places (isMarked marks) (length marks)
 
--- none of the cells is marked
-abbrev pub Unmarked : List ℕ → List ℕ → Type 0
-Unmarked marks [] = Unit {0}
-Unmarked marks (p ∷ ps) = (getD marks p 0 ≡ 0) × Unmarked marks ps
+-- none of the cells bs is one of ps
+abbrev pub Free : List ℕ → List ℕ → Type 0
+Free ps [] = Unit {0}
+Free ps (b ∷ bs) = Outside ps b × Free ps bs
 
 -- ---- guesses
+-- in a word of n cells, of which those in ps are marked
 
 -- the first k of t are nothing
 abbrev pub Zeros : ℕ → (ℕ → ℕ) → Type 0
@@ -41,37 +42,37 @@ module _ (O : Ops) where
   infixl 60 _⊕_
   infixl 70 _⊗_
   -- the guess bs fits: with its cells filtered out the first k of t are nothing
-  pub record Fits (marks : List ℕ) (t : ℕ → ℕ) (k : ℕ) (bs : List ℕ) : Type 0 where
-    pub unmarked : Unmarked marks bs
-    pub none : Zeros k (filt O (map (place O (length marks)) bs) t)
+  pub record Fits (n : ℕ) (ps : List ℕ) (t : ℕ → ℕ) (k : ℕ) (bs : List ℕ) : Type 0 where
+    pub free : Free ps bs
+    pub none : Zeros k (filt O (map (place O n) bs) t)
 
   -- r is the unmarked cell whose place is x, or n where there is none
-  pub record CellOf (x : ℕ) (marks : List ℕ) (r : ℕ) : Type 0 where
-    pub within : r ≤ length marks
-    pub right : r < length marks → (place O (length marks) r ≡ x) × (getD marks r 0 ≡ 0)
-    pub all : (p : ℕ) → p < length marks → place O (length marks) p ≡ x → getD marks p 0 ≡ 0 → r ≡ p
+  pub record CellOf (x n : ℕ) (ps : List ℕ) (r : ℕ) : Type 0 where
+    pub within : r ≤ n
+    pub right : r < n → (place O n r ≡ x) × Outside ps r
+    pub all : (p : ℕ) → p < n → place O n p ≡ x → Outside ps p → r ≡ p
 
   -- r is a cell that fits alone, or n where none does
-  pub record Found1 (t : ℕ → ℕ) (k : ℕ) (marks : List ℕ) (r : ℕ) : Type 0 where
-    pub within : r ≤ length marks
-    pub fits : r < length marks → Fits marks t k (r ∷ [])
-    pub none : r ≡ length marks → (p : ℕ) → p < length marks → Fits marks t k (p ∷ []) → ⊥
+  pub record Found1 (t : ℕ → ℕ) (k n : ℕ) (ps : List ℕ) (r : ℕ) : Type 0 where
+    pub within : r ≤ n
+    pub fits : r < n → Fits n ps t k (r ∷ [])
+    pub none : r ≡ n → (p : ℕ) → p < n → Fits n ps t k (p ∷ []) → ⊥
 
   -- p and q fit together, or p is n where no two do
-  pub record Found2 (t : ℕ → ℕ) (k : ℕ) (marks : List ℕ) (p q : ℕ) : Type 0 where
-    pub within : p ≤ length marks
-    pub apart : p < length marks → (q < length marks) × (p ≢ q)
-    pub fits : p < length marks → Fits marks t k (p ∷ q ∷ [])
-    pub none : p ≡ length marks → (a b : ℕ) → a < length marks → b < a → Fits marks t k (a ∷ b ∷ []) → ⊥
+  pub record Found2 (t : ℕ → ℕ) (k n : ℕ) (ps : List ℕ) (p q : ℕ) : Type 0 where
+    pub within : p ≤ n
+    pub apart : p < n → (q < n) × (p ≢ q)
+    pub fits : p < n → Fits n ps t k (p ∷ q ∷ [])
+    pub none : p ≡ n → (a b : ℕ) → a < n → b < a → Fits n ps t k (a ∷ b ∷ []) → ⊥
 
   -- the unmarked cells of the places x and y, where those leave the first k sums nothing; or p is n
-  pub record Joined (x y : ℕ) (t : ℕ → ℕ) (k : ℕ) (marks : List ℕ) (p q : ℕ) : Type 0 where
-    pub within : p ≤ length marks
-    pub at-p : p < length marks → (place O (length marks) p ≡ x) × (getD marks p 0 ≡ 0)
-    pub at-q : p < length marks → (q < length marks) × (place O (length marks) q ≡ y) × (getD marks q 0 ≡ 0)
-    pub zeros : p < length marks → Zeros k (filt O (x ∷ y ∷ []) t)
-    pub none : p ≡ length marks → (a b : ℕ) → a < length marks → b < length marks
-        → place O (length marks) a ≡ x → place O (length marks) b ≡ y → getD marks a 0 ≡ 0 → getD marks b 0 ≡ 0
+  pub record Joined (x y : ℕ) (t : ℕ → ℕ) (k n : ℕ) (ps : List ℕ) (p q : ℕ) : Type 0 where
+    pub within : p ≤ n
+    pub at-p : p < n → (place O n p ≡ x) × Outside ps p
+    pub at-q : p < n → (q < n) × (place O n q ≡ y) × Outside ps q
+    pub zeros : p < n → Zeros k (filt O (x ∷ y ∷ []) t)
+    pub none : p ≡ n → (a b : ℕ) → a < n → b < n
+        → place O n a ≡ x → place O n b ≡ y → Outside ps a → Outside ps b
         → Zeros k (filt O (x ∷ y ∷ []) t) → ⊥
 
   -- x is one of any two elements whose sum is u and whose product is v

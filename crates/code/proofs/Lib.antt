@@ -1,5 +1,6 @@
 pub mod Applying
 pub mod Tally
+pub mod Listing
 pub mod Writing
 pub mod Repairing
 pub mod LaneRepairs

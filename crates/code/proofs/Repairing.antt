@@ -10,10 +10,9 @@ use lib.Seq.{ext-getD, length-take-le}
 use Rattle.account.specs.Field.{Ops}
 use Rattle.account.specs.Code.{Cells, Clean, syndrome}
 use Rattle.account.specs.Reach.{countTo, isMarked, differsAt, marked, Reach, GoodMarks, Reachable}
-use Rattle.account.proofs.Cells.{count-places, count-none, not-differs}
+use Rattle.account.proofs.Cells.{count-none, not-differs}
 use Rattle.account.proofs.Words as words
 use Rattle.account.specs.Errata.{Applied}
-use Rattle.account.specs.Search.{erasures}
 use Rattle.gf256.specs.Gf256.{gf256}
 use Rattle.gf256.proofs.Field256.{field256}
 use Rattle.errata.specs.declared.Errata.{Errata}
@@ -39,9 +38,6 @@ syndrome-bytes w s e m = subst (λ (l : List ℕ). at l m < 256) (sym e) (each m
     each (suc (suc (suc zero))) = words.sums-in gf256 field256 (length w) w refl 3
     each (suc (suc (suc (suc zero)))) = words.sums-in gf256 field256 (length w) w refl 4
     each (suc (suc (suc (suc (suc m))))) = omega arith
-
-pub counted-places : (marks : List ℕ) (f : ℕ) → f ≡ countTo (isMarked marks) (length marks) → f ≡ length (erasures marks)
-counted-places marks f e = e ∙ sym (count-places (isMarked marks) (length marks))
 
 -- ---- a clean word needs nothing
 

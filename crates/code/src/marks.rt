@@ -1,7 +1,7 @@
 // Marks: one byte for each cell, 0 where it is read and 1 where it is unreadable.
-ghost use Prim.Native.Nat.{_≤_};
+ghost use Prim.Native.Nat.{_≤_, _<_};
 ghost use lib.ListN.{length};
-ghost use Rattle.code.specs.Marks.{Tallied};
+ghost use Rattle.code.specs.Marks.{Tallied, Pushed, ListedIn};
 
 // All marks or-ed together, and their sum.
 pub struct Marked {
@@ -23,4 +23,43 @@ pub fn tally(marks: &[u8]) -> Marked
         i += 1;
     }
     Marked { any, sum }
+}
+
+// The marked cells of a lane, the last first; where there are more than five, the count is six and the cells are of no account.
+pub struct Listed {
+    pub count: usize,
+    pub cells: [usize; 5],
+}
+
+// Cell i after the first k, if it is marked and there is room.
+fn push(cells: &mut [usize; 5], k: usize, mark: u8, i: usize) -> usize
+    requires { ⌜ k ≤ 5 ⌝ }
+    ensures { λ r. ⌜ Pushed mark i (now (cells .entry)) k (now (cells .exit)) r ⌝ }
+{
+    if mark == 0 {
+        return k;
+    }
+    if 4 < k {
+        return 6;
+    }
+    cells[k] = i;
+    k + 1
+}
+
+// The marked cells of lane l, from the last down to the sixth.
+pub fn list(marks: &[u8], lanes: usize, l: usize) -> Listed
+    requires { ⌜ (l < lanes) × (lanes ≤ 16) × (length (now marks) ≤ 4096) ⌝ }
+    ensures { λ r. ⌜ ListedIn lanes l (now (marks .entry)) r ⌝ }
+{
+    let mut cells = [0usize; 5];
+    let mut k: usize = 0;
+    let mut i = marks.len() / lanes;
+    while 0 < i {
+        i -= 1;
+        k = push(&mut cells, k, marks[lanes * i + l], i);
+        if 5 < k {
+            return Listed { count: k, cells };
+        }
+    }
+    Listed { count: k, cells }
 }

@@ -1,4 +1,3 @@
 pub mod Sums
-pub mod Marks
 pub mod Values
 pub mod Guesses

@@ -1,16 +1,16 @@
 -- The filter on five sums, and cells filtered out one after the other.
 use mathlib.Core.Path.{_≡_, refl, sym, ap, ap₂, _∙_, subst}
 use mathlib.Core.List.{List, [], _∷_, _++_, map}
-use Prim.Native.Nat.{ℕ, zero, suc, _+_, _<_}
+use Prim.Native.Nat.{ℕ, zero, suc, _+_, _<_, _≤_}
 use native.Mathlib.Numerals.{add-one}
 use native.Mathlib.Omega.{arith}
 use native.Mathlib.Decide.{ℕ-discrete}
 use lib.Bits.{bitXor}
 use lib.ListN.{length, getD, take, length-append}
 use lib.Seq.{take-suc, getD-take, length-take-le}
-use Rattle.account.specs.Errata.{filt}
+use Rattle.account.specs.Errata.{Outside, filt}
 use Rattle.account.specs.Search.{Zeros}
-use Rattle.account.proofs.Cells.{below-at}
+use Rattle.account.proofs.Cells.{below-at, outside-append}
 use Rattle.account.proofs.Filter as filter
 use Rattle.gf256.specs.Gf256.{gf256, times}
 use Rattle.gf256.specs.Tables.{placeOf}
@@ -58,6 +58,21 @@ pub cell-below : (n : ℕ) (cells : List ℕ) (k : ℕ) → Listed n cells k →
 cell-below n cells k L i h =
     subst (λ (x : ℕ). x < n) (getD-take k cells i 0 h)
     (below-at (take k cells) n i (L .below) (omega (arith, length-take-le k cells (omega (arith, L .few, L .room)))))
+
+-- p is none of the first i cells, and not the next
+pub free-more : (cells : List ℕ) (i p : ℕ) → i < length cells → Outside (take i cells) p → (getD cells i 0 ≡ p → ⊥) → Outside (take (i + 1) cells) p
+free-more cells i p l o ne =
+    subst (λ (ps : List ℕ). Outside ps p) (sym (ap (λ (k : ℕ). take k cells) (add-one i) ∙ take-suc cells i 0 l))
+    (outside-append (take i cells) (getD cells i 0 ∷ []) p o ((λ e. ne (sym e)), tt))
+
+outside-at : (ps : List ℕ) (i p : ℕ) → i < length ps → Outside ps p → getD ps i 0 ≡ p → ⊥
+outside-at [] i p l o e = absurd (omega arith)
+outside-at (q ∷ ps) zero p l o e = o .0 (sym e)
+outside-at (q ∷ ps) (suc i) p l o e = outside-at ps i p (omega arith) (o .1) e
+
+-- p is one of the first f cells
+pub not-free : (cells : List ℕ) (f i p : ℕ) → f ≤ length cells → i < f → getD cells i 0 ≡ p → Outside (take f cells) p → ⊥
+not-free cells f i p h l e o = outside-at (take f cells) i p (omega (arith, length-take-le f cells h)) o (getD-take f cells i 0 l ∙ e)
 
 pub drain-goes : (n : ℕ) (cells s r u : List ℕ) (i x : ℕ) → i < length cells → Drained n (take i cells) s r → x ≡ placeOf n (getD cells i 0)
     → Filtered x r u → Drained n (take (i + 1) cells) s u

@@ -38,67 +38,63 @@ pub record Drained (n : ℕ) (ps s r : List ℕ) : Type 0 where
 
 -- ---- marks
 
--- j is put after the first k, if it is marked
-abbrev pub Pushed : Bool → List ℕ → ℕ → ℕ → List ℕ → ℕ → Type 0
-Pushed true p k j q r = (q ≡ set p k j) × (r ≡ k + 1)
-Pushed false p k j q r = (q ≡ p) × (r ≡ k)
-
+-- the first f cells are the marked ones, the last first
 pub record Gathered (marks cells : List ℕ) (f : ℕ) : Type 0 where
   pub room : length cells ≡ 5
   pub list : take f cells ≡ erasures marks
 
--- ---- wrong cells
+-- ---- wrong cells, of a word of n of which the cells ps are marked
 
-abbrev pub CellAt : ℕ → List ℕ → ℕ → Type 0
+abbrev pub CellAt : ℕ → ℕ → List ℕ → ℕ → Type 0
 CellAt = CellOf gf256
 
-abbrev pub NoneAlone : List ℕ → ℕ → List ℕ → Type 0
-NoneAlone t k marks = (p : ℕ) → p < length marks → Fits gf256 marks (at t) k (p ∷ []) → ⊥
+abbrev pub NoneAlone : List ℕ → ℕ → ℕ → List ℕ → Type 0
+NoneAlone t k n ps = (p : ℕ) → p < n → Fits gf256 n ps (at t) k (p ∷ []) → ⊥
 
-abbrev pub One : List ℕ → ℕ → List ℕ → ℕ → Type 0
+abbrev pub One : List ℕ → ℕ → ℕ → List ℕ → ℕ → Type 0
 One t = Found1 gf256 (at t)
 
-abbrev pub Two : List ℕ → ℕ → List ℕ → Pair → Type 0
-Two t k marks r = Found2 gf256 (at t) k marks (r .p) (r .q)
+abbrev pub Two : List ℕ → ℕ → ℕ → List ℕ → Pair → Type 0
+Two t k n ps r = Found2 gf256 (at t) k n ps (r .p) (r .q)
 
-abbrev pub Both : ℕ → ℕ → List ℕ → ℕ → List ℕ → Pair → Type 0
-Both x y t k marks r = Joined gf256 x y (at t) k marks (r .p) (r .q)
+abbrev pub Both : ℕ → ℕ → List ℕ → ℕ → ℕ → List ℕ → Pair → Type 0
+Both x y t k n ps r = Joined gf256 x y (at t) k n ps (r .p) (r .q)
 
 abbrev pub Split : ℕ → ℕ → ℕ → Type 0
 Split = Splits gf256
 
 -- t are the sums that are left when the f marked cells are filtered out. A guess of wrong cells that fits, listed after the marked ones
-pub record Guess (marks t : List ℕ) (f count : ℕ) (cells : List ℕ) : Type 0 where
+pub record Guess (n : ℕ) (ps t : List ℕ) (f count : ℕ) (cells : List ℕ) : Type 0 where
   pub wrong : List ℕ
-  pub below : Below wrong (length marks)
+  pub below : Below wrong n
   pub distinct : Distinct wrong
   pub few : 2 * length wrong + f ≤ 5
-  pub fits : Fits gf256 marks (at t) (5 - f - length wrong) wrong
+  pub fits : Fits gf256 n ps (at t) (5 - f - length wrong) wrong
   pub counted : count ≡ f + length wrong
   pub room : length cells ≡ 5
-  pub list : take count cells ≡ erasures marks ++ wrong
+  pub list : take count cells ≡ ps ++ wrong
 
 -- something is wrong
 abbrev pub NotNone : List ℕ → ℕ → Type 0
 NotNone t f = Zeros (5 - f) (at t) → ⊥
 
 -- no cell fits alone
-abbrev pub NotOne : List ℕ → List ℕ → ℕ → Type 0
-NotOne marks t f = NoneAlone t (5 - f - 1) marks
+abbrev pub NotOne : ℕ → List ℕ → List ℕ → ℕ → Type 0
+NotOne n ps t f = NoneAlone t (5 - f - 1) n ps
 
 -- no two cells fit
-abbrev pub NotTwo : List ℕ → List ℕ → ℕ → Type 0
-NotTwo marks t f = (p q : ℕ) → p < length marks → q < p → Fits gf256 marks (at t) (5 - f - 2) (p ∷ q ∷ []) → ⊥
+abbrev pub NotTwo : ℕ → List ℕ → List ℕ → ℕ → Type 0
+NotTwo n ps t f = (p q : ℕ) → p < n → q < p → Fits gf256 n ps (at t) (5 - f - 2) (p ∷ q ∷ []) → ⊥
 
 -- no guess of none, one or two cells fits, where so many may be wrong
-pub record NoGuess (marks t : List ℕ) (f : ℕ) : Type 0 where
+pub record NoGuess (n : ℕ) (ps t : List ℕ) (f : ℕ) : Type 0 where
   pub not-none : NotNone t f
-  pub not-one : 2 + f ≤ 5 → NotOne marks t f
-  pub not-two : 4 + f ≤ 5 → NotTwo marks t f
+  pub not-one : 2 + f ≤ 5 → NotOne n ps t f
+  pub not-two : 4 + f ≤ 5 → NotTwo n ps t f
 
-abbrev pub GuessedAs : Bool → List ℕ → List ℕ → ℕ → ℕ → List ℕ → Type 0
-GuessedAs true marks t f count cells = Guess marks t f count cells
-GuessedAs false marks t f count cells = NoGuess marks t f
+abbrev pub GuessedAs : Bool → ℕ → List ℕ → List ℕ → ℕ → ℕ → List ℕ → Type 0
+GuessedAs true n ps t f count cells = Guess n ps t f count cells
+GuessedAs false n ps t f count cells = NoGuess n ps t f
 
 -- ---- values
 
@@ -157,3 +153,7 @@ SearchedAs false marks r e = Beyond marks r
 -- what is found from a syndrome holds of every word that has it
 abbrev pub FoundFor : List ℕ → List ℕ → Bool → Errata → Type 0
 FoundFor s marks good e = (r : List ℕ) → length r ≡ length marks → Cells gf256 r → s ≡ syndrome gf256 r → SearchedAs good marks r e
+
+-- and, where the first f of `erased` are the marked cells, for every marks that have these
+abbrev pub FoundWith : List ℕ → ℕ → List ℕ → ℕ → Bool → Errata → Type 0
+FoundWith s n erased f good e = (marks : List ℕ) → length marks ≡ n → Gathered marks erased f → FoundFor s marks good e

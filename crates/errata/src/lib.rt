@@ -1,15 +1,13 @@
-// The errata of a word: at most five cells, each with what to add there, from the word's syndrome and its marks. Nothing is
-// written here but the list of marked cells. The table is made once by an entry and lent.
-ghost use mathlib.Core.Path.{_≡_};
-ghost use mathlib.Core.Bool.{true};
+// The errata of a word: at most five cells, each with what to add there, from the word's syndrome and its marked cells, which
+// are listed. The table is made once by an entry and lent.
 ghost use Prim.Native.Nat.{suc, _+_, _<_, _≤_};
-ghost use lib.ListN.{length, take};
-ghost use Rattle.account.specs.Reach.{isMarked};
-ghost use Rattle.account.specs.Search.{Zeros, erasures};
+ghost use lib.ListN.{take};
+ghost use Rattle.account.specs.Errata.{Outside};
+ghost use Rattle.account.specs.Search.{Zeros};
 ghost use Rattle.gf256.specs.Tables.{Tables};
 ghost use Rattle.rules.specs.Says.{Says};
-ghost use Rattle.errata.specs.Errata.{at, Filtered, Pushed, Gathered, Listed, Drained, CellAt, One, Two, Both, Split};
-ghost use Rattle.errata.specs.Errata.{NoneAlone, Divided, Solved, Unweighed, NotNone, NotOne, GuessedAs, Bytes5, Valued, FoundFor};
+ghost use Rattle.errata.specs.Errata.{at, Filtered, Listed, Drained, CellAt, One, Two, Both, Split};
+ghost use Rattle.errata.specs.Errata.{NoneAlone, Divided, Solved, Unweighed, NotNone, NotOne, GuessedAs, Bytes5, Valued, FoundWith};
 
 // At most five cells, each with what to add there.
 pub struct Errata {
@@ -54,9 +52,9 @@ fn zeros(s: [u8; 5], k: usize) -> bool
 }
 
 // The sums s, with the first k cells of a word of n filtered out.
-fn drain(tables: &[u8; 1022], s: [u8; 5], cells: &[usize; 5], k: usize, n: usize) -> [u8; 5]
-    requires { ⌜ Tables (now tables) × Listed n (now cells) k ⌝ }
-    ensures { λ r. ⌜ Drained n (take k (now (cells .entry))) s r ⌝ }
+fn drain(tables: &[u8; 1022], s: [u8; 5], cells: [usize; 5], k: usize, n: usize) -> [u8; 5]
+    requires { ⌜ Tables (now tables) × Listed n cells k ⌝ }
+    ensures { λ r. ⌜ Drained n (take k cells) s r ⌝ }
 {
     let mut t = s;
     let mut i = 0;
@@ -69,41 +67,28 @@ fn drain(tables: &[u8; 1022], s: [u8; 5], cells: &[usize; 5], k: usize, n: usize
     t
 }
 
-// ---- marks
-
-// Cell j after the first k, if it is marked.
-fn push(cells: &mut [usize; 5], k: usize, marks: &[u8], j: usize) -> usize
-    requires { ⌜ (j < length (now marks)) × (k ≤ 5) × (isMarked (now marks) j ≡ true → k < 5) ⌝ }
-    ensures { λ r. ⌜ Pushed (isMarked (now (marks .entry)) j) (now (cells .entry)) k j (now (cells .exit)) r ⌝ }
-{
-    if marks[j] != 0 {
-        cells[k] = j;
-        return k + 1;
-    }
-    k
-}
-
-// The f marked cells, the last first.
-fn gather(marks: &[u8], f: usize, cells: &mut [usize; 5])
-    requires { ⌜ (length (now cells) ≡ 5) × (f ≡ length (erasures (now marks))) × (f ≤ 5) ⌝ }
-    ensures { λ _. ⌜ Gathered (now (marks .entry)) (now (cells .exit)) f ⌝ }
-{
-    let mut k = 0;
-    let mut j = marks.len();
-    while k < f {
-        j -= 1;
-        k = push(cells, k, marks, j);
-    }
-}
-
 // ---- wrong cells
 
-// The unmarked cell whose place is x, or n.
-fn cell(tables: &[u8; 1022], x: u8, marks: &[u8]) -> usize
-    requires { ⌜ Tables (now tables) × (length (now marks) ≤ 255) ⌝ }
-    ensures { λ r. ⌜ CellAt x (now (marks .entry)) r ⌝ }
+// Whether p is none of the first f cells.
+fn free(cells: [usize; 5], f: usize, p: usize) -> bool
+    requires { ⌜ f ≤ 5 ⌝ }
+    ensures { λ r. ⌜ Says r (Outside (take f cells) p) ⌝ }
 {
-    let n = marks.len();
+    let mut i = 0;
+    while i < f {
+        if cells[i] == p {
+            return false;
+        }
+        i += 1;
+    }
+    true
+}
+
+// The unmarked cell whose place is x, or n.
+fn cell(tables: &[u8; 1022], x: u8, n: usize, erased: [usize; 5], f: usize) -> usize
+    requires { ⌜ Tables (now tables) × (n ≤ 255) × (f ≤ 5) ⌝ }
+    ensures { λ r. ⌜ CellAt x n (take f erased) r ⌝ }
+{
     if x == 0 {
         return n;
     }
@@ -112,23 +97,22 @@ fn cell(tables: &[u8; 1022], x: u8, marks: &[u8]) -> usize
         return n;
     }
     let p = n - (i + 1);
-    if marks[p] != 0 {
-        return n;
+    if free(erased, f, p) {
+        return p;
     }
-    p
+    n
 }
 
 // The one cell that fits, by the ratio of two sums; or n.
-fn one(tables: &[u8; 1022], t: [u8; 5], k: usize, marks: &[u8]) -> usize
-    requires { ⌜ Tables (now tables) × (length (now marks) ≤ 255) × (1 ≤ k) × (k ≤ 4) × (Zeros (suc k) (at t) → ⊥) ⌝ }
-    ensures { λ r. ⌜ One t k (now (marks .entry)) r ⌝ }
+fn one(tables: &[u8; 1022], t: [u8; 5], k: usize, n: usize, erased: [usize; 5], f: usize) -> usize
+    requires { ⌜ Tables (now tables) × (n ≤ 255) × (f ≤ 5) × (1 ≤ k) × (k ≤ 4) × (Zeros (suc k) (at t) → ⊥) ⌝ }
+    ensures { λ r. ⌜ One t k n (take f erased) r ⌝ }
 {
-    let n = marks.len();
     if t[0] == 0 {
         return n;
     }
     let x = gf256::product(tables, t[1], gf256::inverse(tables, t[0]));
-    let p = cell(tables, x, marks);
+    let p = cell(tables, x, n, erased, f);
     if n <= p {
         return n;
     }
@@ -154,16 +138,24 @@ fn split(tables: &[u8; 1022], u: u8, v: u8) -> u8
 }
 
 // The cells of the places x and y, if they fit; or n.
-fn both(tables: &[u8; 1022], t: [u8; 5], k: usize, marks: &[u8], x: u8, y: u8) -> Pair
-    requires { ⌜ Tables (now tables) × (length (now marks) ≤ 255) × (k ≤ 3) ⌝ }
-    ensures { λ r. ⌜ Both x y t k (now (marks .entry)) r ⌝ }
+fn both(
+    tables: &[u8; 1022],
+    t: [u8; 5],
+    k: usize,
+    n: usize,
+    erased: [usize; 5],
+    f: usize,
+    x: u8,
+    y: u8,
+) -> Pair
+    requires { ⌜ Tables (now tables) × (n ≤ 255) × (f ≤ 5) × (k ≤ 3) ⌝ }
+    ensures { λ r. ⌜ Both x y t k n (take f erased) r ⌝ }
 {
-    let n = marks.len();
-    let p = cell(tables, x, marks);
+    let p = cell(tables, x, n, erased, f);
     if n <= p {
         return Pair { p: n, q: n };
     }
-    let q = cell(tables, y, marks);
+    let q = cell(tables, y, n, erased, f);
     if n <= q {
         return Pair { p: n, q: n };
     }
@@ -174,11 +166,10 @@ fn both(tables: &[u8; 1022], t: [u8; 5], k: usize, marks: &[u8], x: u8, y: u8) -
 }
 
 // The two cells that fit, by a quadratic; or n. No cell fits alone.
-fn two(tables: &[u8; 1022], t: [u8; 5], k: usize, marks: &[u8]) -> Pair
-    requires { ⌜ Tables (now tables) × (length (now marks) ≤ 255) × (2 ≤ k) × (k ≤ 3) × (at t 1 < 256) × NoneAlone t (suc k) (now marks) ⌝ }
-    ensures { λ r. ⌜ Two t k (now (marks .entry)) r ⌝ }
+fn two(tables: &[u8; 1022], t: [u8; 5], k: usize, n: usize, erased: [usize; 5], f: usize) -> Pair
+    requires { ⌜ Tables (now tables) × (n ≤ 255) × (f ≤ 5) × (2 ≤ k) × (k ≤ 3) × (at t 1 < 256) × NoneAlone t (suc k) n (take f erased) ⌝ }
+    ensures { λ r. ⌜ Two t k n (take f erased) r ⌝ }
 {
-    let n = marks.len();
     let det = gf256::product(tables, t[1], t[1]) ^ gf256::product(tables, t[0], t[2]);
     if det == 0 {
         return Pair { p: n, q: n };
@@ -198,7 +189,7 @@ fn two(tables: &[u8; 1022], t: [u8; 5], k: usize, marks: &[u8]) -> Pair
         i,
     );
     let x = split(tables, u, v);
-    both(tables, t, k, marks, x, x ^ u)
+    both(tables, t, k, n, erased, f, x, x ^ u)
 }
 
 // ---- values
@@ -277,9 +268,9 @@ pub struct Listing {
 }
 
 // The f marked cells and after them those that are wrong, where t are the sums that are left: at first, none.
-fn guess(tables: &[u8; 1022], t: [u8; 5], f: usize, marks: &[u8], erased: [usize; 5]) -> Listing
-    requires { ⌜ Tables (now tables) × (length (now marks) ≤ 255) × (f ≤ 5) × Gathered (now marks) erased f × (f + 1 < 5 → at t 1 < 256) ⌝ }
-    ensures { λ r. ⌜ GuessedAs (r .good) (now (marks .entry)) t f (r .count) (r .cells) ⌝ }
+fn guess(tables: &[u8; 1022], t: [u8; 5], n: usize, erased: [usize; 5], f: usize) -> Listing
+    requires { ⌜ Tables (now tables) × (f ≤ 5) × Listed n erased f × (f + 1 < 5 → at t 1 < 256) ⌝ }
+    ensures { λ r. ⌜ GuessedAs (r .good) n (take f erased) t f (r .count) (r .cells) ⌝ }
 {
     let left = 5 - f;
     if zeros(t, left) {
@@ -296,17 +287,17 @@ fn guess(tables: &[u8; 1022], t: [u8; 5], f: usize, marks: &[u8], erased: [usize
             cells: erased,
         };
     }
-    guess_one(tables, t, f, marks, erased)
+    guess_one(tables, t, n, erased, f)
 }
 
 // Some are wrong, and one may be: it, or two.
-fn guess_one(tables: &[u8; 1022], t: [u8; 5], f: usize, marks: &[u8], erased: [usize; 5]) -> Listing
-    requires { ⌜ Tables (now tables) × (length (now marks) ≤ 255) × (f ≤ 3) × Gathered (now marks) erased f × (at t 1 < 256) × NotNone t f ⌝ }
-    ensures { λ r. ⌜ GuessedAs (r .good) (now (marks .entry)) t f (r .count) (r .cells) ⌝ }
+fn guess_one(tables: &[u8; 1022], t: [u8; 5], n: usize, erased: [usize; 5], f: usize) -> Listing
+    requires { ⌜ Tables (now tables) × (f ≤ 3) × Listed n erased f × (at t 1 < 256) × NotNone t f ⌝ }
+    ensures { λ r. ⌜ GuessedAs (r .good) n (take f erased) t f (r .count) (r .cells) ⌝ }
 {
     let left = 5 - f;
-    let p = one(tables, t, left - 1, marks);
-    if p < marks.len() {
+    let p = one(tables, t, left - 1, n, erased, f);
+    if p < n {
         let mut cells = erased;
         cells[f] = p;
         return Listing {
@@ -322,20 +313,19 @@ fn guess_one(tables: &[u8; 1022], t: [u8; 5], f: usize, marks: &[u8], erased: [u
             cells: erased,
         };
     }
-    guess_two(tables, t, f, marks, erased)
+    guess_two(tables, t, n, erased, f)
 }
 
 // One is not enough, and two may be wrong: those.
-fn guess_two(tables: &[u8; 1022], t: [u8; 5], f: usize, marks: &[u8], erased: [usize; 5]) -> Listing
-    requires { ⌜ Tables (now tables) × (length (now marks) ≤ 255) × (f ≤ 1) × Gathered (now marks) erased f × (at t 1 < 256) × NotNone t f × NotOne
-        (now marks) t f ⌝ }
-    ensures { λ r. ⌜ GuessedAs (r .good) (now (marks .entry)) t f (r .count) (r .cells) ⌝ }
+fn guess_two(tables: &[u8; 1022], t: [u8; 5], n: usize, erased: [usize; 5], f: usize) -> Listing
+    requires { ⌜ Tables (now tables) × (f ≤ 1) × Listed n erased f × (at t 1 < 256) × NotNone t f × NotOne n (take f erased) t f ⌝ }
+    ensures { λ r. ⌜ GuessedAs (r .good) n (take f erased) t f (r .count) (r .cells) ⌝ }
 {
     let left = 5 - f;
-    let pair = two(tables, t, left - 2, marks);
+    let pair = two(tables, t, left - 2, n, erased, f);
     let a = pair.p;
     let b = pair.q;
-    if marks.len() <= a {
+    if n <= a {
         return Listing {
             good: false,
             count: 0,
@@ -367,16 +357,13 @@ fn valued(tables: &[u8; 1022], s: [u8; 5], cells: [usize; 5], k: usize, n: usize
     }
 }
 
-// The errata of a word with the syndrome s, of whose cells f are marked.
-pub fn find(tables: &[u8; 1022], s: [u8; 5], marks: &[u8], f: usize) -> Found
-    requires { ⌜ Tables (now tables) × (length (now marks) ≤ 255) × (f ≡ length (erasures (now marks))) × (f ≤ 5) × Bytes5 s ⌝ }
-    ensures { λ r. ⌜ FoundFor s (now (marks .entry)) (r .good) (r .errata) ⌝ }
+// The errata of a word of n cells with the syndrome s, of which the first f of `erased` are the marked ones.
+pub fn find(tables: &[u8; 1022], s: [u8; 5], n: usize, erased: [usize; 5], f: usize) -> Found
+    requires { ⌜ Tables (now tables) × Listed n erased f × Bytes5 s ⌝ }
+    ensures { λ r. ⌜ FoundWith s n erased f (r .good) (r .errata) ⌝ }
 {
-    let n = marks.len();
-    let mut erased = [0usize; 5];
-    gather(marks, f, &mut erased);
-    let t = drain(tables, s, &erased, f, n);
-    let g = guess(tables, t, f, marks, erased);
+    let t = drain(tables, s, erased, f, n);
+    let g = guess(tables, t, n, erased, f);
     let good = g.good;
     let count = g.count;
     let cells = g.cells;

@@ -1,4 +1,5 @@
 use native.Mathlib.Omega.{arith}
+use lib.ListN.{take}
 use mathlib.Core.List.{_∷_, []}
 use Rattle.account.specs.Errata.{filt}
 use Rattle.account.specs.Search.{Zeros}
@@ -17,16 +18,16 @@ cell-requires c κs = search needs
 
 returns : tie.Need-returns
 returns c =
-    let a = c .before .before .before .args in
-    not-first gf256 field256 (a .x) (a .y) (at (a .t)) (a .k) (a .marks .now) (c .before .cell .result) (c .before .cell .ensures) (search needs)
+    let a = c .before .before .args in
+    not-first gf256 field256 (a .x) (a .y) (at (a .t)) (a .k) (a .n) (take (a .f) (a .erased)) (c .before .cell .result) (c .before .cell .ensures) (search needs)
 
 cell-requires-2 : tie.Need-cell-requires-2
 cell-requires-2 c κs = search needs
 
 returns-2 : tie.Need-returns-2
 returns-2 c =
-    let a = c .before .before .before .before .before .args in
-    not-second gf256 field256 (a .x) (a .y) (at (a .t)) (a .k) (a .marks .now) (c .before .cell2 .result) (c .before .cell2 .ensures) (search needs)
+    let a = c .before .before .before .before .args in
+    not-second gf256 field256 (a .x) (a .y) (at (a .t)) (a .k) (a .n) (take (a .f) (a .erased)) (c .before .cell2 .result) (c .before .cell2 .ensures) (search needs)
 
 filter-requires : tie.Need-filter-requires
 filter-requires c κs = search needs
@@ -43,10 +44,10 @@ returns-3 c =
     let c3 = c2 .before in
     let c5 = c3 .before .before in
     let c7 = c5 .before .before in
-    let c9 = c7 .before .before in
+    let c9 = c7 .before in
     let a = c9 .args in
     let u = c2 .filter2 .result in
-    do-fit gf256 field256 (a .x) (a .y) (at (a .t)) (a .k) (a .marks .now) (c7 .cell .result) (c5 .cell2 .result) (c7 .cell .ensures)
+    do-fit gf256 field256 (a .x) (a .y) (at (a .t)) (a .k) (a .n) (take (a .f) (a .erased)) (c7 .cell .result) (c5 .cell2 .result) (c7 .cell .ensures)
     (c5 .cell2 .ensures) (search needs) (search needs)
     (zeros-to (a .k) (at u) (filt gf256 (a .x ∷ a .y ∷ []) (at (a .t)))
     (λ m l. filter-two (a .x) (a .y) (a .t) (c3 .filter .result) u (c3 .filter .ensures) (c2 .filter2 .ensures) m (omega arith))
@@ -56,10 +57,10 @@ returns-4 : tie.Need-returns-4
 returns-4 c =
     let c2 = c .before .before in
     let c3 = c2 .before in
-    let c9 = c3 .before .before .before .before .before .before in
+    let c9 = c3 .before .before .before .before .before in
     let a = c9 .args in
     let u = c2 .filter2 .result in
-    do-not-fit gf256 field256 (a .x) (a .y) (at (a .t)) (a .k) (a .marks .now)
+    do-not-fit gf256 field256 (a .x) (a .y) (at (a .t)) (a .k) (a .n) (take (a .f) (a .erased))
     (zeros-from (a .k) (at u) (filt gf256 (a .x ∷ a .y ∷ []) (at (a .t)))
     (λ m l. filter-two (a .x) (a .y) (a .t) (c3 .filter .result) u (c3 .filter .ensures) (c2 .filter2 .ensures) m (omega arith))
     (denied (Zeros (a .k) (at u)) (c .before .zeros .result) (c .if3 .left) (c .before .zeros .ensures)))

@@ -9,27 +9,27 @@ use Rattle.errata.proofs.drain.Statement.{statement}
 use Rattle.errata.proofs.drain.Tie as tie
 
 abbrev Inv-loop : tie.InvT-loop
-Inv-loop tables cells k n t₀ i₀ t i = (i ≤ k) × Drained n (take i cells) t₀ t
+Inv-loop tables k n cells t₀ i₀ t i = (i ≤ k) × Drained n (take i cells) t₀ t
 
 abbrev μ-loop : tie.MeasureT-loop
-μ-loop tables cells k n t₀ i₀ t i = k - i
+μ-loop tables k n cells t₀ i₀ t i = k - i
 
 loop-holds : tie.Need-loop-holds Inv-loop μ-loop
-loop-holds c = (search needs, drain-starts (c .args .n) (c .args .cells .now) (c .args .s))
+loop-holds c = (search needs, drain-starts (c .args .n) (c .args .t3) (c .args .s))
 
 mul-place : tie.Need-mul-place Inv-loop μ-loop
 mul-place c = search needs
 
-element-copy-out-place : tie.Need-element-copy-out-place Inv-loop μ-loop
-element-copy-out-place c = omega (arith, c .before .before .pre .1 .few, c .before .before .pre .1 .room)
+array-read-place : tie.Need-array-read-place Inv-loop μ-loop
+array-read-place c = omega (arith, c .before .before .pre .1 .few, c .before .before .pre .1 .room)
 
 place-requires : tie.Need-place-requires Inv-loop μ-loop
 place-requires c κs =
-    let s = c .before .before .before in
-    (s .pre .0, cell-below (s .args .n) (s .args .cells .now) (s .args .k) (s .pre .1) (c .before .before .loop .i) (search needs), s .pre .1 .short)
+    let s = c .before .before in
+    (s .pre .0, cell-below (s .args .n) (s .args .t3) (s .args .k) (s .pre .1) (c .before .loop .i) (search needs), s .pre .1 .short)
 
 filter-requires : tie.Need-filter-requires Inv-loop μ-loop
-filter-requires c κs = c .before .before .before .before .pre .0
+filter-requires c κs = c .before .before .before .pre .0
 
 add-i : tie.Need-add-i Inv-loop μ-loop
 add-i c = search needs
@@ -39,11 +39,11 @@ loop-less c = search needs
 
 loop-again : tie.Need-loop-again Inv-loop μ-loop
 loop-again c =
-    let c4 = c .before .before .before .before in
-    let s = c4 .before in
-    let L = c4 .loop in (
+    let c3 = c .before .before .before in
+    let s = c3 .before in
+    let L = c3 .loop in (
       omega arith,
-      drain-goes (s .args .n) (s .args .cells .now) (s .args .s) (L .t) (c .filter .result) (L .i) (c .before .place .result)
+      drain-goes (s .args .n) (s .args .t3) (s .args .s) (L .t) (c .filter .result) (L .i) (c .before .place .result)
           (omega (arith, s .pre .1 .few, s .pre .1 .room)) (L .inv .1)
           (c .before .place .ensures) (c .filter .ensures),
     )
@@ -53,7 +53,7 @@ returns c =
     let s = c .before .before in
     let L = c .before .loop in
     let e : L .i ≡ s .args .k = omega arith in
-    subst (λ (i : ℕ). Drained (s .args .n) (take i (s .args .cells .now)) (s .args .s) (L .t)) e (L .inv .1)
+    subst (λ (i : ℕ). Drained (s .args .n) (take i (s .args .t3)) (s .args .s) (L .t)) e (L .inv .1)
 
 pub drain-spec : {M : Type 1} → statement M
 drain-spec =
@@ -63,7 +63,7 @@ drain-spec =
     μ-loop
     loop-holds
     mul-place
-    element-copy-out-place
+    array-read-place
     place-requires
     filter-requires
     add-i

@@ -16,14 +16,14 @@ zeros-requires c κs = search needs
 
 returns : tie.Need-returns
 returns c =
-    let s = c .before .before .before in
-    guess0 (s .args .marks .now) (s .args .erased) (s .args .f) (s .pre .3) (s .args .t) (s .pre .2)
+    let s = c .before .before in
+    guess0 (s .args .n) (s .args .erased) (s .args .f) (s .pre .2) (s .args .t) (s .pre .1)
     (said (Zeros (5 - s .args .f) (at (s .args .t))) (c .before .zeros .result) (c .if1 .taken) (c .before .zeros .ensures))
 
 returns-2 : tie.Need-returns-2
 returns-2 c =
     let c2 = c .before .before in
-    let s = c2 .before .before in
+    let s = c2 .before in
     record {
       not-none = denied (Zeros (5 - s .args .f) (at (s .args .t))) (c2 .zeros .result) (c .before .if1 .left) (c2 .zeros .ensures);
       not-one = λ h. absurd (omega (arith, c .if2 .taken));
@@ -32,12 +32,11 @@ returns-2 c =
 
 guess-one-requires : tie.Need-guess-one-requires
 guess-one-requires c κs =
-    let s = c .before .before .before .before in (
+    let s = c .before .before .before in (
       s .pre .0,
-      s .pre .1,
       omega (arith, c .if2 .left),
-      s .pre .3,
-      s .pre .4 (omega (arith, c .if2 .left)),
+      s .pre .2,
+      s .pre .3 (omega (arith, c .if2 .left)),
       denied (Zeros (5 - s .args .f) (at (s .args .t))) (c .before .before .zeros .result) (c .before .if1 .left) (c .before .before .zeros .ensures),
     )
 

@@ -16,9 +16,8 @@ sub-one c = search needs
 
 one-requires : tie.Need-one-requires
 one-requires c κs =
-    let s = c .before in
-    let e : suc (5 - s .args .f - 1) ≡ 5 - s .args .f = omega arith in
-    (s .pre .0, s .pre .1, omega arith, omega arith, λ z. s .pre .5 (subst (λ (m : ℕ). Zeros m (at (s .args .t))) e z))
+    let e : suc (5 - c .args .f - 1) ≡ 5 - c .args .f = omega arith in
+    (c .pre .0, c .pre .2 .short, omega arith, omega arith, omega arith, λ z. c .pre .4 (subst (λ (m : ℕ). Zeros m (at (c .args .t))) e z))
 
 mul-cells : tie.Need-mul-cells
 mul-cells c = search needs
@@ -31,30 +30,29 @@ add-t11 c = search needs
 
 returns : tie.Need-returns
 returns c =
-    let s = c .before .before .before in
+    let s = c .before .before in
     let o = c .before .one in
-    guess1 (s .args .marks .now) (s .args .erased) (s .args .f) (s .pre .3) (s .args .t) (o .result) (omega arith) (c .if1 .taken)
+    guess1 (s .args .n) (s .args .erased) (s .args .f) (s .pre .2) (s .args .t) (o .result) (omega arith) (c .if1 .taken)
     (o .ensures .fits (c .if1 .taken))
 
 returns-2 : tie.Need-returns-2
 returns-2 c =
     let o = c .before .before .one in
     record {
-      not-none = c .before .before .before .before .pre .5;
+      not-none = c .before .before .before .pre .4;
       not-one = λ h. o .ensures .none (omega (arith, o .ensures .within, c .before .if1 .left));
       not-two = λ h. absurd (omega (arith, c .if2 .taken));
     }
 
 guess-two-requires : tie.Need-guess-two-requires
 guess-two-requires c κs =
-    let s = c .before .before .before .before in
+    let s = c .before .before .before in
     let o = c .before .before .one in (
       s .pre .0,
-      s .pre .1,
       omega (arith, c .if2 .left),
+      s .pre .2,
       s .pre .3,
       s .pre .4,
-      s .pre .5,
       o .ensures .none (omega (arith, o .ensures .within, c .before .if1 .left)),
     )
 

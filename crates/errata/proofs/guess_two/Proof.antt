@@ -2,6 +2,7 @@ use mathlib.Core.Path.{_≡_, subst}
 use mathlib.Core.List.{_∷_, []}
 use Prim.Native.Nat.{ℕ, suc, _-_}
 use native.Mathlib.Omega.{arith}
+use lib.ListN.{take}
 use Rattle.account.specs.Search.{Fits}
 use Rattle.gf256.specs.Gf256.{gf256}
 use Rattle.errata.specs.Errata.{at}
@@ -18,23 +19,23 @@ sub-two c = search needs
 
 two-requires : tie.Need-two-requires
 two-requires c κs =
-    let s = c .before in
-    let e : suc (5 - s .args .f - 2) ≡ 5 - s .args .f - 1 = omega arith in (
-      s .pre .0,
-      s .pre .1,
+    let e : suc (5 - c .args .f - 2) ≡ 5 - c .args .f - 1 = omega arith in (
+      c .pre .0,
+      c .pre .2 .short,
       omega arith,
       omega arith,
-      s .pre .4,
-      λ p l f. s .pre .6 p l (subst (λ (m : ℕ). Fits gf256 (s .args .marks .now) (at (s .args .t)) m (p ∷ [])) e f),
+      omega arith,
+      c .pre .3,
+      λ p l f. c .pre .5 p l (subst (λ (m : ℕ). Fits gf256 (c .args .n) (take (c .args .f) (c .args .erased)) (at (c .args .t)) m (p ∷ [])) e f),
     )
 
 returns : tie.Need-returns
 returns c =
-    let s = c .before .before .before in
+    let s = c .before .before in
     let o = c .before .two in
     record {
-      not-none = s .pre .5;
-      not-one = λ h. s .pre .6;
+      not-none = s .pre .4;
+      not-one = λ h. s .pre .5;
       not-two = λ h. o .ensures .none (omega (arith, o .ensures .within, c .if1 .taken));
     }
 
@@ -58,9 +59,9 @@ add-t11 c = search needs
 
 returns-2 : tie.Need-returns-2
 returns-2 c =
-    let s = c .before .before .before in
+    let s = c .before .before in
     let o = c .before .two in
-    guess2 (s .args .marks .now) (s .args .erased) (s .args .f) (s .pre .3) (s .args .t) (o .result .p) (o .result .q) (omega arith)
+    guess2 (s .args .n) (s .args .erased) (s .args .f) (s .pre .2) (s .args .t) (o .result .p) (o .result .q) (omega arith)
     (search needs) (o .ensures .apart (search needs) .0) (o .ensures .apart (search needs) .1) (o .ensures .fits (search needs))
 
 pub guess-two-spec : {M : Type 1} → statement M

@@ -1,4 +1,5 @@
 use native.Mathlib.Omega.{arith}
+use lib.ListN.{take}
 use mathlib.Core.List.{_∷_, []}
 use Rattle.account.specs.Errata.{filt}
 use Rattle.account.specs.Search.{Zeros}
@@ -17,8 +18,8 @@ array-read-if1 c = search needs
 
 returns : tie.Need-returns
 returns c =
-    let s = c .before .before in
-    first-none gf256 field256 (at (s .args .t2)) (s .args .k) (s .args .marks .now) (s .pre .4) (c .if1 .taken)
+    let s = c .before in
+    first-none gf256 field256 (at (s .args .t2)) (s .args .k) (s .args .n) (take (s .args .f) (s .args .erased)) (s .pre .5) (c .if1 .taken)
 
 array-read-product : tie.Need-array-read-product
 array-read-product c = search needs
@@ -39,8 +40,8 @@ returns-2 : tie.Need-returns-2
 returns-2 c =
     let c2 = c .before .before in
     let c3 = c2 .before in
-    let s = c3 .before .before .before in
-    out-of-range gf256 field256 (at (s .args .t2)) (s .args .k) (s .args .marks .now) (c2 .product .result) (c3 .inverse .result)
+    let s = c3 .before .before in
+    out-of-range gf256 field256 (at (s .args .t2)) (s .args .k) (s .args .n) (take (s .args .f) (s .args .erased)) (c2 .product .result) (c3 .inverse .result)
     (c .before .cell .result) (search needs) (c3 .inverse .ensures) (c2 .product .ensures)
     (c .before .cell .ensures) (search needs)
 
@@ -56,10 +57,11 @@ returns-3 c =
     let c4 = c2 .before .before in
     let c5 = c4 .before in
     let c6 = c5 .before in
-    let s = c6 .before .before .before in
+    let s = c6 .before .before in
     let x = c5 .product .result in
     let u = c2 .filter .result in
-    it-fits gf256 field256 (at (s .args .t2)) (s .args .k) (s .args .marks .now) x (c6 .inverse .result) (c4 .cell .result) (search needs)
+    it-fits gf256 field256 (at (s .args .t2)) (s .args .k) (s .args .n) (take (s .args .f) (s .args .erased)) x (c6 .inverse .result) (c4 .cell .result)
+    (search needs)
     (c6 .inverse .ensures) (c5 .product .ensures)
     (c4 .cell .ensures) (search needs)
     (zeros-to (s .args .k) (at u) (filt gf256 (x ∷ []) (at (s .args .t2))) (λ m l. filter-one x (s .args .t2) u (c2 .filter .ensures) m (omega arith))
@@ -71,10 +73,11 @@ returns-4 c =
     let c4 = c2 .before .before in
     let c5 = c4 .before in
     let c6 = c5 .before in
-    let s = c6 .before .before .before in
+    let s = c6 .before .before in
     let x = c5 .product .result in
     let u = c2 .filter .result in
-    it-fails gf256 field256 (at (s .args .t2)) (s .args .k) (s .args .marks .now) x (c6 .inverse .result) (c4 .cell .result) (search needs)
+    it-fails gf256 field256 (at (s .args .t2)) (s .args .k) (s .args .n) (take (s .args .f) (s .args .erased)) x (c6 .inverse .result) (c4 .cell .result)
+    (search needs)
     (c6 .inverse .ensures) (c5 .product .ensures)
     (c4 .cell .ensures) (search needs)
     (zeros-from (s .args .k) (at u) (filt gf256 (x ∷ []) (at (s .args .t2))) (λ m l. filter-one x (s .args .t2) u (c2 .filter .ensures) m (omega arith))

@@ -1,6 +1,7 @@
 use mathlib.Core.Path.{refl, sym, ap, ap₂, _∙_}
 use Prim.Native.Nat.{ℕ}
 use lib.Bits.{bitXor}
+use lib.ListN.{take}
 use Rattle.account.proofs.Locate.{det-some, sum-some, nowhere, proposed, found}
 use Rattle.gf256.specs.Gf256.{gf256, times}
 use Rattle.gf256.proofs.Field256.{field256}
@@ -30,12 +31,13 @@ product-requires-2 c κs = search needs
 returns : tie.Need-returns
 returns c =
     let c2 = c .before .before in
-    let s = c2 .before .before in
+    let s = c2 .before in
     let t = at (s .args .t2) in
     let k = s .args .k in
-    let marks = s .args .marks .now in
-    nowhere gf256 field256 t k marks (s .pre .1) (s .pre .2) (s .pre .4) (s .pre .5)
-    (λ p q lp lq f. det-some gf256 field256 t k marks (s .pre .1) (s .pre .2) (s .pre .4) (s .pre .5) p q lp lq f
+    let n = s .args .n in
+    let ps = take (s .args .f) (s .args .erased) in
+    nowhere gf256 field256 t k n ps (s .pre .1) (s .pre .3) (s .pre .5) (s .pre .6)
+    (λ p q lp lq f. det-some gf256 field256 t k n ps (s .pre .1) (s .pre .3) (s .pre .5) (s .pre .6) p q lp lq f
     (sym (ap₂ bitXor (c2 .product .ensures) (c .before .product2 .ensures)) ∙ c .if1 .taken))
 
 inverse-requires : tie.Need-inverse-requires
@@ -69,13 +71,14 @@ returns-2 c =
     let c4 = c3 .before in
     let c6 = c4 .before .before in
     let c7 = c6 .before in
-    let s = c7 .before .before in
+    let s = c7 .before in
     let t = at (s .args .t2) in
     let k = s .args .k in
-    let marks = s .args .marks .now in
+    let n = s .args .n in
+    let ps = take (s .args .f) (s .args .erased) in
     let i = c4 .inverse .result in
-    nowhere gf256 field256 t k marks (s .pre .1) (s .pre .2) (s .pre .4) (s .pre .5)
-    (λ p q lp lq f. sum-some gf256 field256 t k marks (s .pre .1) (s .pre .2) (s .pre .4) (s .pre .5) p q lp lq f
+    nowhere gf256 field256 t k n ps (s .pre .1) (s .pre .3) (s .pre .5) (s .pre .6)
+    (λ p q lp lq f. sum-some gf256 field256 t k n ps (s .pre .1) (s .pre .3) (s .pre .5) (s .pre .6) p q lp lq f
     (bitXor (c7 .product .result) (c6 .product2 .result)) i (ap₂ bitXor (c7 .product .ensures) (c6 .product2 .ensures)) (c4 .inverse .ensures)
     (c .before .product5 .result) (c .before .product5 .ensures
     ∙ ap (λ (z : ℕ). times z i) (ap₂ bitXor (c3 .product3 .ensures) (c2 .product4 .ensures))) (c .if2 .taken))
@@ -119,18 +122,19 @@ returns-3 c =
     let c9 = c8 .before in
     let c11 = c9 .before .before in
     let c12 = c11 .before in
-    let s = c12 .before .before in
+    let s = c12 .before in
     let t = at (s .args .t2) in
     let k = s .args .k in
-    let marks = s .args .marks .now in
+    let n = s .args .n in
+    let ps = take (s .args .f) (s .args .erased) in
     let i = c9 .inverse .result in
     let u = c6 .product5 .result in
     let v = c2 .product8 .result in
     let x = c .before .split .result in
     let a = c .both .result .p in
     let b = c .both .result .q in
-    found gf256 field256 t k marks (s .pre .1) (s .pre .2) (s .pre .4) (s .pre .5) x (bitXor x u) u a b refl (c5 .if2 .left) (search needs) (c .both .ensures)
-    (λ e p q lp lq f. proposed gf256 field256 t k marks (s .pre .1) (s .pre .2) (s .pre .4) (s .pre .5) p q lp lq f
+    found gf256 field256 t k n ps (s .pre .1) (s .pre .3) (s .pre .5) (s .pre .6) x (bitXor x u) u a b refl (c5 .if2 .left) (search needs) (c .both .ensures)
+    (λ e p q lp lq f. proposed gf256 field256 t k n ps (s .pre .1) (s .pre .3) (s .pre .5) (s .pre .6) p q lp lq f
     (bitXor (c12 .product .result) (c11 .product2 .result)) i (ap₂ bitXor (c12 .product .ensures) (c11 .product2 .ensures)) (c9 .inverse .ensures)
     u v x (bitXor x u) a b
     (c6 .product5 .ensures ∙ ap (λ (z : ℕ). times z i) (ap₂ bitXor (c8 .product3 .ensures) (c7 .product4 .ensures)))

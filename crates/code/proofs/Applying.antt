@@ -2,7 +2,7 @@
 use mathlib.Core.Path.{_≡_, refl, sym, ap, ap₂, _∙_, subst}
 use mathlib.Core.Bool.{Bool, true, false, not}
 use mathlib.Core.List.{List, [], _∷_}
-use Prim.Native.Nat.{ℕ, zero, suc, _+_, _*_, _-_, _≤_, _<_}
+use Prim.Native.Nat.{ℕ, zero, suc, _+_, _*_, _-_, _/_, _≤_, _<_}
 use native.Mathlib.Decide.{ℕ-discrete}
 use native.Mathlib.Omega.{arith}
 use lib.Bits.{bitXor}
@@ -10,6 +10,8 @@ use lib.Dec.{T, eqb}
 use lib.ListN.{length, getD, set, length-set}
 use lib.Seq.{slice, slice-empty, getD-take, getD-set-same, getD-set-other, length-take-le}
 use borrow.Author.Tests.{eq-eqb, ne-eqb}
+use Rattle.account.specs.Lanes.{lane}
+use Rattle.account.proofs.Lanes.{getD-lane, cell-below}
 use Rattle.account.specs.Reach.{countTo, isMarked, oneIf, and, differsAt, differing}
 use Rattle.account.specs.Errata.{Outside, Below, Distinct, added, only, Applied}
 use Rattle.account.proofs.Cells.{below-at, one-most, less, less-same, count-less, count-cong, count-none}
@@ -67,6 +69,17 @@ apply-goes cells values r w k i h l lc lv b A =
     w' = set w (getD cells (i - 1) 0) (bitXor (getD w (getD cells (i - 1) 0) 0) (getD values (i - 1) 0))
 
 -- ---- counting
+
+-- a cell of a lane, as one of the strip
+module _ (R : ℕ) (marks : List ℕ) (l i : ℕ) (hl : l < R) (hi : i < length marks / R) where
+  some : 0 < R
+  some = omega arith
+
+  pub lane-marked : isMarked marks (R * i + l) ≡ isMarked (lane R l marks) i
+  lane-marked = sym (ap (λ (m : ℕ). not (eqb m 0)) (getD-lane R some l marks i hi))
+
+  pub lane-inside : R * i + l < length marks
+  lane-inside = cell-below R some (length marks) i l hl hi
 
 pub count-starts : (marks cells values : List ℕ) (k : ℕ) → countedOf marks (slice k k cells) (slice k k values) ≡ 0
 count-starts marks cells values k = ap (λ (ps : List ℕ). countedOf marks ps (slice k k values)) (slice-empty k cells)

@@ -9,3 +9,4 @@ pub mod CheckCells
 pub mod Answers
 pub mod Theorems
 pub mod Patching
+pub mod Mending

@@ -1,6 +1,6 @@
--- The lanes of a strip, for the crates above: tested at once, mended one by one, and their check cells written. R lanes, over any field.
+-- The lanes of a strip, for the crates above: their remainders, the errata of each, and their check cells. R lanes, over any field.
 use mathlib.Core.Path.{_≡_}
-use mathlib.Core.Bool.{Bool, false}
+use mathlib.Core.Bool.{Bool, true, false}
 use mathlib.Core.List.{List}
 use Prim.Native.Nat.{ℕ, _+_, _*_, _-_, _/_, _%_, _≤_, _<_}
 use lib.ListN.{length, getD, take}
@@ -8,36 +8,26 @@ use Rattle.account.specs.Field.{Ops}
 use Rattle.account.specs.Code.{Cells, Clean, WordOf}
 use Rattle.account.specs.Lanes.{lane}
 use Rattle.account.specs.Reach.{differing, Reach, GoodMarks, Reachable}
-use Rattle.remainder.specs.Remainder.{unpacked}
-use Rattle.rules.specs.Says.{Says}
+use Rattle.remainder.specs.Remainder.{unpacked, LanesRemain}
 use Rattle.rules.specs.Refusal.{Within}
-use Rattle.code.specs.Lane.{laneMost, wordOf}
-use Rattle.code.specs.declared.repair.Repaired.{Repaired}
-use Rattle.code.specs.declared.repair.Repaired.the-variants as repaired
-use Rattle.code.specs.declared.lane.Lane.{Lane}
+use Rattle.code.specs.Lane.{laneMost}
+use Rattle.code.specs.Patched.{patched}
+use Rattle.code.specs.declared.lane.LaneErrata.{LaneErrata}
 
 module _ (O : Ops) (R : ℕ) where
-  -- test j says whether lane j of the strip s is clean
-  abbrev pub LanesTested : List ℕ → List Bool → Type 0
-  LanesTested s r = (j : ℕ) → j < R → Says (getD r j false) (Clean O (lane R j s))
+  -- the errata e of lane l of s: with its cells put right the lane is the clean word within reach, and so many unmarked cells differ
+  pub record LaneFixed (l : ℕ) (marks s : List ℕ) (e : LaneErrata) : Type 0 where
+    pub few : e .count ≤ 5
+    pub below : (i : ℕ) → i < e .count → getD (e .cells) i 0 < length s / R
+    pub cells : Cells O (patched (e .cells) (e .bytes) (e .count) (lane R l s))
+    pub clean : Clean O (patched (e .cells) (e .bytes) (e .count) (lane R l s))
+    pub reach : Reach (lane R l marks) (lane R l s) (patched (e .cells) (e .bytes) (e .count) (lane R l s))
+    pub mended : e .mended ≡ differing (lane R l marks) (lane R l s) (patched (e .cells) (e .bytes) (e .count) (lane R l s))
 
-  -- w is the clean word within reach of lane l of s, and e unmarked cells differ
-  pub record LaneBecomes (l : ℕ) (marks s : List ℕ) (w : Lane) (e : ℕ) : Type 0 where
-    pub len : w .len ≡ length s / R
-    pub cells : Cells O (wordOf w)
-    pub clean : Clean O (wordOf w)
-    pub reach : Reach (lane R l marks) (lane R l s) (wordOf w)
-    pub mended : e ≡ differing (lane R l marks) (lane R l s) (wordOf w)
-
-  -- there is none
-  pub record LaneLost (l : ℕ) (marks s : List ℕ) (c : ℕ) : Type 0 where
-    pub code : c ≡ 6
-    pub none : Reachable O (lane R l marks) (lane R l s) → ⊥
-
-  -- by the answer, the one or the other
-  abbrev pub LaneMendsAs : ℕ → List ℕ → List ℕ → Lane → Repaired → Type 0
-  LaneMendsAs l marks s w (repaired.Mended e) = LaneBecomes l marks s w e
-  LaneMendsAs l marks s w (repaired.Refused c) = LaneLost l marks s c
+  -- or there is none
+  abbrev pub LaneFixedAs : ℕ → List ℕ → List ℕ → Bool → LaneErrata → Type 0
+  LaneFixedAs l marks s true e = LaneFixed l marks s e
+  LaneFixedAs l marks s false e = Reachable O (lane R l marks) (lane R l s) → ⊥
 
   -- each lane of the first k columns of x is completed to a clean word by the five columns after them; the other cells are as they were
   pub record ChecksPut (k : ℕ) (x x' : List ℕ) : Type 0 where
@@ -48,9 +38,14 @@ module _ (O : Ops) (R : ℕ) where
 
 -- ---- parts
 
+-- the numbers of R lanes: number j is the remainder of lane j of s
+pub record Remaindered (R : ℕ) (s r : List ℕ) : Type 0 where
+  pub each : LanesRemain R s r
+
 -- lane l of R, of a strip and marks that fit
 pub record LaneAsked (R l : ℕ) (s marks : List ℕ) : Type 0 where
   pub inside : l < R
+  pub lanes : R ≤ 16
   pub legal : Within 6 laneMost (length s / R)
   pub full : length s ≡ R * (length s / R)
   pub matched : length marks ≡ length s

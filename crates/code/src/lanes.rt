@@ -1,52 +1,90 @@
-// The four lanes of a strip: tested at once, mended one by one, and their check cells written. Cell p is byte p div 4 of lane p mod 4.
+// The lanes of a strip: their remainders at once, the errata of each, and their check cells. With R lanes cell p is byte p div R of lane p mod R.
 ghost use mathlib.Core.Path.{_≡_};
 ghost use Prim.Native.Nat.{_+_, _*_, _≤_, _<_};
 ghost use lib.ListN.{length, getD};
 ghost use Rattle.account.specs.Lanes.{lane};
 ghost use Rattle.gf256.specs.Gf256.{gf256};
 ghost use Rattle.rules.specs.Placed.{Placed};
-ghost use Rattle.remainder.specs.Remainder.{unpacked};
+ghost use Rattle.gf256.specs.Tables.{Tables};
+ghost use Rattle.rules.specs.Refusal.{Within};
+ghost use Rattle.remainder.specs.Remainder.{unpacked, Remains};
 ghost use Rattle.code.specs.Word.{dataMost};
 ghost use Rattle.code.specs.Lane.{wordOf};
-ghost use Rattle.code.specs.Lanes.{LanesTested, LaneMendsAs, ChecksPut, LaneAsked, LaneOf, checkCell};
+ghost use Rattle.code.specs.Marks.{ListedIn};
+ghost use Rattle.code.specs.Lanes.{Remaindered, LaneFixedAs, ChecksPut, LaneAsked, LaneOf, checkCell};
 use super::lane::LANE_MOST;
 use super::lane::Lane;
-use super::lane::LaneRepair;
+use super::lane::LaneErrata;
+use super::marks::Listed;
 
-// Which of the lanes are clean. Cells after the last whole column count for nothing.
-pub fn test(strip: &[u8]) -> [bool; 4]
-    ensures { λ r. ⌜ LanesTested gf256 4 (now (strip .entry)) r ⌝ }
+// Room for the numbers of sixteen lanes.
+pub const LANES: usize = 16;
+
+// The remainders of the lanes: zero just where a lane is clean, and what its errata are found from.
+pub fn remainders(strip: &[u8], lanes: usize) -> [u64; LANES]
+    requires { ⌜ Within 1 16 lanes ⌝ }
+    ensures { λ r. ⌜ Remaindered lanes (now (strip .entry)) r ⌝ }
 {
-    let r = remainder::remainders_of(strip);
-    [r[0] == 0, r[1] == 0, r[2] == 0, r[3] == 0]
+    remainder::remainders(strip, lanes)
 }
 
-// Lane l of a strip, or of its marks, by value.
-fn gather(strip: &[u8], l: usize, n: usize) -> Lane
-    requires { ⌜ LaneOf 4 l n (now strip) ⌝ }
-    ensures { λ r. ⌜ (r .len ≡ n) × (wordOf r ≡ lane 4 l (now (strip .entry))) ⌝ }
+// Lane l of a strip, by value.
+fn gather(strip: &[u8], lanes: usize, l: usize, n: usize) -> Lane
+    requires { ⌜ LaneOf lanes l n (now strip) × (lanes ≤ 16) ⌝ }
+    ensures { λ r. ⌜ (r .len ≡ n) × (wordOf r ≡ lane lanes l (now (strip .entry))) ⌝ }
 {
     let mut t = Lane {
         bytes: [0; LANE_MOST],
         len: n,
     };
+    let mut p = l;
     let mut k: usize = 0;
     while k < n {
-        t.bytes[k] = strip[4 * k + l];
+        t.bytes[k] = strip[p];
+        p += lanes;
         k += 1;
     }
     t
 }
 
-// Lane l of a strip, taken out and repaired; the strip keeps its cells.
-pub fn mend(strip: &[u8], marks: &[u8], l: usize) -> LaneRepair
-    requires { ⌜ LaneAsked 4 l (now strip) (now marks) ⌝ }
-    ensures { λ r. ⌜ LaneMendsAs gf256 4 l (now (marks .entry)) (now (strip .entry)) (r .lane) (r .answer) ⌝ }
+// Lane l of a strip, which has the remainder r and these marked cells, taken out and mended by value; the strip keeps its cells.
+pub fn mend(
+    tables: &[u8; 1022],
+    strip: &[u8],
+    marks: &[u8],
+    lanes: usize,
+    l: usize,
+    r: u64,
+    marked: Listed,
+) -> LaneErrata
+    requires { ⌜ Tables (now tables) × LaneAsked lanes l (now strip) (now marks) × (marked .count ≤ 5) × ListedIn lanes l (now marks) marked × Remains
+        (lane lanes l (now strip)) r ⌝ }
+    ensures { λ e. ⌜ LaneFixedAs gf256 lanes l (now (marks .entry)) (now (strip .entry)) (e .good) e ⌝ }
 {
-    let n = strip.len() / 4;
-    let w = gather(strip, l, n);
-    let m = gather(marks, l, n);
-    super::lane::repair_lane(w, m)
+    let w = gather(strip, lanes, l, strip.len() / lanes);
+    let erased = marked.cells;
+    let found = super::lane::search(tables, w, r, erased, marked.count);
+    let good = found.good;
+    if !good {
+        return LaneErrata {
+            good: false,
+            mended: 0,
+            count: 0,
+            cells: [0; 5],
+            bytes: [0; 5],
+        };
+    }
+    let e = found.errata;
+    let mended = super::repair::count(e, marks, lanes, l);
+    let cells = e.cells;
+    let bytes = super::lane::belonging(w, e);
+    LaneErrata {
+        good: true,
+        mended,
+        count: e.count,
+        cells,
+        bytes,
+    }
 }
 
 // Check byte i of the five that are packed in c.

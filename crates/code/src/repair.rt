@@ -2,12 +2,13 @@
 ghost use mathlib.Core.Path.{_≡_};
 ghost use mathlib.Core.Bool.{not};
 ghost use mathlib.Core.List.{List};
-ghost use Prim.Native.Nat.{ℕ, _+_, _<_, _≤_};
+ghost use Prim.Native.Nat.{ℕ, _+_, _/_, _<_, _≤_};
 ghost use lib.Dec.{eqb};
 ghost use lib.ListN.{length};
 ghost use Rattle.account.specs.Code.{Cells};
 ghost use Rattle.account.specs.Reach.{countTo, isMarked, oneIf, and};
 ghost use Rattle.account.specs.Errata.{Applied};
+ghost use Rattle.account.specs.Lanes.{lane};
 ghost use Rattle.gf256.specs.Gf256.{gf256};
 ghost use Rattle.remainder.specs.Remainder.{packedEnd, Remains};
 ghost use Rattle.errata.specs.Errata.{Gathered, cellsOf, valuesOf, ErrataFor, SearchedAs};
@@ -103,10 +104,10 @@ fn changes(marks: &[u8], p: usize, v: u8) -> usize
     1
 }
 
-// How many unmarked cells the errata change.
-fn count(e: errata::Errata, marks: &[u8]) -> usize
-    requires { ⌜ ErrataFor (length (now marks)) e ⌝ }
-    ensures { λ r. ⌜ r ≡ countedOf (now (marks .entry)) (cellsOf e) (valuesOf e) ⌝ }
+// How many unmarked cells of lane l the errata change.
+pub(crate) fn count(e: errata::Errata, marks: &[u8], lanes: usize, l: usize) -> usize
+    requires { ⌜ ErrataFor (length (now marks) / lanes) e × (l < lanes) × (length (now marks) ≤ 4096) ⌝ }
+    ensures { λ r. ⌜ r ≡ countedOf (lane lanes l (now (marks .entry))) (cellsOf e) (valuesOf e) ⌝ }
 {
     let cells = e.cells;
     let values = e.values;
@@ -114,7 +115,7 @@ fn count(e: errata::Errata, marks: &[u8]) -> usize
     let mut i = e.count;
     while 0 < i {
         i -= 1;
-        c += changes(marks, cells[i], values[i]);
+        c += changes(marks, lanes * cells[i] + l, values[i]);
     }
     c
 }
@@ -153,7 +154,7 @@ pub fn repair(word: &mut [u8], marks: &[u8]) -> Repaired
         return Repaired::Refused(6);
     }
     let errata = found.errata;
-    let mended = count(errata, marks);
+    let mended = count(errata, marks, 1, 0);
     apply(errata, word);
     Repaired::Mended(mended)
 }

@@ -93,8 +93,8 @@ fn heads(s: &[u8], lanes: usize, h: usize, out: &mut [u64; LANES])
     }
 }
 
-// The remainders of the lanes of s.
-fn remainders(s: &[u8], lanes: usize) -> [u64; LANES]
+// The remainders of the lanes of s. Cells after the last whole column count for nothing.
+pub fn remainders(s: &[u8], lanes: usize) -> [u64; LANES]
     requires { ⌜ (1 ≤ lanes) × (lanes ≤ 16) ⌝ }
     ensures { λ r. ⌜ LanesRemain lanes (now (s .entry)) r ⌝ }
 {

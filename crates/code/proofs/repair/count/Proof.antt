@@ -1,24 +1,29 @@
-use mathlib.Core.Path.{_≡_, sym, subst}
-use Prim.Native.Nat.{ℕ, _+_, _-_, _≤_, _<_}
+use mathlib.Core.Path.{_≡_, sym, ap, _∙_, subst}
+use mathlib.Core.Bool.{Bool, not}
+use Prim.Native.Nat.{ℕ, _+_, _*_, _-_, _/_, _≤_, _<_}
 use native.Mathlib.Omega.{arith}
 use borrow.Author.Needs.{needs}
+use lib.Dec.{eqb}
 use lib.ListN.{length, getD}
 use lib.Seq.{slice}
+use Rattle.account.specs.Lanes.{lane}
+use Rattle.account.specs.Reach.{oneIf, and}
 use Rattle.code.specs.Repair.{countedOf}
-use Rattle.code.proofs.Applying.{count-starts, count-goes, counts-one, erratum-below}
+use Rattle.code.proofs.Applying.{lane-marked, lane-inside, count-starts, count-goes, counts-one, erratum-below}
 use Rattle.code.proofs.repair.count.Statement.{statement}
 use Rattle.code.proofs.repair.count.Tie as tie
 
 abbrev Inv-loop : tie.InvT-loop
-Inv-loop marks cells values c₀ i₀ c i = (i ≤ i₀) × (c + i ≤ i₀) × (c ≡ countedOf marks (slice i i₀ cells) (slice i i₀ values))
+Inv-loop marks lanes l cells values c₀ i₀ c i =
+    (i ≤ i₀) × (c + i ≤ i₀) × (c ≡ countedOf (lane lanes l marks) (slice i i₀ cells) (slice i i₀ values))
 
 abbrev μ-loop : tie.MeasureT-loop
-μ-loop marks cells values c₀ i₀ c i = i
+μ-loop marks lanes l cells values c₀ i₀ c i = i
 
 loop-holds : tie.Need-loop-holds Inv-loop μ-loop
 loop-holds c =
-    let s = c .before .before .before in
-    (search needs, search needs, sym (count-starts (s .args .marks .now) (s .args .e .cells) (s .args .e .values) (s .args .e .count)))
+    let a = c .before .before .before .args in
+    (search needs, search needs, sym (count-starts (lane (a .lanes) (a .l) (a .marks .now)) (a .e .cells) (a .e .values) (a .e .count)))
 
 sub-i : tie.Need-sub-i Inv-loop μ-loop
 sub-i c = search needs
@@ -27,48 +32,66 @@ mul-changes : tie.Need-mul-changes Inv-loop μ-loop
 mul-changes c = search needs
 
 array-read-changes : tie.Need-array-read-changes Inv-loop μ-loop
-array-read-changes c = omega (arith, c .before .before .before .before .before .pre .few)
+array-read-changes c = omega (arith, c .before .before .before .before .before .pre .0 .few)
+
+mul-changes-2 : tie.Need-mul-changes-2 Inv-loop μ-loop
+mul-changes-2 c =
+    let a = c .before .before .before .before .before .args in
+    let p = c .before .before .before .before .before .pre in
+    let l = c .before .loop in
+    omega (arith, p .2, lane-inside (a .lanes) (a .marks .now) (a .l) (getD (a .e .cells) (l .i - 1) 0) (p .1) (erratum-below (length (a .marks .now) / a .lanes) (a .e) (p .0)
+    (l .i - 1) (omega arith)))
+
+add-changes : tie.Need-add-changes Inv-loop μ-loop
+add-changes c =
+    let a = c .before .before .before .before .before .args in
+    let p = c .before .before .before .before .before .pre in
+    let l = c .before .loop in
+    omega (arith, p .2, lane-inside (a .lanes) (a .marks .now) (a .l) (getD (a .e .cells) (l .i - 1) 0) (p .1) (erratum-below (length (a .marks .now) / a .lanes) (a .e) (p .0)
+    (l .i - 1) (omega arith)))
 
 array-read-changes-2 : tie.Need-array-read-changes-2 Inv-loop μ-loop
-array-read-changes-2 c = omega (arith, c .before .before .before .before .before .pre .few)
+array-read-changes-2 c = omega (arith, c .before .before .before .before .before .pre .0 .few)
 
 changes-requires : tie.Need-changes-requires Inv-loop μ-loop
 changes-requires c κs =
-    let s = c .before .before .before .before .before in
-    let L = c .before .loop in
-    erratum-below (length (s .args .marks .now)) (s .args .e) (s .pre) (L .i - 1) (omega arith)
+    let a = c .before .before .before .before .before .args in
+    let p = c .before .before .before .before .before .pre in
+    let l = c .before .loop in
+    lane-inside (a .lanes) (a .marks .now) (a .l) (getD (a .e .cells) (l .i - 1) 0) (p .1) (erratum-below (length (a .marks .now) / a .lanes) (a .e) (p .0)
+    (l .i - 1) (omega arith))
 
 add-c : tie.Need-add-c Inv-loop μ-loop
 add-c c =
-    let s = c .before .before .before .before .before .before in
-    let i = c .before .before .loop .i - 1 in
-    omega (
-      arith,
-      s .pre .few,
-      counts-one (s .args .marks .now) (getD (s .args .e .cells) i 0) (getD (s .args .e .values) i 0) (c .changes .result) (c .changes .ensures),
-    )
+    let a = c .before .before .before .before .before .before .args in
+    let p = c .before .before .before .before .before .before .pre in
+    let l = c .before .before .loop in
+    let e = (c .changes .ensures ∙ ap (λ (b : Bool). oneIf (and (not b) (not (eqb (getD (a .e .values) (l .i - 1) 0) 0)))) (lane-marked (a .lanes) (a .marks .now) (a .l)
+    (getD (a .e .cells) (l .i - 1) 0) (p .1) (erratum-below (length (a .marks .now) / a .lanes) (a .e) (p .0) (l .i - 1) (omega arith)))) in
+    omega (arith, p .0 .few, counts-one (lane (a .lanes) (a .l) (a .marks .now)) (getD (a .e .cells) (l .i - 1) 0) (getD (a .e .values) (l .i - 1) 0) (c .changes .result) e)
 
 loop-less : tie.Need-loop-less Inv-loop μ-loop
 loop-less c = search needs
 
 loop-again : tie.Need-loop-again Inv-loop μ-loop
 loop-again c =
-    let s = c .before .before .before .before .before .before in
-    let e = s .args .e in
-    let L = c .before .before .loop in (
+    let a = c .before .before .before .before .before .before .args in
+    let p = c .before .before .before .before .before .before .pre in
+    let l = c .before .before .loop in
+    let e = (c .changes .ensures ∙ ap (λ (b : Bool). oneIf (and (not b) (not (eqb (getD (a .e .values) (l .i - 1) 0) 0)))) (lane-marked (a .lanes) (a .marks .now) (a .l)
+    (getD (a .e .cells) (l .i - 1) 0) (p .1) (erratum-below (length (a .marks .now) / a .lanes) (a .e) (p .0) (l .i - 1) (omega arith)))) in (
       omega arith,
-      omega (arith, counts-one (s .args .marks .now) (getD (e .cells) (L .i - 1) 0) (getD (e .values) (L .i - 1) 0) (c .changes .result) (c .changes .ensures)),
-      count-goes (s .args .marks .now) (e .cells) (e .values) (e .count) (L .i) (L .c) (c .changes .result) (search needs) (L .inv .0)
-          (omega (arith, s .pre .few, s .pre .room)) (omega (arith, s .pre .few, s .pre .values-room)) (L .inv .2) (c .changes .ensures),
+      omega (arith, counts-one (lane (a .lanes) (a .l) (a .marks .now)) (getD (a .e .cells) (l .i - 1) 0) (getD (a .e .values) (l .i - 1) 0) (c .changes .result) e),
+      count-goes (lane (a .lanes) (a .l) (a .marks .now)) (a .e .cells) (a .e .values) (a .e .count) (l .i) (l .c) (c .changes .result) (search needs) (l .inv .0)
+          (omega (arith, p .0 .few, p .0 .room)) (omega (arith, p .0 .few, p .0 .values-room)) (l .inv .2) e,
     )
 
 returns : tie.Need-returns Inv-loop μ-loop
 returns c =
-    let s = c .before .before .before .before .before in
-    let e = s .args .e in
-    let L = c .before .loop in
-    let z : L .i ≡ 0 = omega arith in
-    subst (λ (j : ℕ). L .c ≡ countedOf (s .args .marks .now) (slice j (e .count) (e .cells)) (slice j (e .count) (e .values))) z (L .inv .2)
+    let a = c .before .before .before .before .before .args in
+    let l = c .before .loop in
+    let z : l .i ≡ 0 = omega arith in
+    subst (λ (j : ℕ). l .c ≡ countedOf (lane (a .lanes) (a .l) (a .marks .now)) (slice j (a .e .count) (a .e .cells)) (slice j (a .e .count) (a .e .values))) z (l .inv .2)
 
 pub count-spec : {M : Type 1} → statement M
 count-spec =
@@ -80,6 +103,8 @@ count-spec =
     sub-i
     mul-changes
     array-read-changes
+    mul-changes-2
+    add-changes
     array-read-changes-2
     changes-requires
     add-c

@@ -1,6 +1,10 @@
-use mathlib.Core.Path.{sym, subst}
-use Prim.Native.Nat.{ℕ}
-use Rattle.errata.specs.Errata.{ErrataFor}
+use mathlib.Core.Path.{_≡_, ap, _∙_, subst}
+use mathlib.Core.List.{List}
+use Prim.Native.Nat.{ℕ, _/_}
+use lib.ListN.{length}
+use Rattle.remainder.proofs.LanesOf.{lane-word}
+use Rattle.errata.specs.Errata.{cellsOf, valuesOf, ErrataFor}
+use Rattle.code.specs.Repair.{countedOf}
 use native.Mathlib.Omega.{arith}
 use borrow.Author.Tests.{not-true, not-false}
 use Rattle.code.proofs.Repairing.{entry-of, repair-refused, repair-beyond, too-many, searchable, repair-mends, searched, unsearched}
@@ -53,8 +57,13 @@ count-requires c κs =
     let z = c .before .before .before .before .before .if1 .left in
     let f = c .before .before .search in
     let good = not-false (f .result .good) (c .before .if3 .left) in
-    subst (λ (n : ℕ). ErrataFor n (f .result .errata)) (sym (entry-of (s .args .marks .now) (s .args .word .now) (e .result) (e .ensures) z .1 .0))
-    (searched (f .result .good) (s .args .marks .now) (s .args .word .now) (f .result .errata) good (f .ensures) .listed)
+    let E = entry-of (s .args .marks .now) (s .args .word .now) (e .result) (e .ensures) z in
+    let n : length (s .args .word .now) ≡ length (s .args .marks .now) / 1 = omega (arith, E .1 .0) in (
+      subst (λ (k : ℕ). ErrataFor k (f .result .errata)) n
+          (searched (f .result .good) (s .args .marks .now) (s .args .word .now) (f .result .errata) good (f .ensures) .listed),
+      omega arith,
+      omega (arith, E .1 .0, E .0 .to),
+    )
 
 apply-requires : tie.Need-apply-requires
 apply-requires c κs =
@@ -77,7 +86,8 @@ returns-4 c =
     repair-mends (s .args .marks .now) (s .args .word .now) (c .before .before .apply .last .1 .0) (f .result .errata) (n .result)
     (entry-of (s .args .marks .now) (s .args .word .now) (e .result) (e .ensures) z)
     (searched (f .result .good) (s .args .marks .now) (s .args .word .now) (f .result .errata) good (f .ensures))
-    (c .before .before .apply .ensures) (n .ensures)
+    (c .before .before .apply .ensures)
+    (n .ensures ∙ ap (λ (m : List ℕ). countedOf m (cellsOf (f .result .errata)) (valuesOf (f .result .errata))) (lane-word (s .args .marks .now)))
 
 pub repair-spec : {M : Type 1} → statement M
 repair-spec =

@@ -28,7 +28,8 @@ use Rattle.errata.proofs.Guesses.{listed-marks}
 use Rattle.remainder.specs.Remainder.{Remains}
 use Rattle.code.specs.Repair.{countedOf}
 use Rattle.code.specs.Lane.{wordOf, SearchedBy, Belonging}
-use Rattle.code.specs.Lanes.{LaneAsked, LaneFixed}
+use Rattle.code.specs.Lanes.{LaneAsked, LaneRemains, LaneFixed}
+use Rattle.remainder.proofs.Whole.{none-is-clean}
 use Rattle.code.specs.Patched.{patched}
 use Rattle.code.specs.declared.lane.LaneErrata.{LaneErrata}
 use Rattle.code.specs.declared.lane.Lane.{Lane}
@@ -171,3 +172,8 @@ module _ (R l : ℕ) (marks s : List ℕ) (w : Lane) (lw : w .len ≡ length s /
     lane-searched x r f erased G cs rem S =
         S (lane R l marks) marks-size G word-size (subst (Cells gf256) (sym ew) (bytes-lane R some gf256 l s (Q .inside) cs))
         (subst (λ (v : List ℕ). Remains v r) (sym ew) rem)
+
+-- ---- a lane with the remainder zero
+
+pub lane-clean : (R l : ℕ) (s : List ℕ) (r : ℕ) → LaneRemains R l s r → r ≡ 0 → Clean gf256 (lane R l s)
+lane-clean R l s r L z = none-is-clean (lane R l s) r (L .remains) z

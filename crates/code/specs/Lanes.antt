@@ -8,7 +8,7 @@ use Rattle.account.specs.Field.{Ops}
 use Rattle.account.specs.Code.{Cells, Clean, WordOf}
 use Rattle.account.specs.Lanes.{lane}
 use Rattle.account.specs.Reach.{differing, Reach, GoodMarks, Reachable}
-use Rattle.remainder.specs.Remainder.{unpacked, LanesRemain}
+use Rattle.remainder.specs.Remainder.{unpacked, Remains, LanesRemain}
 use Rattle.rules.specs.Refusal.{Within}
 use Rattle.code.specs.Lane.{laneMost}
 use Rattle.code.specs.Patched.{patched}
@@ -37,6 +37,10 @@ module _ (O : Ops) (R : ℕ) where
     pub past : (p : ℕ) → R * (k + 5) ≤ p → getD x' p 0 ≡ getD x p 0
 
 -- ---- parts
+
+-- r is the remainder of lane j of s
+pub record LaneRemains (R j : ℕ) (s : List ℕ) (r : ℕ) : Type 0 where
+  pub remains : Remains (lane R j s) r
 
 -- the numbers of R lanes: number j is the remainder of lane j of s
 pub record Remaindered (R : ℕ) (s r : List ℕ) : Type 0 where

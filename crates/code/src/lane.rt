@@ -31,7 +31,13 @@ pub struct LaneErrata {
 }
 
 // The errata of a lane with the remainder r, of which the first f of `erased` are the marked cells.
-pub(crate) fn search(tables: &[u8; 1022], lane: Lane, r: u64, erased: [usize; 5], f: usize) -> errata::Found
+pub(crate) fn search(
+    tables: &[u8; 1022],
+    lane: Lane,
+    r: u64,
+    erased: [usize; 5],
+    f: usize,
+) -> errata::Found
     requires { ⌜ Tables (now tables) × Listed (lane .len) erased f × (r < packedEnd) ⌝ }
     ensures { λ x. ⌜ SearchedBy (wordOf lane) r (lane .len) erased f x ⌝ }
 {

@@ -7,11 +7,11 @@ ghost use Rattle.gf256.specs.Gf256.{gf256};
 ghost use Rattle.rules.specs.Placed.{Placed};
 ghost use Rattle.gf256.specs.Tables.{Tables};
 ghost use Rattle.rules.specs.Refusal.{Within};
-ghost use Rattle.remainder.specs.Remainder.{unpacked, Remains};
+ghost use Rattle.remainder.specs.Remainder.{unpacked};
 ghost use Rattle.code.specs.Word.{dataMost};
 ghost use Rattle.code.specs.Lane.{wordOf};
 ghost use Rattle.code.specs.Marks.{ListedIn};
-ghost use Rattle.code.specs.Lanes.{Remaindered, LaneFixedAs, ChecksPut, LaneAsked, LaneOf, checkCell};
+ghost use Rattle.code.specs.Lanes.{LaneRemains, Remaindered, LaneFixedAs, ChecksPut, LaneAsked, LaneOf, checkCell};
 use super::lane::LANE_MOST;
 use super::lane::Lane;
 use super::lane::LaneErrata;
@@ -57,8 +57,8 @@ pub fn mend(
     r: u64,
     marked: Listed,
 ) -> LaneErrata
-    requires { ⌜ Tables (now tables) × LaneAsked lanes l (now strip) (now marks) × (marked .count ≤ 5) × ListedIn lanes l (now marks) marked × Remains
-        (lane lanes l (now strip)) r ⌝ }
+    requires { ⌜ Tables (now tables) × LaneAsked lanes l (now strip) (now marks) × (marked .count ≤ 5) × ListedIn lanes l (now marks) marked × LaneRemains
+        lanes l (now strip) r ⌝ }
     ensures { λ e. ⌜ LaneFixedAs gf256 lanes l (now (marks .entry)) (now (strip .entry)) (e .good) e ⌝ }
 {
     let w = gather(strip, lanes, l, strip.len() / lanes);

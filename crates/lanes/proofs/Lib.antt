@@ -1,6 +1,6 @@
-pub mod Cells
 pub mod Marks
 pub mod Repairs
 pub mod Sofar
-pub mod Windows
 pub mod Noting
+pub mod Windows
+pub mod Untouched

@@ -1,19 +1,20 @@
--- Marks of a lane, counted.
+-- Marks of a lane: none, where there are none at all.
 use mathlib.Core.Path.{_≡_, refl, sym, ap, _∙_, subst}
 use mathlib.Core.Bool.{Bool, true, false, not}
 use mathlib.Core.Logic.{⊎-elim}
 use mathlib.Core.List.{List}
 use Prim.Native.Nat.{ℕ, zero, suc, _+_, _*_, _/_, _≤_, _<_}
-use native.Mathlib.Numerals.{add-one}
 use native.Mathlib.Omega.{arith}
 use lib.Dec.{eqb, T}
 use lib.ListN.{length}
 use Rattle.account.specs.Lanes.{lane}
 use Rattle.account.specs.Reach.{countTo, isMarked, oneIf}
 use Rattle.account.proofs.Cells.{count-none}
-use Rattle.account.proofs.Lanes.{getD-lane}
-use Rattle.level.specs.Strip.{markedIn}
+use Rattle.account.proofs.Lanes.{length-lane}
 use Rattle.rules.proofs.Numbers.{lt-or-ge}
+use Rattle.code.specs.Marks.{ListedIn}
+use Rattle.code.proofs.Applying.{lane-marked, lane-inside}
+use Rattle.code.proofs.Listing.{none-listed}
 
 -- what is counted nowhere is nowhere
 zero-count : (f : ℕ → Bool) (n : ℕ) → countTo f n ≡ 0 → (i : ℕ) → i < n → T (not (f i))
@@ -27,22 +28,17 @@ zero-count f (suc n) z i l = go (f n) refl z (λ y k. zero-count f n y i k)
         ⊎-elim (λ k. rec (omega arith) k)
         (λ k. let y : i ≡ n = omega arith in subst (λ (b : Bool). T (not b)) (sym (ap f y ∙ e)) tt) (lt-or-ge i n)
 
-module _ (marks : List ℕ) (l : ℕ) where
-  in-lane : (i : ℕ) → i < length marks / 4 → isMarked marks (4 * i + l) ≡ isMarked (lane 4 l marks) i
-  in-lane i h = sym (ap (λ (m : ℕ). not (eqb m 0)) (getD-lane 4 (omega arith) l marks i h))
+module _ (R : ℕ) (marks : List ℕ) (l : ℕ) (h : l < R) (z : countTo (isMarked marks) (length marks) ≡ 0) where
+  pub none-marked : countTo (isMarked (lane R l marks)) (length (lane R l marks)) ≡ 0
+  none-marked = count-none (isMarked (lane R l marks)) (length (lane R l marks)) (λ i k.
+      let j : i < length marks / R = omega (arith, length-lane R (omega arith) l marks) in
+      subst (λ (b : Bool). T (not b)) (lane-marked R marks l i h j)
+      (zero-count (isMarked marks) (length marks) z (R * i + l) (lane-inside R marks l i h j)))
 
-  -- one cell more
-  pub marked-more : (k f v : ℕ) → k < length marks / 4 → f ≡ countTo (isMarked (lane 4 l marks)) k → v ≡ oneIf (isMarked marks (4 * k + l))
-      → f + v ≡ countTo (isMarked (lane 4 l marks)) (k + 1)
-  unfolding countTo
-  marked-more k f v h e q = rw (add-one, e, q, in-lane k h)
-
-  -- no marks at all
-  pub none-marked : l < 4 → countTo (isMarked marks) (length marks) ≡ 0 → markedIn 4 marks l ≡ 0
-  none-marked h z =
-      count-none (isMarked (lane 4 l marks)) (length marks / 4) (λ i k.
-      subst (λ (b : Bool). T (not b)) (in-lane i k) (zero-count (isMarked marks) (length marks) z (4 * i + l) (omega arith)))
-
-pub one-small : (b : Bool) → oneIf b ≤ 1
-one-small true = omega arith
-one-small false = omega arith
+  pub none-listed-in : (p : List ℕ) → length p ≡ 5 → ListedIn R l marks (record { count = 0; cells = p })
+  none-listed-in p e = record {
+    most = omega arith;
+    list = λ _. none-listed (lane R l marks) p 0 (sym none-marked) refl e;
+    count = λ _. sym none-marked;
+    many = λ k. absurd (omega arith);
+  }

@@ -2,84 +2,118 @@
 use mathlib.Core.Path.{_≡_, refl, sym, ap, _∙_, subst}
 use mathlib.Core.Bool.{Bool, true, false}
 use mathlib.Core.List.{List}
-use Prim.Native.Nat.{ℕ, _*_, _/_, _≤_, _<_}
+use Prim.Native.Nat.{ℕ, _+_, _*_, _/_, _≤_, _<_}
+use native.Mathlib.Nat.{mul-div-right, mul-le-mul, le-div-iff-mul-le}
 use native.Mathlib.Omega.{arith}
-use lib.ListN.{length, take}
+use lib.ListN.{length, getD}
 use Rattle.account.specs.Lanes.{lane}
-use Rattle.account.specs.Code.{Clean}
+use Rattle.account.specs.Code.{Cells, Clean}
 use Rattle.account.specs.Reach.{Reach, countTo, isMarked, differsAt, marked}
 use Rattle.account.proofs.Cells.{count-none, not-differs}
-use Rattle.account.proofs.Lanes.{length-lane}
+use Rattle.account.proofs.Lanes.{length-lane, bytes-lane}
 use Rattle.gf256.specs.Gf256.{gf256}
-use Rattle.rules.specs.Says.{Says}
-use Rattle.code.specs.Lane.{wordOf}
-use Rattle.code.specs.Lanes.{LaneBecomes, LaneMendsAs, LaneAsked}
-use Rattle.code.proofs.Gathering.{lane-becomes, lane-lost}
-use Rattle.code.specs.declared.lane.Lane.{Lane}
-use Rattle.code.specs.declared.repair.Repaired.{Repaired}
-use Rattle.code.specs.declared.repair.Repaired.the-variants as repaired
-use Rattle.level.specs.Strip.{Legal, markedIn, Mendable}
-use Rattle.lanes.specs.Lanes.{Ready, Scattered, OneGood, OneAs}
+use Rattle.level.specs.Strip.{columns, Legal, wrongIn, Mendable}
+use Rattle.code.specs.Marks.{ListedIn}
+use Rattle.code.specs.declared.marks.Listed.{Listed}
+use Rattle.code.specs.declared.lane.LaneErrata.{LaneErrata}
+use Rattle.code.specs.Lanes.{LaneFixed, LaneFixedAs, LaneAsked, LaneRemains}
+use Rattle.code.specs.Patched.{patched}
+use Rattle.code.proofs.Mending.{lane-clean}
+use Rattle.lanes.specs.declared.One.{One}
+use Rattle.lanes.specs.Fixes.{Room, Noting, Noted}
+use Rattle.lanes.specs.Lanes.{Entered, Ready, LaneMended, OneGood, OneAs}
 
-pub columns-fit : (s : List ℕ) → Legal 4 (length s) → (6 ≤ length s / 4) × (length s / 4 ≤ 96) × (length s ≡ 4 * (length s / 4))
-columns-fit s l = (omega (arith, l .from, l .cells), omega (arith, l .to, l .cells), omega (arith, l .cells))
+module _ (R : ℕ) (s marks : List ℕ) (E : Entered R s marks) where
+  pub some : 0 < R
+  some = omega (arith, E .lanes .from)
 
-pub asked : (s marks : List ℕ) (j room : ℕ) → j < 4 → Ready 4 s marks room → LaneAsked 4 j s marks
-asked s marks j room h rd =
-    let c = columns-fit s (rd .legal) in
-    record { inside = h; legal = record { from = c .0; to = c .1 }; full = c .2; matched = rd .matched; good = rd .good }
+  pub columns-are : length s / R ≡ E .legal .k + 5
+  columns-are = ap (λ (n : ℕ). n / R) (E .legal .cells) ∙ mul-div-right (E .legal .k + 5) some
 
--- a lane that was mended, and put back
-pub yes-lane : (s marks : List ℕ) (j room : ℕ) → Ready 4 s marks room → (w : Lane) (a : Repaired) (e : ℕ) → a ≡ repaired.Mended e
-    → LaneMendsAs gf256 4 j marks s w a
-    → (x x' : List ℕ) → Scattered 4 (4 * w .len) j (wordOf w) x x' → OneGood 4 s marks j x x' (record { good = true; mended = e })
-yes-lane s marks j room rd w a e is A x x' sc = record {
-  mended-lane = record { clean = rw own (L .clean); reach = rw own (L .reach) };
-  count = L .mended ∙ rw own (ap (countTo (differsAt (lane 4 j marks) (lane 4 j s) (wordOf w))) (length-lane 4 (omega arith) j s));
-  others = S .others;
-}
-  where
-    L : LaneBecomes gf256 4 j marks s w e
-    L = lane-becomes gf256 4 j marks s w a e is A
+  one-column : 1 ≤ columns R 4
+  one-column = le-div-iff-mul-le some .1 (omega arith)
 
-    size : 4 * w .len ≡ length s
-    size = ap (λ (k : ℕ). 4 * k) (L .len) ∙ sym (columns-fit s (rd .legal) .2)
-
-    S : Scattered 4 (length s) j (wordOf w) x x'
-    S = subst (λ (n : ℕ). Scattered 4 n j (wordOf w) x x') size sc
-
-    own : lane 4 j (take (length s) x') ≡ wordOf w
-    own = S .own
-
--- and one that cannot be
-pub no-lane : (s marks : List ℕ) (j : ℕ) (w : Lane) (a : Repaired) (c : ℕ) → a ≡ repaired.Refused c → LaneMendsAs gf256 4 j marks s w a
-    → Mendable gf256 4 marks s j → ⊥
-no-lane s marks j w a c is A = lane-lost gf256 4 j marks s w a c is A .none
-
--- a lane that is clean stays as it is
-module _ (s marks : List ℕ) (j : ℕ) (x : List ℕ) (same : lane 4 j (take (length s) x) ≡ lane 4 j s) (clean : Clean gf256 (lane 4 j s))
-    (matched : length marks ≡ length s) where
-  none-differ : (n : ℕ) → countTo (differsAt (lane 4 j marks) (lane 4 j s) (lane 4 j s)) n ≡ 0
-  none-differ n = count-none (differsAt (lane 4 j marks) (lane 4 j s) (lane 4 j s)) n (λ p l. not-differs (lane 4 j marks) (lane 4 j s) (lane 4 j s) p refl)
-
-  marks-are : marked (lane 4 j marks) (lane 4 j s) ≡ markedIn 4 marks j
-  marks-are = ap (countTo (isMarked (lane 4 j marks))) (length-lane 4 (omega arith) j s ∙ ap (λ (n : ℕ). n / 4) (sym matched))
-
-  pub kept-lane : markedIn 4 marks j ≤ 5 → OneGood 4 s marks j x x (record { good = true; mended = 0 })
-  kept-lane few = record {
-    mended-lane = record {
-      clean = subst (Clean gf256) (sym same) clean;
-      reach = subst (Reach (lane 4 j marks) (lane 4 j s)) (sym same)
-          (record { same-length = refl; few = omega (arith, none-differ (length (lane 4 j s)), marks-are) });
-    };
-    count = sym (ap (λ (t : List ℕ). countTo (differsAt (lane 4 j marks) (lane 4 j s) t) (length s / 4)) same ∙ none-differ (length s / 4));
-    others = λ i h n. refl;
+  pub asked : (j : ℕ) → j < R → LaneAsked R j s marks
+  asked j h = record {
+    inside = h;
+    lanes = E .lanes .to;
+    legal = record { from = omega (arith, columns-are, E .legal .from, one-column); to = omega (arith, columns-are, E .legal .to, E .short) };
+    full = E .legal .cells ∙ ap (λ (n : ℕ). R * n) (sym columns-are);
+    matched = E .matched;
+    good = E .good;
   }
 
-  -- six marks are beyond reach
-  pub lost-lane : (markedIn 4 marks j ≤ 5 → ⊥) → Mendable gf256 4 marks s j → ⊥
-  lost-lane many q = many (omega (arith, q .reach .few, marks-are))
+  pub strip-few : (j : ℕ) → j < R → length marks ≤ 4096
+  strip-few j h = let Q = asked j h in omega (arith, Q .matched, Q .full, mul-le-mul (Q .lanes) (Q .legal .to))
 
-  pub clean-lane : (b : Bool) → Says b (markedIn 4 marks j ≤ 5) → OneAs 4 b s marks j x x (record { good = b; mended = 0 })
-  clean-lane true h = kept-lane h
-  clean-lane false h = lost-lane h
+  -- ---- one lane
+
+  module _ (j k : ℕ) (h : j < R) (cells bytes : List ℕ) where
+    abbrev old : List ℕ
+    old = patched cells bytes k s
+
+    -- a lane that is not clean: its errata noted
+    module _ (e : LaneErrata) (F : LaneFixed gf256 R j marks s e) (room : Room k cells bytes) where
+      pub to-note : Noting R j k e cells bytes
+      to-note = record {
+        inside = h;
+        lanes = E .lanes .to;
+        few = F .few;
+        below = λ i l. omega (arith, F .below i l, columns-are, E .legal .to, E .short);
+        room = room .left;
+        cells-long = room .cells-long;
+        bytes-long = room .bytes-long;
+      }
+
+      pub mended-one : (cells' bytes' : List ℕ) (n : ℕ) → Noted R j k e cells bytes cells' bytes' n
+          → OneAs R s marks j k cells bytes cells' bytes' true (record { good = true; mended = e .mended; noted = n })
+      mended-one cells' bytes' n N = (good, omega (arith, N .count, F .few), N .cells-long, N .bytes-long)
+        where
+          t' : List ℕ
+          t' = patched cells' bytes' n s
+
+          good : lane R j old ≡ lane R j s → OneGood R s marks j old t' (e .mended)
+          good same = record {
+            mended-lane = record { cells = rw own (F .cells); clean = rw own (F .clean); reach = rw own (F .reach) };
+            count = F .mended
+                ∙ ap (countTo (differsAt (lane R j marks) (lane R j s) (patched (e .cells) (e .bytes) (e .count) (lane R j s)))) (length-lane R some j s)
+                ∙ ap (λ (v : List ℕ). countTo (differsAt (lane R j marks) (lane R j s) v) (length s / R)) (sym own);
+            others = N .others s (F .below);
+          }
+            where
+              own : lane R j t' ≡ patched (e .cells) (e .bytes) (e .count) (lane R j s)
+              own = N .own s (F .below) ∙ ap (patched (e .cells) (e .bytes) (e .count)) same
+
+    -- ---- a lane that is clean is as it is to be
+
+    none-differ : (n : ℕ) → countTo (differsAt (lane R j marks) (lane R j s) (lane R j s)) n ≡ 0
+    none-differ n = count-none (differsAt (lane R j marks) (lane R j s) (lane R j s)) n (λ p l. not-differs (lane R j marks) (lane R j s) (lane R j s) p refl)
+
+    sizes : length (lane R j s) ≡ length (lane R j marks)
+    sizes = length-lane R some j s ∙ ap (λ (n : ℕ). n / R) (sym (E .matched)) ∙ sym (length-lane R some j marks)
+
+    module _ (m : Listed) (L : ListedIn R j marks m) where
+      pub kept-one : m .count ≤ 5 → Clean gf256 (lane R j s) → Cells gf256 s → Room k cells bytes
+          → OneAs R s marks j k cells bytes cells bytes true (record { good = true; mended = 0; noted = k })
+      kept-one few clean cs room = (good, omega arith, room .cells-long, room .bytes-long)
+        where
+          reach : Reach (lane R j marks) (lane R j s) (lane R j s)
+          reach = record {
+            same-length = refl;
+            few = omega (arith, none-differ (length (lane R j s)), L .count few, ap (countTo (isMarked (lane R j marks))) sizes, few);
+          }
+
+          good : lane R j old ≡ lane R j s → OneGood R s marks j old old 0
+          good same = record {
+            mended-lane = record {
+              cells = subst (Cells gf256) (sym same) (bytes-lane R some gf256 j s h cs);
+              clean = subst (Clean gf256) (sym same) clean;
+              reach = subst (Reach (lane R j marks) (lane R j s)) (sym same) reach;
+            };
+            count = sym (ap (λ (t : List ℕ). countTo (differsAt (lane R j marks) (lane R j s) t) (length s / R)) same ∙ none-differ (length s / R));
+            others = λ i b n. refl;
+          }
+
+      -- six marks are beyond reach
+      pub six-marked : 5 < m .count → Mendable gf256 R marks s j → ⊥
+      six-marked many q = omega (arith, L .many many, q .reach .few, ap (countTo (isMarked (lane R j marks))) sizes)

@@ -2,132 +2,153 @@
 use mathlib.Core.Path.{_≡_, refl, sym, ap, ap₂, _∙_, subst}
 use mathlib.Core.Bool.{Bool, true, false}
 use mathlib.Core.List.{List}
-use Prim.Native.Nat.{ℕ, zero, suc, _+_, _*_, _/_, _≤_, _<_}
+use Prim.Native.Nat.{ℕ, zero, suc, _+_, _*_, _/_, _%_, _≤_, _<_}
+use native.Mathlib.Nat.{mod-lt, div-lt-iff-lt-mul, mul-comm}
 use native.Mathlib.Numerals.{add-one}
 use native.Mathlib.Omega.{arith}
 use borrow.Author.Count.{below-more}
-use lib.ListN.{length, take}
-use lib.Seq.{getD-take, length-take-le}
+use lib.ListN.{length, getD}
 use Rattle.account.specs.Lists.{sumOf}
 use Rattle.account.specs.Lanes.{lane}
 use Rattle.account.specs.Code.{Cells}
 use Rattle.account.specs.Reach.{countTo, differsAt, isMarked}
-use Rattle.account.proofs.Lanes.{length-lane, bytes-lane}
+use Rattle.account.proofs.Lanes.{length-lane, cell, columns-of}
 use Rattle.gf256.specs.Gf256.{gf256}
 use Rattle.level.specs.Strip.{wrongIn, mendedOf, Mendable}
 use Rattle.level.proofs.Counts.{sum-cong}
+use Rattle.code.specs.Patched.{patched}
+use Rattle.code.proofs.Patching.{patched-0, length-patched}
 use Rattle.lanes.specs.declared.One.{One}
-use Rattle.lanes.specs.Lanes.{Ready, LaneMended, OneGood, OneAs, MendedAs}
+use Rattle.lanes.specs.Fixes.{Room}
+use Rattle.lanes.specs.Lanes.{Entered, LaneMended, OneGood, OneAs, MendedAs}
+use Rattle.lanes.proofs.Repairs.{some}
 
 sum-more : (n : ℕ) (f : ℕ → ℕ) → sumOf (n + 1) f ≡ sumOf n f + f n
 unfolding sumOf
 sum-more n f = rw add-one
 
-module _ (s marks : List ℕ) where
-  abbrev front : List ℕ → List ℕ
-  front x = take (length s) x
+-- a strip whose lanes have cells of the field has
+cells-of-lanes : (R : ℕ) → 0 < R → (t : List ℕ) (m : ℕ) → length t ≡ R * m → ((j : ℕ) → j < R → Cells gf256 (lane R j t)) → Cells gf256 t
+cells-of-lanes R some t m full f = record {
+  cell = λ p h.
+      let k : p / R < m = div-lt-iff-lt-mul some .1 (omega (arith, full, mul-comm R m)) in
+      subst (λ (x : ℕ). x < 256) (cell R some t m full p h)
+      (f (p % R) (mod-lt p some) .cell (p / R) (omega (arith, length-lane R some (p % R) t, columns-of R some t m full)));
+}
 
-  -- the lanes below l are mended, the others are still those of s
-  pub record Sofar (o x : List ℕ) (e l : ℕ) : Type 0 where
-    pub within : l ≤ 4
-    pub long : length x ≡ length o
-    pub bytes : Cells gf256 x
-    pub each : (j : ℕ) → j < l → LaneMended 4 marks s (front x) j
-    pub later : (j : ℕ) → l ≤ j → j < 4 → lane 4 j (front x) ≡ lane 4 j s
-    pub count : e ≡ sumOf l (wrongIn 4 marks s (front x))
+module _ (R : ℕ) (s marks : List ℕ) where
+  -- the lanes below l are mended by the k cells that are noted, the others are still those of s
+  pub record Sofar (cells bytes : List ℕ) (e k l : ℕ) : Type 0 where
+    pub within : l ≤ R
+    pub noted : k ≤ 5 * l
+    pub cells-long : length cells ≡ 80
+    pub bytes-long : length bytes ≡ 80
+    pub each : (j : ℕ) → j < l → LaneMended R marks s (patched cells bytes k s) j
+    pub later : (j : ℕ) → l ≤ j → j < R → lane R j (patched cells bytes k s) ≡ lane R j s
+    pub count : e ≡ sumOf l (wrongIn R marks s (patched cells bytes k s))
     pub small : e ≤ 2 * l
 
-  pub sofar-0 : (o : List ℕ) → Cells gf256 o → take (length s) o ≡ s → Sofar o o 0 0
+  pub sofar-0 : (cells bytes : List ℕ) → Room 0 cells bytes → Sofar cells bytes 0 0 0
   unfolding sumOf
-  sofar-0 o b e = record {
+  sofar-0 cells bytes room = record {
     within = omega arith;
-    long = refl;
-    bytes = b;
+    noted = omega arith;
+    cells-long = room .cells-long;
+    bytes-long = room .bytes-long;
     each = λ j h. absurd (omega arith);
-    later = λ j h k. ap (lane 4 j) e;
+    later = λ j h k. ap (lane R j) (patched-0 cells bytes s);
     count = refl;
     small = omega arith;
   }
 
-  few : (t : List ℕ) (j : ℕ) → LaneMended 4 marks s t j → wrongIn 4 marks s t j ≤ 2
-  few t j m =
-      let h : 2 * countTo (differsAt (lane 4 j marks) (lane 4 j s) (lane 4 j t)) (length s / 4) + countTo (isMarked (lane 4 j marks)) (length s / 4) ≤ 5 =
-      rw (length-lane 4 (omega arith) j s) at (m .reach .few) in
-      omega arith
+  pub room-left : R ≤ 16 → (cells bytes : List ℕ) (e k l : ℕ) → l < R → Sofar cells bytes e k l → Room k cells bytes
+  room-left lanes cells bytes e k l h W = record { left = omega (arith, W .noted); cells-long = W .cells-long; bytes-long = W .bytes-long }
 
-  pub told-good : (x x' : List ℕ) (l : ℕ) (r : One) → r .good ≡ true → OneAs 4 (r .good) s marks l x x' r → OneGood 4 s marks l x x' r
-  told-good x x' l r t a = subst (λ (b : Bool). OneAs 4 b s marks l x x' r) t a
+  module _ (E : Entered R s marks) where
+    few : (t : List ℕ) (j : ℕ) → LaneMended R marks s t j → wrongIn R marks s t j ≤ 2
+    few t j m =
+        let h : 2 * countTo (differsAt (lane R j marks) (lane R j s) (lane R j t)) (length s / R) + countTo (isMarked (lane R j marks)) (length s / R) ≤ 5 =
+        rw (length-lane R (some R s marks E) j s) at (m .reach .few) in
+        omega arith
 
-  pub one-few : (x x' : List ℕ) (l : ℕ) (r : One) → OneGood 4 s marks l x x' r → r .mended ≤ 2
-  one-few x x' l r g = omega (arith, few (front x') l (g .mended-lane), g .count)
+    -- a lane that was mended
+    module _ (cells bytes cells' bytes' : List ℕ) (e k l : ℕ) (h : l < R) (W : Sofar cells bytes e k l) (o : One) (t : o .good ≡ true)
+        (a : OneAs R s marks l k cells bytes cells' bytes' (o .good) o) where
+      told : OneAs R s marks l k cells bytes cells' bytes' true o
+      told = subst (λ (b : Bool). OneAs R s marks l k cells bytes cells' bytes' b o) t a
 
-  pub sofar-more : (o x x' : List ℕ) (e l : ℕ) (r : One) → l < 4 → length x' ≡ length x → Cells gf256 x' → Sofar o x e l → OneGood 4 s marks l x x' r
-      → Sofar o x' (e + r .mended) (l + 1)
-  sofar-more o x x' e l r h long by w g = record {
-    within = omega arith;
-    long = long ∙ w .long;
-    bytes = by;
-    each = below-more _ l (λ j k. kept j k (w .each j k)) (g .mended-lane);
-    later = λ j k b. g .others j b (λ q. omega (arith, q)) ∙ w .later j (omega arith) b;
-    count =
-        sym (sum-more l (wrongIn 4 marks s (front x'))
-        ∙ ap₂ (λ (a b : ℕ). a + b) (sum-cong l (wrongIn 4 marks s (front x')) (wrongIn 4 marks s (front x)) same ∙ sym (w .count)) (sym (g .count)));
-    small = omega (arith, one-few x x' l r g, w .small);
-  }
-    where
-      other : (j : ℕ) → j < l → lane 4 j (front x') ≡ lane 4 j (front x)
-      other j k = g .others j (omega arith) (λ q. omega (arith, q))
+      good : OneGood R s marks l (patched cells bytes k s) (patched cells' bytes' (o .noted) s) (o .mended)
+      good = told .0 (W .later l (omega arith) h)
 
-      kept : (j : ℕ) → j < l → LaneMended 4 marks s (front x) j → LaneMended 4 marks s (front x') j
-      kept j k m = record { clean = rw (other j k) (m .clean); reach = rw (other j k) (m .reach) }
+      pub one-few : o .mended ≤ 2
+      one-few = omega (arith, few (patched cells' bytes' (o .noted) s) l (good .mended-lane), good .count)
 
-      same : (j : ℕ) → j < l → wrongIn 4 marks s (front x') j ≡ wrongIn 4 marks s (front x) j
-      same j k = ap (λ (v : List ℕ). countTo (differsAt (lane 4 j marks) (lane 4 j s) v) (length s / 4)) (other j k)
+      pub sofar-more : Sofar cells' bytes' (e + o .mended) (o .noted) (l + 1)
+      sofar-more = record {
+        within = omega arith;
+        noted = omega (arith, W .noted, told .1);
+        cells-long = told .2;
+        bytes-long = told .3;
+        each = below-more _ l (λ j b. kept j b (W .each j b)) (good .mended-lane);
+        later = λ j b c. good .others j c (λ q. omega (arith, q)) ∙ W .later j (omega arith) c;
+        count =
+            sym (sum-more l (wrongIn R marks s new)
+            ∙ ap₂ (λ (x y : ℕ). x + y) (sum-cong l (wrongIn R marks s new) (wrongIn R marks s old) same ∙ sym (W .count)) (sym (good .count)));
+        small = omega (arith, one-few, W .small);
+      }
+        where
+          old : List ℕ
+          old = patched cells bytes k s
 
-  front-bytes : (x : List ℕ) → length s ≤ length x → Cells gf256 x → Cells gf256 (front x)
-  front-bytes x h b = record {
-    cell = λ j l. let k : j < length s = omega (arith, length-take-le (length s) x h) in rw (getD-take (length s) x j 0 k) (b .cell j (omega arith));
-  }
+          new : List ℕ
+          new = patched cells' bytes' (o .noted) s
 
-  fits : (o x : List ℕ) (e l : ℕ) → Ready 4 s marks (length o) → Sofar o x e l → length s ≤ length x
-  fits o x e l rd w = omega (arith, rd .fits, w .long)
+          other : (j : ℕ) → j < l → lane R j new ≡ lane R j old
+          other j b = good .others j (omega arith) (λ q. omega (arith, q))
 
-  -- a lane that cannot be mended
-  pub lost : (o x x' : List ℕ) (e l : ℕ) (r : One) → Ready 4 s marks (length o) → l < 4 → Sofar o x e l → r .good ≡ false → OneAs 4 (r .good) s marks l x x' r
-      → MendedAs 4 s marks x' (record { beyond = l; mended = 0 })
-  lost o x x' e l r rd h w t a = record {
-    found = λ k. absurd (omega arith);
-    count = λ k. absurd (omega arith);
-    small = omega arith;
-    lost = λ k. record {
-      lane-below = h;
-      beyond = no;
-      below = λ i j. let m = w .each i j in
-          record {
-            word = lane 4 i (front x);
-            cells = bytes-lane 4 (omega arith) gf256 i (front x) (omega arith) (front-bytes x (fits o x e l rd w) (w .bytes));
-            clean = m .clean;
-            reach = m .reach;
-          };
-    };
-  }
-    where
-      no : Mendable gf256 4 marks s l → ⊥
-      no = subst (λ (b : Bool). OneAs 4 b s marks l x x' r) t a
+          kept : (j : ℕ) → j < l → LaneMended R marks s old j → LaneMended R marks s new j
+          kept j b m = record { cells = rw (other j b) (m .cells); clean = rw (other j b) (m .clean); reach = rw (other j b) (m .reach) }
 
-  -- all four are
-  pub all-mended : (o x : List ℕ) (e l : ℕ) → Ready 4 s marks (length o) → 4 ≤ l → Sofar o x e l → MendedAs 4 s marks x (record { beyond = 4; mended = e })
-  unfolding mendedOf
-  all-mended o x e l rd h w = record {
-    found = λ k. record {
-      cells = front-bytes x (fits o x e l rd w) (w .bytes);
-      clean = λ j a. w .each j (omega arith) .clean;
-      reach = record { same-length = length-take-le (length s) x (fits o x e l rd w); each = λ j a. w .each j (omega arith) .reach };
-    };
-    count = λ k. w .count ∙ ap (λ (n : ℕ). sumOf n (wrongIn 4 marks s (front x))) four;
-    small = omega (arith, w .small);
-    lost = λ k. absurd (omega arith);
-  }
-    where
-      four : l ≡ 4
-      four = omega (arith, w .within)
+          same : (j : ℕ) → j < l → wrongIn R marks s new j ≡ wrongIn R marks s old j
+          same j b = ap (λ (v : List ℕ). countTo (differsAt (lane R j marks) (lane R j s) v) (length s / R)) (other j b)
+
+    -- a lane that cannot be
+    pub lost : (cells bytes cells' bytes' : List ℕ) (e k l : ℕ) → l < R → Sofar cells bytes e k l → (o : One) → o .good ≡ false
+        → OneAs R s marks l k cells bytes cells' bytes' (o .good) o → MendedAs R s marks cells' bytes' (record { beyond = l; mended = 0; noted = 0 })
+    lost cells bytes cells' bytes' e k l h W o t a = record {
+      found = λ b. absurd (omega arith);
+      count = λ b. absurd (omega arith);
+      small = omega arith;
+      few = omega arith;
+      lost = λ b. record {
+        lane-below = h;
+        beyond = none;
+        below = λ i j. let m = W .each i j in
+            record { word = lane R i (patched cells bytes k s); cells = m .cells; clean = m .clean; reach = m .reach };
+      };
+    }
+      where
+        none : Mendable gf256 R marks s l → ⊥
+        none = subst (λ (b : Bool). OneAs R s marks l k cells bytes cells' bytes' b o) t a
+
+    -- all are
+    pub all-mended : (cells bytes : List ℕ) (e k l : ℕ) → R ≤ l → Sofar cells bytes e k l
+        → MendedAs R s marks cells bytes (record { beyond = R; mended = e; noted = k })
+    unfolding mendedOf
+    all-mended cells bytes e k l h W = record {
+      found = λ b. record {
+        cells = cells-of-lanes R (some R s marks E) (patched cells bytes k s) (E .legal .k + 5) (long ∙ E .legal .cells) (λ j c. W .each j (omega arith) .cells);
+        clean = λ j c. W .each j (omega arith) .clean;
+        reach = record { same-length = long; each = λ j c. W .each j (omega arith) .reach };
+      };
+      count = λ b. W .count ∙ ap (λ (n : ℕ). sumOf n (wrongIn R marks s (patched cells bytes k s))) all;
+      small = omega (arith, W .small, all);
+      few = omega (arith, W .noted, W .within, E .lanes .to);
+      lost = λ b. absurd (omega arith);
+    }
+      where
+        all : l ≡ R
+        all = omega (arith, W .within)
+
+        long : length (patched cells bytes k s) ≡ length s
+        long = length-patched cells bytes s k

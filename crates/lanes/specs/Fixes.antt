@@ -9,6 +9,12 @@ use Rattle.code.specs.declared.lane.LaneErrata.{LaneErrata}
 
 -- ---- noting
 
+-- k cells are noted, and there is room for those of a lane more
+pub record Room (k : ℕ) (cells bytes : List ℕ) : Type 0 where
+  pub left : k + 5 ≤ 80
+  pub cells-long : length cells ≡ 80
+  pub bytes-long : length bytes ≡ 80
+
 -- what noting the errata of lane l of R goes by, where k cells are noted
 pub record Noting (R l k : ℕ) (e : LaneErrata) (cells bytes : List ℕ) : Type 0 where
   pub inside : l < R

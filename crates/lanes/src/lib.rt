@@ -1,141 +1,205 @@
-// The lanes of a strip: mended one by one by the lower library, and put back. Four lanes; the definitions take any number.
+// The lanes of a strip: which are clean, and of the others the errata, noted for the whole strip. Nothing of the strip is copied.
 ghost use mathlib.Core.Path.{_≡_};
-ghost use Prim.Native.Nat.{_*_, _≤_, _<_};
-ghost use mathlib.Core.Bool.{not};
-ghost use lib.Dec.{eqb};
-ghost use lib.ListN.{length, take};
+ghost use Prim.Native.Nat.{ℕ, _*_, _≤_, _<_};
+ghost use lib.ListN.{length, getD};
 ghost use Rattle.account.specs.Lanes.{lane};
-ghost use Rattle.account.specs.Reach.{oneIf, countTo, isMarked};
+ghost use Rattle.account.specs.Reach.{countTo, isMarked};
 ghost use Rattle.rules.specs.Says.{Says};
-ghost use Rattle.account.specs.Code.{Clean};
-ghost use Rattle.gf256.specs.Gf256.{gf256};
-ghost use Rattle.code.specs.Lane.{wordOf};
-ghost use Rattle.code.specs.Lanes.{LanesTested};
-ghost use Rattle.level.specs.Strip.{markedIn};
-ghost use Rattle.lanes.specs.Lanes.{Ready, Scattered, OneAs, MendedAs};
+ghost use Rattle.rules.specs.Refusal.{Within};
+ghost use Rattle.gf256.specs.Tables.{Tables};
+ghost use Rattle.code.specs.Marks.{ListedIn};
+ghost use Rattle.code.specs.Lanes.{Remaindered};
+ghost use Rattle.lanes.specs.Fixes.{Room};
+ghost use Rattle.lanes.specs.Lanes.{Entered, Ready, OneAs, MendedAs};
+use code::lanes::LANES;
+use code::marks::Listed;
+use fixes::FIXES;
 
 pub mod fixes; // what is to be put right in a strip
 pub mod window; // parts of the mended strip
 
-use code::lane::Lane;
-use code::repair::Repaired;
-
-// Whether a lane is mended, and how many unmarked cells were changed.
+// Whether a lane is mended, how many unmarked cells were wrong, and how many cells are noted then.
 pub struct One {
     pub good: bool,
     pub mended: usize,
+    pub noted: usize,
 }
 
-// The lowest lane beyond reach, 4 if there is none, and how many cells were mended in all.
+// The lowest lane beyond reach, or how many lanes there are; how many cells were mended in all; and how many are noted.
 pub struct Mending {
     pub beyond: usize,
     pub mended: usize,
+    pub noted: usize,
 }
 
-// A lane put back among the others.
-fn scatter(lane: Lane, l: usize, x: &mut [u8])
-    requires { ⌜ (l < 4) × (lane .len ≤ 96) × (4 * lane .len ≤ length (now x)) ⌝ }
-    ensures { λ _. ⌜ Scattered 4 (4 * lane .len) l (wordOf lane) (now (x .entry)) (now (x .exit)) ⌝ }
-{
-    let n = lane.len;
-    let b = lane.bytes;
-    let mut k: usize = 0;
-    while k < n {
-        x[4 * k + l] = b[k];
-        k += 1;
-    }
-}
-
-// A lane that is not clean, mended by value and put back.
-fn repair_one(strip: &[u8], marks: &[u8], l: usize, x: &mut [u8]) -> One
-    requires { ⌜ (l < 4) × Ready 4 (now strip) (now marks) (length (now x)) ⌝ }
-    ensures { λ r. ⌜ OneAs 4 (r .good) (now (strip .entry)) (now (marks .entry)) l (now (x .entry)) (now (x .exit)) r ⌝ }
-{
-    let r = code::lanes::mend(strip, marks, l);
-    let answer = r.answer;
-    let y = r.lane;
-    match answer {
-        Repaired::Mended(e) => {
-            scatter(y, l, x);
-            One {
-                good: true,
-                mended: e,
-            }
-        }
-        Repaired::Refused(_) => One {
-            good: false,
-            mended: 0,
-        },
-    }
-}
-
-fn one_if(mark: u8) -> usize
-    ensures { λ r. ⌜ r ≡ oneIf (not (eqb mark 0)) ⌝ }
-{
-    if mark != 0 {
-        return 1;
-    }
-    0
-}
-
-// How many cells of lane l are marked.
-fn marked_in(marks: &[u8], l: usize, n: usize) -> usize
-    requires { ⌜ (l < 4) × (length (now marks) ≡ 4 * n) × (n ≤ 96) ⌝ }
-    ensures { λ r. ⌜ r ≡ markedIn 4 (now (marks .entry)) l ⌝ }
-{
-    let mut f: usize = 0;
-    let mut k: usize = 0;
-    while k < n {
-        f += one_if(marks[4 * k + l]);
-        k += 1;
-    }
-    f
-}
-
-// Whether at most five cells of lane l are marked, of f in the whole strip.
-fn few_marked(marks: &[u8], f: usize, l: usize, n: usize) -> bool
-    requires { ⌜ (l < 4) × (length (now marks) ≡ 4 * n) × (n ≤ 96) × (f ≡ countTo (isMarked (now marks)) (length (now marks))) ⌝ }
-    ensures { λ r. ⌜ Says r (markedIn 4 (now (marks .entry)) l ≤ 5) ⌝ }
+// The marked cells of lane l, where f are marked in the whole strip. Most strips have none.
+fn marked_in(marks: &[u8], f: usize, lanes: usize, l: usize) -> Listed
+    requires { ⌜ (l < lanes) × (lanes ≤ 16) × (length (now marks) ≤ 4096) × (f ≡ countTo (isMarked (now marks)) (length (now marks))) ⌝ }
+    ensures { λ r. ⌜ ListedIn lanes l (now (marks .entry)) r ⌝ }
 {
     if f == 0 {
-        return true;
+        return Listed {
+            count: 0,
+            cells: [0; 5],
+        };
     }
-    if 5 < marked_in(marks, l, n) {
-        return false;
-    }
-    true
+    code::marks::list(marks, lanes, l)
 }
 
-// Lane l mended where it stands in x: a clean lane is only asked for its marks.
-fn mend_one(strip: &[u8], marks: &[u8], f: usize, clean: bool, l: usize, x: &mut [u8]) -> One
-    requires { ⌜ (l < 4) × Ready 4 (now strip) (now marks) (length (now x)) × (f ≡ countTo (isMarked (now marks)) (length (now marks))) × Says clean (Clean gf256 (lane 4 l (now strip))) × (lane 4 l (take (length (now strip)) (now x)) ≡ lane 4 l (now strip)) ⌝ }
-    ensures { λ o. ⌜ OneAs 4 (o .good) (now (strip .entry)) (now (marks .entry)) l (now (x .entry)) (now (x .exit)) o ⌝ }
+// Lane l, which is not clean: its errata noted after the first k.
+fn repair_one(
+    tables: &[u8; 1022],
+    strip: &[u8],
+    marks: &[u8],
+    lanes: usize,
+    l: usize,
+    r: u64,
+    marked: Listed,
+    k: usize,
+    cells: &mut [u16; FIXES],
+    bytes: &mut [u8; FIXES],
+) -> One
+    requires { ⌜ Tables (now tables) × Ready lanes l (now strip) (now marks) r × (marked .count ≤ 5) × ListedIn lanes l (now marks) marked × Room k (now cells) (now bytes) ⌝ }
+    ensures { λ o. ⌜ OneAs lanes (now (strip .entry)) (now (marks .entry)) l k (now (cells .entry)) (now (bytes .entry)) (now (cells .exit)) (now (bytes .exit)) (o .good) o ⌝ }
 {
-    if clean {
-        let good = few_marked(marks, f, l, strip.len() / 4);
-        return One { good, mended: 0 };
+    let e = code::lanes::mend(tables, strip, marks, lanes, l, r, marked);
+    let good = e.good;
+    if !good {
+        return One {
+            good: false,
+            mended: 0,
+            noted: k,
+        };
     }
-    repair_one(strip, marks, l, x)
+    let mended = e.mended;
+    let noted = fixes::note(e, lanes, l, k, cells, bytes);
+    One {
+        good: true,
+        mended,
+        noted,
+    }
 }
 
-// Every lane mended into x, where the strip stands already. It is told which lanes are clean; f cells are marked in all.
-pub fn mend(strip: &[u8], marks: &[u8], f: usize, clean: [bool; 4], x: &mut [u8]) -> Mending
-    requires { ⌜ Ready 4 (now strip) (now marks) (length (now x)) × (f ≡ countTo (isMarked (now marks)) (length (now marks))) × LanesTested gf256 4 (now strip) clean × (take (length (now strip)) (now x) ≡ now strip) ⌝ }
-    ensures { λ m. ⌜ MendedAs 4 (now (strip .entry)) (now (marks .entry)) (now (x .exit)) m ⌝ }
+// Lane l, with the remainder r. A clean lane is only asked for its marks.
+fn mend_one(
+    tables: &[u8; 1022],
+    strip: &[u8],
+    marks: &[u8],
+    f: usize,
+    lanes: usize,
+    l: usize,
+    r: u64,
+    k: usize,
+    cells: &mut [u16; FIXES],
+    bytes: &mut [u8; FIXES],
+) -> One
+    requires { ⌜ Tables (now tables) × Ready lanes l (now strip) (now marks) r × (f ≡ countTo (isMarked (now marks)) (length (now marks))) × Room k (now cells) (now bytes) ⌝ }
+    ensures { λ o. ⌜ OneAs lanes (now (strip .entry)) (now (marks .entry)) l k (now (cells .entry)) (now (bytes .entry)) (now (cells .exit)) (now (bytes .exit)) (o .good) o ⌝ }
 {
+    let m = marked_in(marks, f, lanes, l);
+    if 5 < m.count {
+        return One {
+            good: false,
+            mended: 0,
+            noted: k,
+        };
+    }
+    if r == 0 {
+        return One {
+            good: true,
+            mended: 0,
+            noted: k,
+        };
+    }
+    repair_one(tables, strip, marks, lanes, l, r, m, k, cells, bytes)
+}
+
+// Every lane in its turn, with its remainder. The table is made here, once for all lanes.
+fn mend_each(
+    strip: &[u8],
+    marks: &[u8],
+    f: usize,
+    lanes: usize,
+    r: [u64; LANES],
+    cells: &mut [u16; FIXES],
+    bytes: &mut [u8; FIXES],
+) -> Mending
+    requires { ⌜ Entered lanes (now strip) (now marks) × (f ≡ countTo (isMarked (now marks)) (length (now marks))) × Remaindered lanes (now strip) r × Room 0 (now cells) (now bytes) ⌝ }
+    ensures { λ m. ⌜ MendedAs lanes (now (strip .entry)) (now (marks .entry)) (now (cells .exit)) (now (bytes .exit)) m ⌝ }
+{
+    let tables = gf256::tables::TABLES;
     let mut mended: usize = 0;
+    let mut noted: usize = 0;
     let mut l: usize = 0;
-    while l < 4 {
-        let o = mend_one(strip, marks, f, clean[l], l, x);
+    while l < lanes {
+        let o = mend_one(
+            &tables,
+            strip,
+            marks,
+            f,
+            lanes,
+            l,
+            r[l],
+            noted,
+            cells,
+            bytes,
+        );
         let good = o.good;
         if !good {
             return Mending {
                 beyond: l,
                 mended: 0,
+                noted: 0,
             };
         }
         mended += o.mended;
+        noted = o.noted;
         l += 1;
     }
-    Mending { beyond: 4, mended }
+    Mending {
+        beyond: lanes,
+        mended,
+        noted,
+    }
+}
+
+// Whether every lane is clean, by the remainders.
+fn all_clean(r: [u64; LANES], lanes: usize) -> bool
+    requires { ⌜ lanes ≤ 16 ⌝ }
+    ensures { λ b. ⌜ Says b ((j : ℕ) → j < lanes → getD r j 0 ≡ 0) ⌝ }
+{
+    let mut j: usize = 0;
+    while j < lanes {
+        if r[j] != 0 {
+            return false;
+        }
+        j += 1;
+    }
+    true
+}
+
+// What is to be put right in a strip of which f cells are marked: all lanes are tested in one pass first, and a clean strip with no
+// marks is left at that.
+pub fn mend(
+    strip: &[u8],
+    marks: &[u8],
+    f: usize,
+    lanes: usize,
+    cells: &mut [u16; FIXES],
+    bytes: &mut [u8; FIXES],
+) -> Mending
+    requires { ⌜ Entered lanes (now strip) (now marks) × (f ≡ countTo (isMarked (now marks)) (length (now marks))) × Room 0 (now cells) (now bytes) ⌝ }
+    ensures { λ m. ⌜ MendedAs lanes (now (strip .entry)) (now (marks .entry)) (now (cells .exit)) (now (bytes .exit)) m ⌝ }
+{
+    let r = code::lanes::remainders(strip, lanes);
+    if f == 0 {
+        if all_clean(r, lanes) {
+            return Mending {
+                beyond: lanes,
+                mended: 0,
+                noted: 0,
+            };
+        }
+    }
+    mend_each(strip, marks, f, lanes, r, cells, bytes)
 }

@@ -9,7 +9,7 @@ use Rattle.rules.specs.Refusal.{First, Hold}
 use Rattle.rules.proofs.Laws.{Stops, stops, hold-first, all-hold}
 use Rattle.level.specs.Strip.{Legal}
 use Rattle.level.specs.Reading.{entering}
-use Rattle.lanes.specs.Lanes.{Ready}
+use Rattle.lanes.specs.Lanes.{Entered}
 use Rattle.strip.specs.Reading.{StripEntersAs}
 
 pub is-legal : (n : ℕ) → 24 ≤ n → n ≤ 384 → n % 4 ≡ 0 → Legal 4 n
@@ -28,5 +28,11 @@ module _ (s marks : List ℕ) (room scratch : ℕ) where
   pub entered : (c : ℕ) → c ≡ 0 → First (entering 4 s marks room scratch) c → Hold (entering 4 s marks room scratch)
   entered c z f = all-hold 5 (entering 4 s marks room scratch) c tt f z
 
-  pub ready : Hold (entering 4 s marks room scratch) → Ready 4 s marks scratch
-  ready h = record { legal = h .0; matched = h .1 .0; good = h .1 .1 .0; fits = omega (arith, h .1 .1 .1 .1 .0, h .0 .to, h .0 .cells) }
+  pub ready : Hold (entering 4 s marks room scratch) → Entered 4 s marks
+  ready h = record {
+    lanes = record { from = omega arith; to = omega arith };
+    short = omega arith;
+    legal = h .0;
+    matched = h .1 .0;
+    good = h .1 .1 .0;
+  }

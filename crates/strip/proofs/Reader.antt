@@ -5,7 +5,6 @@ use mathlib.Core.List.{List}
 use Prim.Native.Nat.{ℕ, _+_, _*_, _-_, _≤_, _<_}
 use native.Mathlib.Omega.{arith}
 use lib.ListN.{length, take}
-use lib.Seq.{take-take, length-take-le}
 use Rattle.gf256.specs.Gf256.{gf256}
 use Rattle.gf256.proofs.Field256.{field256}
 use Rattle.rules.specs.Refusal.{First, Hold, asked}
@@ -15,6 +14,8 @@ use Rattle.level.specs.Strip.{columns, Reached, Mends, Lowest, mendedOf, wearOf
 use Rattle.level.specs.Reading.{ReadNumbers, refusedAt, returned, entering, mending, judging, dataOf, levelOf}
 use Rattle.level.proofs.Strips.{mendable, reached-mends}
 use Rattle.level.proofs.Mended.{level-reached, passing, found, none-reached}
+use Rattle.code.specs.Patched.{patched}
+use Rattle.code.proofs.Patching.{patched-0, length-patched}
 use Rattle.record.specs.declared.read.Judged.{Judged}
 use Rattle.record.specs.Reading.{AcceptedAs}
 use Rattle.record.proofs.Reader.{passed, level-is, tiles-past}
@@ -138,13 +139,19 @@ module _ (R : ℕ) where
           scratch-kept = λ n. absurd (n h);
         }
 
--- the data cells, as they are lent from the scratch
-pub data-lent : (n : ℕ) (x : List ℕ) → n ≤ length x → dataOf 4 (take n x) ≡ take (n - 20 - 0) x
-data-lent n x h =
-    ap (λ (m : ℕ). take (m - 20) (take n x)) (length-take-le n x h) ∙ take-take (n - 20) n x (omega arith) ∙ ap (λ (m : ℕ). take m x) whole
-  where
-    whole : n - 20 ≡ n - 20 - 0
-    whole = omega arith
+-- the data cells of the mended strip
+module _ (s cells bytes : List ℕ) (count : ℕ) where
+  pub data-mended : dataOf 4 (patched cells bytes count s) ≡ take (length s - 20) (patched cells bytes count s)
+  data-mended = ap (λ (n : ℕ). take (n - 20) (patched cells bytes count s)) (length-patched cells bytes s count)
+
+  -- with nothing to put right they are those of the strip, as it is lent
+  pub data-clean : count ≡ 0 → dataOf 4 (patched cells bytes count s) ≡ take (length s - 20 - 0) s
+  data-clean z =
+      data-mended ∙ ap (λ (k : ℕ). take (length s - 20) (patched cells bytes k s)) z ∙ ap (take (length s - 20)) (patched-0 cells bytes s)
+      ∙ ap (λ (n : ℕ). take n s) whole
+    where
+      whole : length s - 20 ≡ length s - 20 - 0
+      whole = omega arith
 
 -- ---- the numbers of an answer
 

@@ -13,6 +13,8 @@ use Rattle.level.specs.Strip.{Reached, Lowest, mendedOf, wearOf}
 use Rattle.level.specs.Reading.{ReadNumbers, refusedAt, returned, entering, mending, judging, tilesOf}
 use Rattle.strip.specs.declared.read.Reading.{Reading}
 use Rattle.strip.specs.declared.read.Reading.the-variants as reading
+use Rattle.record.specs.Reading.{AcceptedAs}
+use Rattle.record.specs.declared.read.Judged.{Judged}
 use Rattle.strip.specs.declared.read.Entered.{Entered}
 
 -- the numbers of an answer
@@ -60,3 +62,7 @@ pub record FinishedAs (R : ℕ) (bs : List ℕ) (N e : ℕ) (tiles tiles' : List
   pub wear : n .code ≡ 0 → n .wear ≡ wearOf e N
   pub tiles-are : n .code ≡ 0 → tiles' ≡ tilesOf bs ++ drop (n .width * n .height) tiles
   pub kept : (n .code ≡ 0 → ⊥) → tiles' ≡ tiles
+
+-- the answer n for a record that was judged as j is the one for every such record
+abbrev pub FinishesAs : ℕ → Judged → ℕ → ℕ → ReadNumbers → Type 0
+FinishesAs R j N e n = (bs tiles tiles' : List ℕ) → AcceptedAs R bs tiles tiles' j → FinishedAs R bs N e tiles tiles' n

@@ -1,18 +1,26 @@
-// Reading a strip: refusals 1 to 5, the lanes mended into the scratch, and the record in the mended strip judged and unpacked.
+// Reading a strip: refusals 1 to 5, what is to be put right in its lanes, and the record in the mended strip judged and unpacked.
 ghost use mathlib.Core.Path.{_≡_};
-ghost use Prim.Native.Nat.{_*_, _-_, _≤_, _<_};
+ghost use Prim.Native.Nat.{_≤_};
 ghost use lib.ListN.{length};
-ghost use Rattle.account.specs.Reach.{countTo, isMarked};
 ghost use Rattle.rules.specs.Refusal.{Within};
 ghost use Rattle.rules.specs.Says.{Says};
 ghost use Rattle.level.specs.Strip.{Legal, wearOf};
-ghost use Rattle.lanes.specs.Lanes.{Ready, MendedAs};
-ghost use Rattle.strip.specs.Reading.{stripNumbers, StripEntersAs, FinishedAs, StripReadsAs};
-ghost use Rattle.level.specs.Sizes.{tilesMost, recordLeast, recordMost, stripLeast, stripMost};
+ghost use Rattle.level.specs.Reading.{dataOf};
+ghost use Rattle.code.specs.Patched.{patched};
+ghost use Rattle.record.specs.Reading.{AcceptedAs};
+ghost use Rattle.strip.specs.Reading.{stripNumbers, StripEntersAs, FinishesAs, StripReadsAs};
+ghost use Rattle.level.specs.Sizes.{tilesMost, scratchLeast, stripLeast, stripMost};
+use lanes::fixes::FIXES;
 use level::SCRATCH_LEAST;
 use level::STRIP_LEAST;
 use level::STRIP_MOST;
 use level::TILES_MOST;
+use record::read::Judged;
+
+// The lanes of a strip, and the cells that check them.
+const LANES: usize = 4;
+
+const CHECKS: usize = 20;
 
 // What reading answers: the level's numbers with what was mended, or a refusal's number and lane.
 pub enum Reading {
@@ -83,22 +91,30 @@ fn wear(mended: usize, n: usize) -> usize
     100 * mended / n
 }
 
-// The strip mended in the scratch. All lanes are tested in one pass first.
-fn mend(strip: &[u8], marks: &[u8], f: usize, scratch: &mut [u8]) -> lanes::Mending
-    requires { ⌜ Ready 4 (now strip) (now marks) (length (now scratch)) × (f ≡ countTo (isMarked (now marks)) (length (now marks))) ⌝ }
-    ensures { λ r. ⌜ MendedAs 4 (now (strip .entry)) (now (marks .entry)) (now (scratch .exit)) r ⌝ }
+// The record in the data cells of the strip, of which count are to be put right. With nothing to put right the strip is its own window.
+fn accept(
+    strip: &[u8],
+    cells: &[u16; FIXES],
+    bytes: &[u8; FIXES],
+    count: usize,
+    tiles: &mut [u8],
+    scratch: &mut [u8],
+) -> Judged
+    requires { ⌜ Legal 4 (length (now strip)) × (count ≤ 80) × (tilesMost ≤ length (now tiles)) × (scratchLeast ≤ length (now scratch)) ⌝ }
+    ensures { λ r. ⌜ AcceptedAs 4 (dataOf 4 (patched (now (cells .entry)) (now (bytes .entry)) count (now (strip .entry)))) (now (tiles .entry)) (now (tiles .exit)) r ⌝ }
 {
-    let clean = code::lanes::test(strip);
-    rules::copy(strip, scratch);
-    lanes::mend(strip, marks, f, clean, scratch)
+    let to = strip.len() - CHECKS;
+    if count == 0 {
+        return record::read::accept(&strip[0..to], LANES, tiles);
+    }
+    super::windows::accept(strip, cells, bytes, count, LANES, to, tiles, scratch)
 }
 
-// The record in the data cells of a strip of n cells of which so many were mended.
-fn finish(bs: &[u8], n: usize, mended: usize, tiles: &mut [u8]) -> Reading
-    requires { ⌜ Within recordLeast recordMost (length (now bs)) × (tilesMost ≤ length (now tiles)) × (mended ≤ 8) × Within stripLeast stripMost n ⌝ }
-    ensures { λ r. ⌜ FinishedAs 4 (now (bs .entry)) n mended (now (tiles .entry)) (now (tiles .exit)) (stripNumbers r) ⌝ }
+// The answer for a record that was judged, of a strip of n cells of which so many were mended.
+fn finish(j: Judged, n: usize, mended: usize) -> Reading
+    requires { ⌜ (mended ≤ 8) × Within stripLeast stripMost n ⌝ }
+    ensures { λ r. ⌜ FinishesAs 4 j n mended (stripNumbers r) ⌝ }
 {
-    let j = record::read::accept(bs, 4, tiles);
     let code = j.code;
     if code != 0 {
         return Reading::Refused { code, lane: 0 };
@@ -121,14 +137,16 @@ pub fn read(strip: &[u8], marks: &[u8], tiles: &mut [u8], scratch: &mut [u8]) ->
     if code != 0 {
         return Reading::Refused { code, lane: 0 };
     }
-    let m = mend(strip, marks, entered.marked, scratch);
+    let mut cells = [0u16; FIXES];
+    let mut bytes = [0u8; FIXES];
+    let m = lanes::mend(strip, marks, entered.marked, LANES, &mut cells, &mut bytes);
     let beyond = m.beyond;
-    if beyond < 4 {
+    if beyond < LANES {
         return Reading::Refused {
             code: 6,
             lane: beyond,
         };
     }
-    let n = strip.len();
-    finish(&scratch[0..n - 20], n, m.mended, tiles)
+    let j = accept(strip, &cells, &bytes, m.noted, tiles, scratch);
+    finish(j, strip.len(), m.mended)
 }

@@ -1,32 +1,37 @@
-use Rattle.account.specs.Lanes.{lane}
-use Rattle.account.specs.Code.{Clean}
-use Rattle.gf256.specs.Gf256.{gf256}
-use Rattle.rules.proofs.Tests.{said}
-use Rattle.lanes.proofs.Repairs.{clean-lane}
+use native.Mathlib.Omega.{arith}
+use Rattle.code.proofs.Mending.{lane-clean}
+use Rattle.lanes.proofs.Repairs.{strip-few, six-marked, kept-one}
 use borrow.Author.Needs.{needs}
 use Rattle.lanes.proofs.mend_one.Statement.{statement}
 use Rattle.lanes.proofs.mend_one.Tie as tie
 
-few-marked-requires : tie.Need-few-marked-requires
-few-marked-requires c κs = search needs
+marked-in-requires : tie.Need-marked-in-requires
+marked-in-requires c κs =
+    let a = c .before .before .args in
+    let p = c .before .before .pre in
+    (p .1 .inside, p .1 .entered .lanes .to, strip-few (a .lanes) (a .strip .now) (a .marks .now) (p .1 .entered) (a .l) (p .1 .inside), p .2)
 
 returns : tie.Need-returns
 returns c =
     let a = c .before .before .before .before .before .args in
     let p = c .before .before .before .before .before .pre in
-    clean-lane (a .strip .now) (a .marks .now) (a .l) (a .x .now) (p .4)
-    (said (Clean gf256 (lane 4 (a .l) (a .strip .now))) (a .clean) (c .before .if1 .taken) (p .3)) (p .1 .matched) (c .few-marked .result)
-    (c .few-marked .ensures)
+    six-marked (a .lanes) (a .strip .now) (a .marks .now) (p .1 .entered) (a .l) (a .k) (p .1 .inside) (a .cells .now) (a .bytes .now) (c .before .before .marked-in .result) (c .before .before .marked-in .ensures)
+    (omega arith)
+
+returns-2 : tie.Need-returns-2
+returns-2 c =
+    let a = c .before .before .before .before .before .before .args in
+    let p = c .before .before .before .before .before .before .pre in
+    kept-one (a .lanes) (a .strip .now) (a .marks .now) (p .1 .entered) (a .l) (a .k) (p .1 .inside) (a .cells .now) (a .bytes .now) (c .before .before .before .marked-in .result) (c .before .before .before .marked-in .ensures)
+    (omega arith) (lane-clean (a .lanes) (a .l) (a .strip .now) (a .r) (p .1 .remains) (omega (arith, c .if2 .taken)))
+    (record { cell = λ j h. omega (arith, c .before .before .before .before .before .shared-slice-known .given j) }) (p .3)
 
 repair-one-requires : tie.Need-repair-one-requires
 repair-one-requires c κs = search needs
 
-same-length : tie.Need-same-length
-same-length c = search needs
-
-returns-2 : tie.Need-returns-2
-returns-2 c = search needs
+returns-3 : tie.Need-returns-3
+returns-3 c = search needs
 
 pub mend-one-spec : {M : Type 1} → statement M
 mend-one-spec =
-    tie.close (tie.spec few-marked-requires returns repair-one-requires same-length returns-2)
+    tie.close (tie.spec marked-in-requires returns returns-2 repair-one-requires returns-3)

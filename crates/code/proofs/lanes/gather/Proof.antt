@@ -45,9 +45,12 @@ loop-less c = search needs
 loop-again : tie.Need-loop-again Inv-loop μ-loop
 loop-again c =
     let a = c .before .before .before .args in
-    let l = c .before .before .loop in
-    (omega arith, l .inv .1, gathering-more (a .lanes) (a .l) (a .n) (a .strip .now) (c .before .before .before .pre .0) (l .t .bytes) _ (l .p) (l .k) _ (omega arith) refl
-    (length-set (l .t .bytes) (l .k) _) refl (l .inv .2))
+    let l = c .before .before .loop in (
+      omega arith,
+      l .inv .1,
+      gathering-more (a .lanes) (a .l) (a .n) (a .strip .now) (c .before .before .before .pre .0) (l .t .bytes) _ (l .p) (l .k) _ (omega arith) refl
+          (length-set (l .t .bytes) (l .k) _) refl (l .inv .2),
+    )
 
 returns : tie.Need-returns Inv-loop μ-loop
 returns c =

@@ -22,7 +22,7 @@ search-requires c κs =
     let a = c .before .before .before .before .args in
     let p = c .before .before .before .before .pre in
     let g = c .before .gather in
-    (p .0, lane-listed (a .lanes) (a .l) (a .marks .now) (a .strip .now) (g .result) (g .ensures .0) (g .ensures .1) (p .1) (a .marked .cells) (a .marked .count) (p .2) (p .3 .list (p .2)), p .4 .small)
+    (p .0, lane-listed (a .lanes) (a .l) (a .marks .now) (a .strip .now) (g .result) (g .ensures .0) (g .ensures .1) (p .1) (a .marked .cells) (a .marked .count) (p .2) (p .3 .list (p .2)), p .4 .remains .small)
 
 returns : tie.Need-returns
 returns c =
@@ -31,7 +31,7 @@ returns c =
     let g = c .before .before .before .gather in
     let x = c .before .search in
     let S = lane-searched (a .lanes) (a .l) (a .marks .now) (a .strip .now) (g .result) (g .ensures .0) (g .ensures .1) (p .1) (x .result) (a .r) (a .marked .count) (a .marked .cells) (p .3 .list (p .2))
-    (record { cell = λ j h. omega (arith, c .before .before .before .before .before .shared-slice-known .given j) }) (p .4) (x .ensures) in
+    (record { cell = λ j h. omega (arith, c .before .before .before .before .before .shared-slice-known .given j) }) (p .4 .remains) (x .ensures) in
     lane-beyond (a .lanes) (a .l) (a .marks .now) (a .strip .now) (g .result) (g .ensures .0) (g .ensures .1)
     (unsearched (x .result .good) (lane (a .lanes) (a .l) (a .marks .now)) (wordOf (g .result)) (x .result .errata) (not-true (x .result .good) (c .if1 .taken)) S)
 
@@ -42,10 +42,12 @@ count-requires c κs =
     let g = c .before .before .before .before .gather in
     let x = c .before .before .search in
     let S = lane-searched (a .lanes) (a .l) (a .marks .now) (a .strip .now) (g .result) (g .ensures .0) (g .ensures .1) (p .1) (x .result) (a .r) (a .marked .count) (a .marked .cells) (p .3 .list (p .2))
-    (record { cell = λ j h. omega (arith, c .before .before .before .before .before .before .shared-slice-known .given j) }) (p .4) (x .ensures) in
-    let K = (searched (x .result .good) (lane (a .lanes) (a .l) (a .marks .now)) (wordOf (g .result)) (x .result .errata) (not-false (x .result .good) (c .before .if1 .left)) S) in
-    (subst (λ (k : ℕ). ErrataFor k (x .result .errata)) (marks-columns (a .lanes) (a .l) (a .marks .now) (a .strip .now) (g .result) (g .ensures .0) (g .ensures .1) (p .1)) (K .listed), p .1 .inside,
-    marks-few (a .lanes) (a .l) (a .marks .now) (a .strip .now) (g .result) (g .ensures .0) (g .ensures .1) (p .1))
+    (record { cell = λ j h. omega (arith, c .before .before .before .before .before .before .shared-slice-known .given j) }) (p .4 .remains) (x .ensures) in
+    let K = (searched (x .result .good) (lane (a .lanes) (a .l) (a .marks .now)) (wordOf (g .result)) (x .result .errata) (not-false (x .result .good) (c .before .if1 .left)) S) in (
+      subst (λ (k : ℕ). ErrataFor k (x .result .errata)) (marks-columns (a .lanes) (a .l) (a .marks .now) (a .strip .now) (g .result) (g .ensures .0) (g .ensures .1) (p .1)) (K .listed),
+      p .1 .inside,
+      marks-few (a .lanes) (a .l) (a .marks .now) (a .strip .now) (g .result) (g .ensures .0) (g .ensures .1) (p .1),
+    )
 
 belonging-requires : tie.Need-belonging-requires
 belonging-requires c κs =
@@ -54,7 +56,7 @@ belonging-requires c κs =
     let g = c .before .before .before .before .before .before .gather in
     let x = c .before .before .before .before .search in
     let S = lane-searched (a .lanes) (a .l) (a .marks .now) (a .strip .now) (g .result) (g .ensures .0) (g .ensures .1) (p .1) (x .result) (a .r) (a .marked .count) (a .marked .cells) (p .3 .list (p .2))
-    (record { cell = λ j h. omega (arith, c .before .before .before .before .before .before .before .before .shared-slice-known .given j) }) (p .4) (x .ensures) in
+    (record { cell = λ j h. omega (arith, c .before .before .before .before .before .before .before .before .shared-slice-known .given j) }) (p .4 .remains) (x .ensures) in
     let K = (searched (x .result .good) (lane (a .lanes) (a .l) (a .marks .now)) (wordOf (g .result)) (x .result .errata) (not-false (x .result .good) (c .before .before .before .if1 .left)) S) in
     (subst (λ (k : ℕ). ErrataFor k (x .result .errata)) (word-size (a .lanes) (a .l) (a .marks .now) (a .strip .now) (g .result) (g .ensures .0) (g .ensures .1) (p .1)) (K .listed), omega (arith, g .ensures .0, p .1 .legal .to))
 
@@ -65,7 +67,7 @@ returns-2 c =
     let g = c .before .before .before .before .before .before .before .gather in
     let x = c .before .before .before .before .before .search in
     let S = lane-searched (a .lanes) (a .l) (a .marks .now) (a .strip .now) (g .result) (g .ensures .0) (g .ensures .1) (p .1) (x .result) (a .r) (a .marked .count) (a .marked .cells) (p .3 .list (p .2))
-    (record { cell = λ j h. omega (arith, c .before .before .before .before .before .before .before .before .before .shared-slice-known .given j) }) (p .4) (x .ensures) in
+    (record { cell = λ j h. omega (arith, c .before .before .before .before .before .before .before .before .before .shared-slice-known .given j) }) (p .4 .remains) (x .ensures) in
     let K = (searched (x .result .good) (lane (a .lanes) (a .l) (a .marks .now)) (wordOf (g .result)) (x .result .errata) (not-false (x .result .good) (c .before .before .before .before .if1 .left)) S) in
     lane-fixed (a .lanes) (a .l) (a .marks .now) (a .strip .now) (g .result) (g .ensures .0) (g .ensures .1) (x .result .errata) (c .belonging .result) (c .before .before .count .result) K (word-size (a .lanes) (a .l) (a .marks .now) (a .strip .now) (g .result) (g .ensures .0) (g .ensures .1) (p .1)) (c .belonging .ensures)
     (c .before .before .count .ensures)

@@ -39,16 +39,24 @@ mul-changes-2 c =
     let a = c .before .before .before .before .before .args in
     let p = c .before .before .before .before .before .pre in
     let l = c .before .loop in
-    omega (arith, p .2, lane-inside (a .lanes) (a .marks .now) (a .l) (getD (a .e .cells) (l .i - 1) 0) (p .1) (erratum-below (length (a .marks .now) / a .lanes) (a .e) (p .0)
-    (l .i - 1) (omega arith)))
+    omega (
+      arith,
+      p .2,
+      lane-inside (a .lanes) (a .marks .now) (a .l) (getD (a .e .cells) (l .i - 1) 0) (p .1) (erratum-below (length (a .marks .now) / a .lanes) (a .e) (p .0)
+          (l .i - 1) (omega arith)),
+    )
 
 add-changes : tie.Need-add-changes Inv-loop μ-loop
 add-changes c =
     let a = c .before .before .before .before .before .args in
     let p = c .before .before .before .before .before .pre in
     let l = c .before .loop in
-    omega (arith, p .2, lane-inside (a .lanes) (a .marks .now) (a .l) (getD (a .e .cells) (l .i - 1) 0) (p .1) (erratum-below (length (a .marks .now) / a .lanes) (a .e) (p .0)
-    (l .i - 1) (omega arith)))
+    omega (
+      arith,
+      p .2,
+      lane-inside (a .lanes) (a .marks .now) (a .l) (getD (a .e .cells) (l .i - 1) 0) (p .1) (erratum-below (length (a .marks .now) / a .lanes) (a .e) (p .0)
+          (l .i - 1) (omega arith)),
+    )
 
 array-read-changes-2 : tie.Need-array-read-changes-2 Inv-loop μ-loop
 array-read-changes-2 c = omega (arith, c .before .before .before .before .before .pre .0 .few)

@@ -1,0 +1,65 @@
+use mathlib.Core.Path.{sym, subst}
+use mathlib.Core.List.{List}
+use Prim.Native.Nat.{ℕ}
+use native.Mathlib.Omega.{arith}
+use Rattle.record.specs.Reading.{AcceptedAs}
+use Rattle.strip.proofs.Reader.{data-mended, data-clean}
+use borrow.Author.Needs.{needs}
+use Rattle.strip.proofs.read.accept.Statement.{statement}
+use Rattle.strip.proofs.read.accept.Tie as tie
+
+sub-to : tie.Need-sub-to
+sub-to c = search needs
+
+sub-accept : tie.Need-sub-accept
+sub-accept c = search needs
+
+part-accept-start : tie.Need-part-accept-start
+part-accept-start c = search needs
+
+part-accept-end : tie.Need-part-accept-end
+part-accept-end c = search needs
+
+accept-requires : tie.Need-accept-requires
+accept-requires c κs = search needs
+
+same-length : tie.Need-same-length
+same-length c = search needs
+
+returns : tie.Need-returns
+returns c =
+    let a = c .before .before .before .before .before .before .before .before .before .args in
+    let r = c .before .before .accept in
+    subst (λ (bs : List ℕ). AcceptedAs 4 bs (a .tiles .now) (r .last .1 .1 .0) (r .result))
+    (sym (data-clean (a .strip .now) (a .cells .now) (a .bytes .now) (a .count) (omega (arith, c .before .before .before .before .before .if1 .taken)))) (r .ensures)
+
+accept-requires-2 : tie.Need-accept-requires-2
+accept-requires-2 c κs = search needs
+
+same-length-2 : tie.Need-same-length-2
+same-length-2 c = search needs
+
+same-length-3 : tie.Need-same-length-3
+same-length-3 c = search needs
+
+returns-2 : tie.Need-returns-2
+returns-2 c =
+    let a = c .before .before .before .before .before .before .before .before .before .before .before .args in
+    let r = c .before .before .before .before .accept2 in
+    subst (λ (bs : List ℕ). AcceptedAs 4 bs (a .tiles .now) (r .last .1 .1 .1 .1 .1 .1 .0) (r .result)) (sym (data-mended (a .strip .now) (a .cells .now) (a .bytes .now) (a .count))) (r .ensures)
+
+pub accept-spec : {M : Type 1} → statement M
+accept-spec =
+    tie.close
+    (tie.spec
+    sub-to
+    sub-accept
+    part-accept-start
+    part-accept-end
+    accept-requires
+    same-length
+    returns
+    accept-requires-2
+    same-length-2
+    same-length-3
+    returns-2)

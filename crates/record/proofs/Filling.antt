@@ -62,7 +62,8 @@ module _ (bs : List ℕ) (from : ℕ) where
     rest-blank : getD bs (from / 8) 0 % 2 ^ (8 - from % 8) ≡ 0 → ((q : ℕ) → from / 8 + 1 ≤ q → q < length bs → getD bs q 0 ≡ 0) → Blank
     rest-blank e z p a b =
         ⊎-elim (λ l.
-        bits-zero bs (8 * (from / 8) + from % 8) (8 - from % 8) (end-is bs (from / 8) (from % 8) (omega arith) ∙ e) p (omega (arith, place)) (omega arith)) (λ l.
+        bits-zero bs (8 * (from / 8) + from % 8) (8 - from % 8)
+        (end-is bs (from / 8) (from % 8) (omega arith) ∙ e) p (omega (arith, place)) (omega arith)) (λ l.
         bits-zero bs (8 * (p / 8) + 0) 8 (within-byte bs (p / 8) 0 8 0 (omega arith) ∙ omega (arith, z (p / 8) (omega arith) (omega arith))) p
         (omega arith) (omega arith))
         (lt-or-ge p (8 * (from / 8) + 8))

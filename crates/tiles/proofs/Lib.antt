@@ -6,3 +6,4 @@ pub mod Counting
 pub mod Putting
 pub mod Packing
 pub mod Codes
+pub mod Word

@@ -25,6 +25,10 @@ module _ (t : ℕ → ℕ) where
   unfolding joined
   joined-none = refl
 
+  pub joined-eight : joined 8 t ≡ (((t 0 * 8 + t 1) * 64 + (t 2 * 8 + t 3)) * 64 + (t 4 * 8 + t 5)) * 64 + (t 6 * 8 + t 7)
+  unfolding joined
+  joined-eight = omega arith
+
   grows : (n d : ℕ) → joined n t ≤ joined (d + n) t
   unfolding joined
   grows n zero = let e : 0 + n ≡ n = omega arith in omega (arith, ap (λ (k : ℕ). joined k t) e)

@@ -6,6 +6,7 @@ ghost use Rattle.account.specs.Lists.{sumOf};
 ghost use Rattle.level.specs.Sizes.{tilesMost};
 ghost use Rattle.tiles.specs.Sum.{weighed, weight, same};
 ghost use Rattle.tiles.specs.Rows.{Packs};
+use super::group::wide;
 
 // 1 if tile t has code c, else 0.
 fn is(t: u8, c: u8) -> u8
@@ -29,12 +30,6 @@ fn count(tiles: &[u8], k: usize, c: u8) -> u8
         i += 1;
     }
     n
-}
-
-fn wide(x: u8) -> u64
-    ensures { λ r. ⌜ r ≡ x ⌝ }
-{
-    x as u64
 }
 
 // What the 64 tiles from k on add: for each code its row as often as it is there, and the last row for the others.

@@ -20,11 +20,12 @@ put-head-requires c κs =
 
 pack-requires : tie.Need-pack-requires
 pack-requires c κs =
-    let a = c .before .before .before .before .before .before .before .before .args in
-    let s = c .before .before .before .before .before .before .before .before .pre .0 in (
+    let o = c .before .before .before .before .before .before .before .before in
+    let a = o .args in
+    let s = o .pre .0 in (
       omega (arith, s .count, area-small (a .w) (a .h) (s .ranged .sized .not-wider) (s .ranged .sized .not-higher)),
       λ q. omega (arith, codes-all (a .tiles .now) (s .codes) q),
-      omega (arith, s .count, c .before .before .before .before .before .before .before .before .pre .1, c .before .before .before .put-head .kept .1 .1 .1 .0),
+      omega (arith, s .count, o .pre .1, c .before .before .before .put-head .kept .1 .1 .1 .0),
     )
 
 same-length : tie.Need-same-length

@@ -13,7 +13,9 @@ abbrev μ-loop : tie.MeasureT-loop
 μ-loop rows tiles k x₀ others₀ c₀ x others c = 7 - c
 
 loop-holds : tie.Need-loop-holds Inv-loop μ-loop
-loop-holds c = let a = c .before .args in (omega arith, sym (added-none (tilesAt (a .tiles .now) (a .k)) 64), sym (left-all (tilesAt (a .tiles .now) (a .k)) 64))
+loop-holds c =
+    let t = tilesAt (c .before .args .tiles .now) (c .before .args .k) in
+    (omega arith, sym (added-none t 64), sym (left-all t 64))
 
 count-requires : tie.Need-count-requires Inv-loop μ-loop
 count-requires c κs = search needs

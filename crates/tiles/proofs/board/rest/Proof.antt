@@ -10,7 +10,8 @@ use Rattle.tiles.proofs.board.rest.Statement.{statement}
 use Rattle.tiles.proofs.board.rest.Tie as tie
 
 abbrev Inv-loop : tie.InvT-loop
-Inv-loop rows tiles k x₀ i₀ x i = (k ≤ i) × (i ≤ length tiles) × (x + 281474976710656 * k ≤ 281474976710656 * i) × (x + weight (drop i tiles) ≡ weight (drop k tiles))
+Inv-loop rows tiles k x₀ i₀ x i =
+    (k ≤ i) × (i ≤ length tiles) × (x + 281474976710656 * k ≤ 281474976710656 * i) × (x + weight (drop i tiles) ≡ weight (drop k tiles))
 
 abbrev μ-loop : tie.MeasureT-loop
 μ-loop rows tiles k x₀ i₀ x i = length tiles - i

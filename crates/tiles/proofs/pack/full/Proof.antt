@@ -1,55 +1,52 @@
-use mathlib.Core.Path.{_≡_, sym, ap, _∙_}
-use Prim.Native.Nat.{ℕ, _+_, _*_, _-_, _≤_}
+use mathlib.Core.Path.{_≡_, ap, _∙_}
+use Prim.Native.Nat.{ℕ, _+_, _*_, _/_}
 use native.Mathlib.Omega.{arith}
 use borrow.Author.Needs.{needs}
+use lib.Bits.{bitAnd, and-le-r}
 use lib.ListN.{getD}
-use Rattle.tiles.specs.Pack.{joined}
-use Rattle.tiles.proofs.Packing.{joined-next, joined-none, room}
+use Rattle.tiles.proofs.Word.{word-small, squeeze, squeezed}
+use Rattle.tiles.proofs.Packing.{joined-eight}
 use Rattle.tiles.proofs.pack.full.Statement.{statement}
 use Rattle.tiles.proofs.pack.full.Tie as tie
 
-abbrev Inv-loop : tie.InvT-loop
-Inv-loop tiles g v₀ j₀ v j = (j ≤ 8) × (v ≡ joined j (λ i. getD tiles (8 * g + i) 0))
+mul-word : tie.Need-mul-word
+mul-word c = search needs
 
-abbrev μ-loop : tie.MeasureT-loop
-μ-loop tiles g v₀ j₀ v j = 8 - j
+word-requires : tie.Need-word-requires
+word-requires c κs = search needs
 
-loop-holds : tie.Need-loop-holds Inv-loop μ-loop
-loop-holds c = let a = c .before .args in (omega arith, sym (joined-none (λ i. getD (a .tiles .now) (8 * a .g + i) 0)))
+add-a : tie.Need-add-a
+add-a c =
+    let ts = c .before .before .args .tiles .now in
+    let m = c .before .before .pre .2 in
+    let k = 8 * c .before .before .args .g in
+    omega (
+      arith,
+      c .word .ensures,
+      word-small
+          (getD ts k 0) (getD ts (k + 1) 0) (getD ts (k + 2) 0) (getD ts (k + 3) 0)
+          (getD ts (k + 4) 0) (getD ts (k + 5) 0) (getD ts (k + 6) 0) (getD ts (k + 7) 0)
+          (m k) (m (k + 1)) (m (k + 2)) (m (k + 3)) (m (k + 4)) (m (k + 5)) (m (k + 6)) (m (k + 7)),
+    )
 
-mul-push : tie.Need-mul-push Inv-loop μ-loop
-mul-push c = search needs
+add-b : tie.Need-add-b
+add-b c = omega (arith, and-le-r (c .word .result + c .word .result / 32) 17733194119839807)
 
-add-push : tie.Need-add-push Inv-loop μ-loop
-add-push c = search needs
+add-result : tie.Need-add-result
+add-result c = let a = bitAnd (c .word .result + c .word .result / 32) 17733194119839807 in omega (arith, and-le-r (a + a / 1024) 17587891081215)
 
-shared-slice-read-push : tie.Need-shared-slice-read-push Inv-loop μ-loop
-shared-slice-read-push c = search needs
-
-push-requires : tie.Need-push-requires Inv-loop μ-loop
-push-requires c κs =
-    let a = c .before .before .before .before .args in
-    let l = c .before .before .loop in
-    omega (arith, l .inv .1, room (λ i. getD (a .tiles .now) (8 * a .g + i) 0) (λ i. c .before .before .before .before .pre .2 (8 * a .g + i)) (l .j) (omega arith))
-
-add-j : tie.Need-add-j Inv-loop μ-loop
-add-j c = search needs
-
-loop-less : tie.Need-loop-less Inv-loop μ-loop
-loop-less c = search needs
-
-loop-again : tie.Need-loop-again Inv-loop μ-loop
-loop-again c =
-    let a = c .before .before .before .before .before .args in
-    let l = c .before .before .before .loop in
-    (omega arith, omega (arith, c .push .ensures, l .inv .1, joined-next (λ i. getD (a .tiles .now) (8 * a .g + i) 0) (l .j)))
-
-returns : tie.Need-returns Inv-loop μ-loop
+returns : tie.Need-returns
 returns c =
-    let a = c .before .before .before .args in
-    let l = c .before .loop in
-    let e : l .j ≡ 8 = omega arith in
-    l .inv .1 ∙ ap (λ (n : ℕ). joined n (λ i. getD (a .tiles .now) (8 * a .g + i) 0)) e
+    let ts = c .before .before .args .tiles .now in
+    let m = c .before .before .pre .2 in
+    let k = 8 * c .before .before .args .g in
+    let z : k ≡ k + 0 = omega arith in
+    ap squeeze (c .word .ensures)
+    ∙ squeezed
+    (getD ts k 0) (getD ts (k + 1) 0) (getD ts (k + 2) 0) (getD ts (k + 3) 0)
+    (getD ts (k + 4) 0) (getD ts (k + 5) 0) (getD ts (k + 6) 0) (getD ts (k + 7) 0)
+    (m k) (m (k + 1)) (m (k + 2)) (m (k + 3)) (m (k + 4)) (m (k + 5)) (m (k + 6)) (m (k + 7))
+    ∙ omega (arith, joined-eight (λ j. getD ts (k + j) 0), ap (λ (n : ℕ). getD ts n 0) z)
 
 pub full-spec : {M : Type 1} → statement M
-full-spec = tie.close (tie.spec Inv-loop μ-loop loop-holds mul-push add-push shared-slice-read-push push-requires add-j loop-less loop-again returns)
+full-spec = tie.close (tie.spec mul-word word-requires add-a add-b add-result returns)

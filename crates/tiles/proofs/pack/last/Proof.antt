@@ -28,9 +28,10 @@ cell-requires c κs = search needs
 
 push-requires : tie.Need-push-requires Inv-loop μ-loop
 push-requires c κs =
-    let a = c .before .before .before .before .args in
+    let o = c .before .before .before .before in
     let l = c .before .before .loop in
-    omega (arith, l .inv .1, room (λ i. getD (a .tiles .now) (8 * a .g + i) 0) (λ i. c .before .before .before .before .pre .1 (8 * a .g + i)) (l .j) (omega arith))
+    let k = 8 * o .args .g in
+    omega (arith, l .inv .1, room (λ i. getD (o .args .tiles .now) (k + i) 0) (λ i. o .pre .1 (k + i)) (l .j) (omega arith))
 
 add-j : tie.Need-add-j Inv-loop μ-loop
 add-j c = search needs

@@ -43,7 +43,9 @@ turned-requires c κs =
     omega (arith, c .full .ensures, joined-small (o .args .tiles .now) (c .before .before .before .loop .g) (o .pre .1))
 
 put-rest-requires : tie.Need-put-rest-requires Inv-loop μ-loop
-put-rest-requires c κs = (omega arith, omega (arith, c .before .before .before .before .loop .inv .1, c .before .before .before .before .before .before .before .pre .2))
+put-rest-requires c κs =
+    let l = c .before .before .before .before in
+    (omega arith, omega (arith, l .loop .inv .1, l .before .before .before .pre .2))
 
 add-g : tie.Need-add-g Inv-loop μ-loop
 add-g c = search needs
@@ -90,7 +92,9 @@ turned-requires-2 c κs =
     omega (arith, c .last .ensures, joined-small (o .args .tiles .now) (length (o .args .tiles .now) / 8) (o .pre .1))
 
 put-rest-requires-2 : tie.Need-put-rest-requires-2 Inv-loop μ-loop
-put-rest-requires-2 c κs = (omega arith, omega (arith, c .before .before .before .before .loop .inv .1, c .before .before .before .before .before .before .before .pre .2))
+put-rest-requires-2 c κs =
+    let l = c .before .before .before .before in
+    (omega arith, omega (arith, l .loop .inv .1, l .before .before .before .pre .2))
 
 same-length : tie.Need-same-length Inv-loop μ-loop
 same-length c = c .before .before .put-rest2 .kept .0 ∙ c .before .before .before .before .before .before .before .loop .inv .1

@@ -66,8 +66,8 @@ fn errata_of(r: u64, marks: &[u8], f: usize) -> errata::Found
     ensures { λ x. ⌜ ((w : List ℕ) → length w ≡ length (now (marks .entry)) → Cells gf256 w → Remains w r → SearchedAs (x .good) (now (marks .entry)) w (x .errata)) ⌝ }
 {
     let cells = erased(marks, f);
+    let s = remainder::syndrome_of(r);
     let tables = gf256::tables::TABLES;
-    let s = remainder::syndrome_of(&tables, r);
     errata::find(&tables, s, marks.len(), cells, f)
 }
 

@@ -80,6 +80,5 @@ pub fn test(word: &[u8]) -> Tested
 pub fn syndrome_of(word: &[u8]) -> [u8; 5]
     ensures { λ s. ⌜ s ≡ syndrome gf256 (now (word .entry)) ⌝ }
 {
-    let tables = gf256::tables::TABLES;
-    remainder::syndrome_of(&tables, remainder::remainder_of(word))
+    remainder::syndrome_of(remainder::remainder_of(word))
 }

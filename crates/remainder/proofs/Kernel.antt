@@ -18,6 +18,19 @@ abbrev pub AllBytes : List ℕ → Type 0
 AllBytes [] = Unit {0}
 AllBytes (b ∷ bs) = (b < 256) × AllBytes bs
 
+-- ---- exclusive or, byte by byte
+
+abbrev pub xors : List ℕ → List ℕ → List ℕ
+xors [] cs = []
+xors (b ∷ bs) [] = []
+xors (b ∷ bs) (c ∷ cs) = bitXor b c ∷ xors bs cs
+
+byte-xor : (k a b : ℕ) → bitXor a b / 2 ^ k % 256 ≡ bitXor (a / 2 ^ k % 256) (b / 2 ^ k % 256)
+byte-xor k a b = ap (λ (z : ℕ). z % 256) (xor-shr a b k) ∙ xor-mod (a / 2 ^ k) (b / 2 ^ k) 8
+
+pub unpacked-xor : (a b : ℕ) → unpacked (bitXor a b) ≡ xors (unpacked a) (unpacked b)
+unpacked-xor a b = rw (byte-xor 32 a b, byte-xor 24 a b, byte-xor 16 a b, byte-xor 8 a b, xor-mod a b 8)
+
 -- ---- Horner's rule
 
 module _ (y : ℕ) where
@@ -44,13 +57,6 @@ module _ (y : ℕ) where
       start (horn y 0 a) bs (subst (λ (z : ℕ). z < 256) (sym (horn-zero a)) ha) h
       ∙ ap (λ (z : ℕ). bitXor (times z (power gf256 y (length bs))) (hornAll y 0 bs)) (horn-zero a)
 
-  -- ---- exclusive or, byte by byte
-
-  abbrev xors : List ℕ → List ℕ → List ℕ
-  xors [] cs = []
-  xors (b ∷ bs) [] = []
-  xors (b ∷ bs) (c ∷ cs) = bitXor b c ∷ xors bs cs
-
   horn-xor : (u v : ℕ) (bs cs : List ℕ) → length bs ≡ length cs → hornAll y (bitXor u v) (xors bs cs) ≡ bitXor (hornAll y u bs) (hornAll y v cs)
   horn-xor u v [] [] e = refl
   horn-xor u v [] (c ∷ cs) e = absurd (omega arith)
@@ -59,12 +65,6 @@ module _ (y : ℕ) where
       ap (λ (z : ℕ). hornAll y z (xors bs cs))
       (ap (λ (z : ℕ). bitXor z (bitXor b c)) (laws.add-mul gf256 field256 u v y) ∙ laws.add-swap gf256 field256 (times u y) (times v y) b c)
       ∙ horn-xor (horn y u b) (horn y v c) bs cs (omega arith)
-
-  byte-xor : (k a b : ℕ) → bitXor a b / 2 ^ k % 256 ≡ bitXor (a / 2 ^ k % 256) (b / 2 ^ k % 256)
-  byte-xor k a b = ap (λ (z : ℕ). z % 256) (xor-shr a b k) ∙ xor-mod (a / 2 ^ k) (b / 2 ^ k) 8
-
-  unpacked-xor : (a b : ℕ) → unpacked (bitXor a b) ≡ xors (unpacked a) (unpacked b)
-  unpacked-xor a b = rw (byte-xor 32 a b, byte-xor 24 a b, byte-xor 16 a b, byte-xor 8 a b, xor-mod a b 8)
 
   pub at5-xor : (a b : ℕ) → at5 y (bitXor a b) ≡ bitXor (at5 y a) (at5 y b)
   unfolding at5

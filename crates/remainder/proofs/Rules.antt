@@ -45,7 +45,7 @@ unfoldable pub reduces : ℕ → List ℕ → Bool
 unfolding all right at5 power product sum digits bit bitTimes
 reduces k t = both (upto (λ j. all k (2 ^ j) (bit t j)) 8) (upto (sum t) 256)
 
-five-of : (a b c d e : Bool) → T (both a (both b (both c (both d e)))) → T a × T b × T c × T d × T e
+pub five-of : (a b c d e : Bool) → T (both a (both b (both c (both d e)))) → T a × T b × T c × T d × T e
 five-of true true true true e t = (tt, tt, tt, tt, t)
 five-of false b c d e t = absurd t
 five-of true false c d e t = absurd t

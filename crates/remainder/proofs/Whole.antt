@@ -19,7 +19,7 @@ use Rattle.account.proofs.Decode as decode
 use Rattle.gf256.specs.Gf256.{gf256, times}
 use Rattle.gf256.proofs.Field256.{field256}
 use Rattle.remainder.specs.Remainder.{packedEnd, unpacked, horn, hornAll, at5, Moved, Remains, Checks}
-use Rattle.remainder.proofs.Kernel.{AllBytes, bytes5, horn-zero, start}
+use Rattle.remainder.proofs.Kernel.{AllBytes, bytes5, start}
 
 -- ---- sums by Horner's rule
 
@@ -36,13 +36,6 @@ at5-value y r = ap (λ (u : ℕ). hornAll y u (unpacked r)) (sym (words.value-no
 -- the five packed bytes, at a root
 pub at5-sum : (j : ℤ) (r : ℕ) → at5 (alphaTo gf256 j) r ≡ S gf256 j (unpacked r)
 at5-sum j r = at5-value (alphaTo gf256 j) r ∙ sym (words.sum-value gf256 field256 j (unpacked r))
-
-pub at-five : (y r a1 a2 a3 a4 m1 m2 m3 m4 l0 : ℕ) → a4 ≡ r / 4294967296 % 256 → m1 ≡ times a4 y → a3 ≡ r / 16777216 % 256 → m2 ≡ times (bitXor m1 a3) y
-    → a2 ≡ r / 65536 % 256 → m3 ≡ times (bitXor m2 a2) y → a1 ≡ r / 256 % 256 → m4 ≡ times (bitXor m3 a1) y → l0 ≡ r % 256 → bitXor m4 l0 ≡ at5 y r
-unfolding at5
-at-five y r a1 a2 a3 a4 m1 m2 m3 m4 l0 e4 f1 e3 f2 e2 f3 e1 f4 e0 =
-    rw (f4, f3, f2, f1, e4, e3, e2, e1, e0)
-    (ap (λ (u : ℕ). hornAll y u (r / 16777216 % 256 ∷ r / 65536 % 256 ∷ r / 256 % 256 ∷ r % 256 ∷ [])) (sym (horn-zero y (r / 4294967296 % 256))))
 
 -- ---- the loop
 

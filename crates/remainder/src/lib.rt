@@ -6,8 +6,7 @@ ghost use Prim.Native.Nat.{_+_, _*_, _/_, _%_, _<_, _≤_};
 ghost use lib.ListN.{length};
 ghost use Rattle.account.specs.Code.{syndrome};
 ghost use Rattle.gf256.specs.Gf256.{gf256};
-ghost use Rattle.gf256.specs.Tables.{Tables};
-ghost use Rattle.remainder.specs.Remainder.{packedEnd, Remains, Checks, LanesTo, LanesRemain, LanesCheck, fiveAt, FewOf, Room, Moved, RowMoved, RowsMoved, at5, unpacked};
+ghost use Rattle.remainder.specs.Remainder.{packedEnd, Remains, Checks, LanesTo, LanesRemain, LanesCheck, fiveAt, FewOf, Room, Moved, RowMoved, RowsMoved, unpacked};
 
 // Room for the numbers of sixteen lanes.
 const LANES: usize = 16;
@@ -149,26 +148,31 @@ pub fn lane_checks_of(data: &[u8]) -> [u64; 4]
     [x[0], x[1], x[2], x[3]]
 }
 
-// The polynomial of the five packed bytes at y.
-fn at(tables: &[u8; 1022], r: u64, y: u8) -> u8
-    requires { ⌜ Tables (now tables) ⌝ }
-    ensures { λ v. ⌜ v ≡ at5 y r ⌝ }
+// The five sums of the packed bytes, packed too: those of each half byte, added.
+fn sums(r: u64) -> u64
+    ensures { λ x. ⌜ unpacked x ≡ syndrome gf256 (unpacked r) ⌝ }
 {
-    let a = gf256::product(tables, low(r / 4294967296), y) ^ low(r / 16777216);
-    let b = gf256::product(tables, a, y) ^ low(r / 65536);
-    let c = gf256::product(tables, b, y) ^ low(r / 256);
-    gf256::product(tables, c, y) ^ low(r)
+    let mut x: u64 = 0;
+    let mut rest = r;
+    let mut k: usize = 0;
+    while k < 10 {
+        x = x ^ reductions::sums_at(16 * k + (rest % 16) as usize);
+        rest = rest / 16;
+        k += 1;
+    }
+    x
 }
 
 // The syndrome of the five packed bytes, and so of every word whose remainder they are.
-pub fn syndrome_of(tables: &[u8; 1022], r: u64) -> [u8; 5]
-    requires { ⌜ Tables (now tables) ⌝ }
+pub fn syndrome_of(r: u64) -> [u8; 5]
     ensures { λ s. ⌜ s ≡ syndrome gf256 (unpacked r) ⌝ }
 {
-    let a = at(tables, r, gf256::alpha_to(tables, -2));
-    let b = at(tables, r, gf256::alpha_to(tables, -1));
-    let c = at(tables, r, gf256::alpha_to(tables, 0));
-    let d = at(tables, r, gf256::alpha_to(tables, 1));
-    let e = at(tables, r, gf256::alpha_to(tables, 2));
-    [a, b, c, d, e]
+    let x = sums(r);
+    [
+        low(x / 4294967296),
+        low(x / 16777216),
+        low(x / 65536),
+        low(x / 256),
+        low(x),
+    ]
 }

@@ -12,24 +12,24 @@ erased-requires : tie.Need-erased-requires
 erased-requires c κs = search needs
 
 syndrome-of-requires : tie.Need-syndrome-of-requires
-syndrome-of-requires c κs = tables
+syndrome-of-requires c κs = search needs
 
 find-requires : tie.Need-find-requires
 find-requires c κs =
     let y = c .before .syndrome-of in
-    let c3 = c .before .before .before in
-    let s = c3 .before .before in (
+    let c2 = c .before .before in
+    let s = c2 .before .before in (
       tables,
-      listed-marks (s .args .marks .now) (c3 .erased .result) (s .args .f) (s .pre .1) (s .pre .3) (c3 .erased .ensures),
+      listed-marks (s .args .marks .now) (c2 .erased .result) (s .args .f) (s .pre .1) (s .pre .3) (c2 .erased .ensures),
       syndrome-bytes (unpacked (s .args .r)) (y .result) (y .ensures),
     )
 
 returns : tie.Need-returns
 returns c =
-    let c4 = c .before .before .before .before in
-    let s = c4 .before .before in
+    let c3 = c .before .before .before in
+    let s = c3 .before .before in
     λ w ew cw R.
-    c .find .ensures (s .args .marks .now) refl (c4 .erased .ensures) w ew cw (c .before .before .syndrome-of .ensures ∙ syndrome-same w (s .args .r) R)
+    c .find .ensures (s .args .marks .now) refl (c3 .erased .ensures) w ew cw (c .before .before .syndrome-of .ensures ∙ syndrome-same w (s .args .r) R)
 
 pub errata-of-spec : {M : Type 1} → statement M
 errata-of-spec = tie.close (tie.spec erased-requires syndrome-of-requires find-requires returns)

@@ -1,5 +1,4 @@
 use mathlib.Core.Path.{_≡_, _∙_}
-use Rattle.gf256.proofs.Rules.{tables}
 use Rattle.remainder.proofs.Whole.{syndrome-same}
 use borrow.Author.Needs.{needs}
 use Rattle.code.proofs.word.syndrome_of.Statement.{statement}
@@ -9,11 +8,11 @@ remainder-of-requires : tie.Need-remainder-of-requires
 remainder-of-requires c κs = search needs
 
 syndrome-of-requires : tie.Need-syndrome-of-requires
-syndrome-of-requires c κs = tables
+syndrome-of-requires c κs = search needs
 
 returns : tie.Need-returns
 returns c =
-    c .syndrome-of .ensures ∙ syndrome-same (c .before .before .before .before .args .word .now) (c .before .remainder-of .result)
+    c .syndrome-of .ensures ∙ syndrome-same (c .before .before .before .args .word .now) (c .before .remainder-of .result)
     (c .before .remainder-of .ensures)
 
 pub syndrome-of-spec : {M : Type 1} → statement M

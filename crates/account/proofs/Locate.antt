@@ -1,5 +1,5 @@
 -- One wrong cell from a ratio, two from a quadratic. t are the sums that are left.
-use mathlib.Core.Path.{_≡_, sym, ap, ap₂, _∙_, subst}
+use mathlib.Core.Path.{_≡_, refl, sym, ap, ap₂, _∙_, subst}
 use mathlib.Core.Logic.{_≢_, inl, inr, ⊎-elim}
 use mathlib.Core.List.{List, [], _∷_}
 use Prim.Native.Nat.{ℕ, zero, suc, _+_, _-_, _≤_, _<_}
@@ -115,6 +115,73 @@ module _ (O : Ops) (F : IsField O) where
         none = λ q p l f. z (λ m j. ap (λ (y : ℕ). t (suc m) ⊕ (y ⊗ t m)) (sym (ratio p f)) ∙ f .none m j);
       }
 
+  -- ---- one cell of a word with no marks, by logarithms
+
+  -- from x to y by the difference of their logarithms
+  pub log-less : (a b x y : ℕ) → b ≤ a → power O α a ≡ y → power O α b ≡ x → power O α (a - b) ⊗ x ≡ y
+  log-less a b x y h ey ex =
+      ap (λ (z : ℕ). power O α (a - b) ⊗ z) (sym ex) ∙ sym (powers.pow-add O F α (a - b) b) ∙ ap (power O α) back ∙ ey
+    where
+      back : a - b + b ≡ a
+      back = omega arith
+
+  pub log-around : (a b x y : ℕ) → b ≤ order → power O α a ≡ y → power O α b ≡ x → power O α (a + order - b) ⊗ x ≡ y
+  log-around a b x y h ey ex =
+      log-less (a + order) b x y (omega arith)
+      (powers.pow-add O F α a order ∙ ap (λ (z : ℕ). power O α a ⊗ z) (F .α-around) ∙ F .mul-one (power O α a) (powers.pow-in O F α a) ∙ ey) ex
+
+  -- only one power goes from one element to another
+  pub same-ratio : (i j x y : ℕ) → i < order → j < order → In O x → x ≢ 0 → power O α i ⊗ x ≡ y → power O α j ⊗ x ≡ y → i ≡ j
+  same-ratio i j x y hi hj hx nx ei ej =
+      one-power i j hi hj
+      (laws.add-eq O F (power O α i) (power O α j)
+      (laws.mul-cancel O F x (power O α i ⊕ power O α j) hx (F .in-add (power O α i) (power O α j) (powers.pow-in O F α i) (powers.pow-in O F α j)) nx
+      (laws.add-mul O F (power O α i) (power O α j) x ∙ ap₂ (λ (a b : ℕ). a ⊕ b) ei ej ∙ F .add-self y)))
+
+  -- a sum is the one before times a power, just where the filter at that power leaves nothing
+  pub climbs : (s : ℕ → ℕ) (i m : ℕ) → power O α i ⊗ s m ≡ s (suc m) → filt O (power O α i ∷ []) s m ≡ 0
+  climbs s i m e = ap (λ (z : ℕ). s (suc m) ⊕ z) e ∙ F .add-self (s (suc m))
+
+  pub climbed : (s : ℕ → ℕ) (i m : ℕ) → filt O (power O α i ∷ []) s m ≡ 0 → power O α i ⊗ s m ≡ s (suc m)
+  climbed s i m z = sym (laws.add-eq O F (s (suc m)) (power O α i ⊗ s m) z)
+
+  -- no power takes something to nothing
+  pub no-climb : (s : ℕ → ℕ) (i m : ℕ) → In O (s m) → s m ≢ 0 → s (suc m) ≡ 0 → filt O (power O α i ∷ []) s m ≡ 0 → ⊥
+  no-climb s i m hs ns e z =
+      ns (laws.mul-cancel O F (power O α i) (s m) (powers.pow-in O F α i) hs (powers.pow-some O F i)
+      (F .mul-comm (s m) (power O α i) ∙ climbed s i m z ∙ e))
+
+  module _ (s : ℕ → ℕ) (k n : ℕ) (short : n ≤ order) (hk : 1 ≤ k) (s0-in : In O (s 0)) (s0-some : s 0 ≢ 0) where
+    pub second-none : s 1 ≡ 0 → Found1 O s k n [] n
+    second-none e = record {
+      within = omega arith;
+      fits = λ l. absurd (omega arith);
+      none = λ q p l f. no-climb s (n - suc p) 0 s0-in s0-some e (f .none 0 (omega arith));
+    }
+
+    -- the i-th power goes from the first sum to the second
+    module _ (i : ℕ) (small : i < order) (is : power O α i ⊗ s 0 ≡ s 1) where
+      ei : s 0 ⊗ F .inv (s 0) ≡ 1
+      ei = F .mul-inv (s 0) s0-in s0-some
+
+      ex : power O α i ≡ s 1 ⊗ F .inv (s 0)
+      ex =
+          sym (ap (λ (y : ℕ). y ⊗ F .inv (s 0)) (sym is) ∙ F .mul-assoc (power O α i) (s 0) (F .inv (s 0))
+          ∙ ap (λ (y : ℕ). power O α i ⊗ y) ei ∙ F .mul-one (power O α i) (powers.pow-in O F α i))
+
+      pub alone-far : n ≤ i → Found1 O s k n [] n
+      alone-far h = out-of-range s k n [] (power O α i) (F .inv (s 0)) n hk ei ex (far-cell n [] (power O α i) i short small refl h) (omega arith)
+
+      module _ (h : i < n) where
+        C : CellOf O (power O α i) n [] (n - (i + 1))
+        C = good-cell n [] (power O α i) i short small refl h tt
+
+        pub alone-fits : Zeros k (filt O (power O α i ∷ []) s) → Found1 O s k n [] (n - (i + 1))
+        alone-fits z = it-fits s k n [] (power O α i) (F .inv (s 0)) (n - (i + 1)) hk ei ex C (omega arith) z
+
+        pub alone-fails : (Zeros k (filt O (power O α i ∷ []) s) → ⊥) → Found1 O s k n [] n
+        alone-fails z = it-fails s k n [] (power O α i) (F .inv (s 0)) (n - (i + 1)) hk ei ex C (omega arith) z
+
   -- ---- identities of a commutative ring whose sum is its own inverse
 
   term : (a b c X Y : ℕ) → ((c ⊕ (X ⊗ b)) ⊕ (Y ⊗ (b ⊕ (X ⊗ a)))) ⊕ (((X ⊕ Y) ⊗ b) ⊕ ((X ⊗ Y) ⊗ a)) ≡ c
@@ -160,6 +227,39 @@ module _ (O : Ops) (F : IsField O) where
 
   square-is : (X Y j : ℕ) → ((X ⊗ j) ⊗ (X ⊗ j)) ⊕ ((X ⊗ j) ⊗ ((X ⊕ Y) ⊗ j)) ≡ ((X ⊗ Y) ⊗ j) ⊗ j
   square-is X Y j = simp (F .mul-add, laws.add-mul O F, F .mul-assoc, laws.mul-left O F, laws.gone O F)
+
+  -- ---- the values of two cells, from the two middle sums
+
+  shared : (a b X Y : ℕ) → (a ⊗ (X ⊕ Y)) ⊕ (b ⊕ (X ⊗ a)) ≡ b ⊕ (Y ⊗ a)
+  shared a b X Y = simp (F .mul-add, F .mul-comm, F .add-assoc, F .add-comm, laws.add-left O F, laws.gone O F)
+
+  squared : (a j X : ℕ) → ((a ⊗ j) ⊗ X) ⊗ X ≡ (X ⊗ (X ⊗ a)) ⊗ j
+  squared a j X = simp (F .mul-assoc, F .mul-comm, laws.mul-left O F)
+
+  -- what is left of a sum, once the other cell's part is taken
+  part : (X Y j a b : ℕ) → (X ⊕ Y) ⊗ j ≡ 1 → In O a → a ⊕ ((b ⊕ (X ⊗ a)) ⊗ j) ≡ (b ⊕ (Y ⊗ a)) ⊗ j
+  part X Y j a b ej ha =
+      ap (λ (c : ℕ). c ⊕ ((b ⊕ (X ⊗ a)) ⊗ j)) (sym (F .mul-assoc a (X ⊕ Y) j ∙ ap (λ (c : ℕ). a ⊗ c) ej ∙ F .mul-one a ha))
+      ∙ sym (laws.add-mul O F (a ⊗ (X ⊕ Y)) (b ⊕ (X ⊗ a)) j) ∙ ap (λ (c : ℕ). c ⊗ j) (shared a b X Y)
+
+  module _ (s : ℕ → ℕ) (X Y j : ℕ) (ej : (X ⊕ Y) ⊗ j ≡ 1) (si : (m : ℕ) → In O (s m)) (z : Zeros 3 (filt O (X ∷ Y ∷ []) s)) where
+    left-x : (m : ℕ) → m < 3 → s (suc (suc m)) ⊕ (Y ⊗ s (suc m)) ≡ X ⊗ (s (suc m) ⊕ (Y ⊗ s m))
+    left-x m l =
+        laws.add-eq O F (s (suc (suc m)) ⊕ (Y ⊗ s (suc m))) (X ⊗ (s (suc m) ⊕ (Y ⊗ s m)))
+        (sym (swapped (s m) (s (suc m)) (s (suc (suc m))) X Y) ∙ z m l)
+
+    left-y : (m : ℕ) → m < 3 → s (suc (suc m)) ⊕ (X ⊗ s (suc m)) ≡ Y ⊗ (s (suc m) ⊕ (X ⊗ s m))
+    left-y m l = laws.add-eq O F (s (suc (suc m)) ⊕ (X ⊗ s (suc m))) (Y ⊗ (s (suc m) ⊕ (X ⊗ s m))) (z m l)
+
+    pub pair-first : ((s 0 ⊕ ((s 1 ⊕ (X ⊗ s 0)) ⊗ j)) ⊗ X) ⊗ X ≡ (s 3 ⊕ (Y ⊗ s 2)) ⊗ j
+    pair-first =
+        ap (λ (c : ℕ). (c ⊗ X) ⊗ X) (part X Y j (s 0) (s 1) ej (si 0)) ∙ squared (s 1 ⊕ (Y ⊗ s 0)) j X
+        ∙ ap (λ (c : ℕ). c ⊗ j) (sym (left-x 1 (omega arith) ∙ ap (λ (c : ℕ). X ⊗ c) (left-x 0 (omega arith))))
+
+    pub pair-second : (((s 1 ⊕ (X ⊗ s 0)) ⊗ j) ⊗ Y) ⊗ Y ≡ s 2 ⊕ ((s 3 ⊕ (Y ⊗ s 2)) ⊗ j)
+    pair-second =
+        squared (s 1 ⊕ (X ⊗ s 0)) j Y ∙ ap (λ (c : ℕ). c ⊗ j) (sym (left-y 1 (omega arith) ∙ ap (λ (c : ℕ). Y ⊗ c) (left-y 0 (omega arith))))
+        ∙ sym (part Y X j (s 2) (s 3) (ap (λ (c : ℕ). c ⊗ j) (F .add-comm Y X) ∙ ej) (si 2))
 
   -- ---- a place from the sum and the product of two
 

@@ -6,6 +6,7 @@ use mathlib.Core.List.{List, [], _∷_, _++_, map, append-assoc, append-nil}
 use Prim.Native.Nat.{ℕ, zero, suc, _+_, _-_, _<_, _≤_}
 use native.Mathlib.Numerals.{add-one}
 use native.Mathlib.Omega.{arith}
+use lib.Bits.{bitXor}
 use lib.ListN.{length, take, set, length-set}
 use lib.Seq.{take-suc-set, length-take-le}
 use Rattle.account.specs.Code.{Cells, syndrome}
@@ -15,15 +16,19 @@ use Rattle.account.specs.Search.{erasures, Zeros, Fits}
 use Rattle.account.proofs.Cells.{below-append, below-places}
 use Rattle.account.proofs.Filter as filter
 use Rattle.account.proofs.Solve.{solve-near}
+use Rattle.account.proofs.Locate as locate
+use Rattle.account.proofs.Powers as powers
 use Rattle.account.proofs.Words.{sumsOf}
 use Rattle.account.proofs.Decode.{values}
 use Rattle.account.proofs.Search as search'
 use Rattle.account.proofs.Search.{Ready, distinct-append, distinct-erasures}
-use Rattle.gf256.specs.Gf256.{gf256}
+use Rattle.gf256.specs.Gf256.{gf256, times}
 use Rattle.gf256.specs.Tables.{placeOf, inverseOf}
 use Rattle.gf256.proofs.Field256.{field256, inv-is}
+use Rattle.errata.proofs.Sums.{drain-starts}
+use Rattle.errata.proofs.Values.{same-quotient}
 use Rattle.errata.specs.declared.Errata.{Errata}
-use Rattle.errata.specs.Errata.{at, Listed, Drained, Gathered, Guess, NoGuess, GuessedAs, Bytes5, Valued, cellsOf, valuesOf, Corrects, Beyond}
+use Rattle.errata.specs.Errata.{at, Listed, Drained, Gathered, Guess, NoGuess, GuessedAs, Bytes5, Couple, Valued, cellsOf, valuesOf, Corrects, Beyond}
 
 -- ---- cells after the marked ones
 
@@ -197,3 +202,105 @@ module _ (marks s t r : List ℕ) (n f : ℕ) (erased : List ℕ) (L : Listed n 
           ∙ ap (λ (inv : ℕ → ℕ). unweighed gf256 (map (placeOf (length r)) (cellsOf e))
           (solve gf256 inv (map (placeOf (length r)) (cellsOf e)) (sumsOf gf256 r)))
           (sym inv-is)
+
+-- ---- five marks
+
+module _ (n : ℕ) (erased s : List ℕ) (f : ℕ) (L : Listed n erased f) (five : f ≡ 5) where
+  pub five-drained : Drained n (take f erased) s s
+  five-drained = record { sum = λ m l. absurd (omega (arith, length-take-le f erased (omega (arith, L .few, L .room)))) }
+
+  pub five-guess : Guess n (take f erased) s f f erased
+  five-guess = guess0 n erased f L s (L .few) (λ m l. absurd (omega arith))
+
+-- ---- no marks
+
+module _ (n : ℕ) (s : List ℕ) (short : n ≤ 255) where
+  abbrev nowhere : List ℕ
+  nowhere = 0 ∷ 0 ∷ 0 ∷ 0 ∷ 0 ∷ []
+
+  none-listed : Listed n nowhere 0
+  none-listed = record { short = short; room = refl; few = omega arith; below = tt; distinct = tt }
+
+  none-gathered : (marks : List ℕ) → erasures marks ≡ [] → Gathered marks nowhere 0
+  none-gathered marks e = record { room = refl; list = sym e }
+
+  pub none-beyond : NoGuess n [] s 0 → (marks : List ℕ) → length marks ≡ n → erasures marks ≡ [] → (r : List ℕ) → length r ≡ length marks → Cells gf256 r
+      → s ≡ syndrome gf256 r → Beyond marks r
+  none-beyond N marks en em r er cr es =
+      beyond marks s s r n 0 nowhere none-listed (drain-starts n nowhere s) en (none-gathered marks em) er cr es N
+
+  pub none-corrects : (count : ℕ) (cells : List ℕ) (e : Errata) → Guess n [] s 0 count cells → Valued n cells count s e
+      → (marks : List ℕ) → length marks ≡ n → erasures marks ≡ [] → (r : List ℕ) → length r ≡ length marks → Cells gf256 r
+      → s ≡ syndrome gf256 r → Corrects marks r e
+  none-corrects count cells e U K marks en em r er cr es =
+      corrects marks s s r n 0 nowhere none-listed (drain-starts n nowhere s) en (none-gathered marks em) er cr es count cells e U K
+
+  -- what is said of none, of one cell or of two
+  pub none-wrong : Zeros 5 (at s) → Guess n [] s 0 0 nowhere
+  none-wrong z = guess0 n nowhere 0 none-listed s (omega arith) z
+
+  pub one-wrong : (p : ℕ) → p < n → Fits gf256 n [] (at s) 4 (p ∷ []) → Guess n [] s 0 1 (p ∷ 0 ∷ 0 ∷ 0 ∷ 0 ∷ [])
+  one-wrong p l fit = guess1 n nowhere 0 none-listed s p (omega arith) l fit
+
+  pub two-wrong : (p q : ℕ) → p < n → q < n → p ≢ q → Fits gf256 n [] (at s) 3 (p ∷ q ∷ []) → Guess n [] s 0 2 (p ∷ q ∷ 0 ∷ 0 ∷ 0 ∷ [])
+  two-wrong p q lp lq ne fit = guess2 n nowhere 0 none-listed s p q (omega arith) lp lq ne fit
+
+  pub one-valued : (p : ℕ) → Bytes5 s → Fits gf256 n [] (at s) 4 (p ∷ [])
+      → Valued n (p ∷ 0 ∷ 0 ∷ 0 ∷ 0 ∷ []) 1 s (record { count = 1; cells = p ∷ 0 ∷ 0 ∷ 0 ∷ 0 ∷ []; values = at s 2 ∷ 0 ∷ 0 ∷ 0 ∷ 0 ∷ [] })
+  one-valued p b fit = record { count = refl; same-cells = refl; room = refl; values = ap (λ (v : ℕ). v ∷ []) value }
+    where
+      X : ℕ
+      X = placeOf n p
+
+      first : times X (at s 0) ≡ at s 1
+      first = locate.climbed gf256 field256 (at s) (n - suc p) 0 (fit .none 0 (omega arith))
+
+      second : times X (at s 1) ≡ at s 2
+      second = locate.climbed gf256 field256 (at s) (n - suc p) 1 (fit .none 1 (omega arith))
+
+      value : at s 2 ≡ times (times (bitXor (at s 0) 0) X) X
+      value =
+          sym second ∙ ap (times X) (sym first) ∙ ap (times X) (field256 .mul-comm X (at s 0)) ∙ field256 .mul-comm X (times (at s 0) X)
+          ∙ ap (λ (v : ℕ). times (times v X) X) (sym (field256 .add-zero (at s 0)))
+
+  pub none-valued : (cells values : List ℕ) → length values ≡ 5 → Valued n cells 0 s (record { count = 0; cells = cells; values = values })
+  none-valued cells values h = record { count = refl; same-cells = refl; room = h; values = refl }
+
+  pub pair-apart : (p q : ℕ) → Couple s n p q → 0 < bitXor (placeOf n p) (placeOf n q)
+  pair-apart p q C = some (bitXor (placeOf n p) (placeOf n q)) (filter.apart-some gf256 field256 n short p q (C .below-p) (C .below-q) (C .apart))
+    where
+      some : (x : ℕ) → x ≢ 0 → 0 < x
+      some zero h = absurd (h refl)
+      some (suc x) h = omega arith
+
+  pub pair-valued : (p q v i : ℕ) → Bytes5 s → Couple s n p q → times (bitXor (placeOf n p) (placeOf n q)) i ≡ 1
+      → v ≡ times (bitXor (at s 3) (times (placeOf n q) (at s 2))) i
+      → Valued n (p ∷ q ∷ 0 ∷ 0 ∷ 0 ∷ []) 2 s
+      (record { count = 2; cells = p ∷ q ∷ 0 ∷ 0 ∷ 0 ∷ []; values = v ∷ bitXor (at s 2) v ∷ 0 ∷ 0 ∷ 0 ∷ [] })
+  pair-valued p q v i b C ei ev = record { count = refl; same-cells = refl; room = refl; values = ap₂ (λ (a c : ℕ). a ∷ c ∷ []) first second }
+    where
+      X : ℕ
+      X = placeOf n p
+
+      Y : ℕ
+      Y = placeOf n q
+
+      g : ℕ
+      g = bitXor (at s 1) (times X (at s 0))
+
+      quotient : times (bitXor g 0) (inverseOf (bitXor Y X)) ≡ times g i
+      quotient =
+          sym (same-quotient (bitXor g 0) (bitXor Y X) i (field256 .in-add Y X (powers.place-in gf256 field256 n q) (powers.place-in gf256 field256 n p))
+          (filter.apart-some gf256 field256 n short q p (C .below-q) (C .below-p) (λ e. C .apart (sym e)))
+          (ap (λ (a : ℕ). times a i) (field256 .add-comm Y X) ∙ ei))
+          ∙ ap (λ (a : ℕ). times a i) (field256 .add-zero g)
+
+      first : v ≡ times (times (bitXor (at s 0) (bitXor (times (bitXor g 0) (inverseOf (bitXor Y X))) 0)) X) X
+      first =
+          ev ∙ sym (locate.pair-first gf256 field256 (at s) X Y i ei b (C .fits .none))
+          ∙ ap (λ (a : ℕ). times (times (bitXor (at s 0) a) X) X) (sym quotient ∙ sym (field256 .add-zero (times (bitXor g 0) (inverseOf (bitXor Y X)))))
+
+      second : bitXor (at s 2) v ≡ times (times (times (bitXor g 0) (inverseOf (bitXor Y X))) Y) Y
+      second =
+          ap (bitXor (at s 2)) ev ∙ sym (locate.pair-second gf256 field256 (at s) X Y i ei b (C .fits .none))
+          ∙ ap (λ (a : ℕ). times (times a Y) Y) (sym quotient)

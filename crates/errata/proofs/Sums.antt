@@ -8,13 +8,16 @@ use native.Mathlib.Decide.{ℕ-discrete}
 use lib.Bits.{bitXor}
 use lib.ListN.{length, getD, take, length-append}
 use lib.Seq.{take-suc, getD-take, length-take-le}
+use Rattle.account.specs.Field.{power}
 use Rattle.account.specs.Errata.{Outside, filt}
 use Rattle.account.specs.Search.{Zeros}
 use Rattle.account.proofs.Cells.{below-at, outside-append}
 use Rattle.account.proofs.Filter as filter
+use Rattle.account.proofs.Locate as locate
 use Rattle.gf256.specs.Gf256.{gf256, times}
 use Rattle.gf256.specs.Tables.{placeOf}
-use Rattle.errata.specs.Errata.{at, Filtered, Listed, Drained}
+use Rattle.gf256.proofs.Field256.{field256}
+use Rattle.errata.specs.Errata.{at, Filtered, Ratio, Climbs, Bytes5, Listed, Drained}
 
 pub filtered : (x a b c d : ℕ) (s : List ℕ) → a ≡ bitXor (at s 1) (times x (at s 0)) → b ≡ bitXor (at s 2) (times x (at s 1))
     → c ≡ bitXor (at s 3) (times x (at s 2)) → d ≡ bitXor (at s 4) (times x (at s 3)) → Filtered x s (a ∷ b ∷ c ∷ d ∷ 0 ∷ [])
@@ -42,12 +45,32 @@ zeros-to k f g e z m l = sym (e m l) ∙ z m l
 pub zeros-from : (k : ℕ) (f g : ℕ → ℕ) → ((m : ℕ) → m < k → f m ≡ g m) → (Zeros k f → ⊥) → Zeros k g → ⊥
 zeros-from k f g e n z = n (λ m l. e m l ∙ z m l)
 
-pub zeros-more : (s : List ℕ) (i : ℕ) → Zeros i (at s) → at s i ≡ 0 → Zeros (i + 1) (at s)
+pub zeros-more : (s : ℕ → ℕ) (i : ℕ) → Zeros i s → s i ≡ 0 → Zeros (i + 1) s
 zeros-more s i z e m l = go (ℕ-discrete m i)
   where
-    go : Dec (m ≡ i) → at s m ≡ 0
-    go (yes q) = ap (at s) q ∙ e
+    go : Dec (m ≡ i) → s m ≡ 0
+    go (yes q) = ap s q ∙ e
     go (no ne) = z m (omega arith)
+
+-- ---- each sum a multiple of the one before
+
+module _ (s : List ℕ) (i m : ℕ) (b : Bytes5 s) (some : 0 < at s m) (l : m < 4) where
+  next : at s (m + 1) ≡ at s (suc m)
+  next = ap (at s) (add-one m)
+
+  pub climb-stops : at s (m + 1) ≡ 0 → Climbs s i → ⊥
+  climb-stops e z = locate.no-climb gf256 field256 (at s) i m (b m) (λ q. omega (arith, q)) (sym next ∙ e) (z m l)
+
+  module _ (r : ℕ) (small : i < 255) (R : Ratio (at s m) (at s (m + 1)) r) where
+    pub climb-wrong : (r ≡ i → ⊥) → Climbs s i → ⊥
+    climb-wrong ne z =
+        ne (locate.same-ratio gf256 field256 r i (at s m) (at s (suc m)) (R .small) small (b m) (λ q. omega (arith, q)) (R .is ∙ next)
+        (locate.climbed gf256 field256 (at s) i m (z m l)))
+
+    pub climb-more : r ≡ i → Zeros m (filt gf256 (power gf256 2 i ∷ []) (at s)) → Zeros (m + 1) (filt gf256 (power gf256 2 i ∷ []) (at s))
+    climb-more e z =
+        zeros-more (filt gf256 (power gf256 2 i ∷ []) (at s)) m z
+        (locate.climbs gf256 field256 (at s) i m (ap (λ (j : ℕ). times (power gf256 2 j) (at s m)) (sym e) ∙ R .is ∙ next))
 
 -- ---- cells, one after the other
 

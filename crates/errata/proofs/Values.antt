@@ -22,7 +22,7 @@ abbrev div : ℕ → List ℕ → List ℕ → List ℕ
 div = divided gf256 inverseOf
 
 -- dividing by a is multiplying with any inverse of it
-same-quotient : (u a i : ℕ) → a < 256 → a ≢ 0 → times a i ≡ 1 → times u i ≡ times u (inverseOf a)
+pub same-quotient : (u a i : ℕ) → a < 256 → a ≢ 0 → times a i ≡ 1 → times u i ≡ times u (inverseOf a)
 same-quotient u a i ha na e =
     sym (field256 .mul-one (times u i) (field256 .in-mul u i)) ∙ ap (times (times u i)) (sym (inverse-right a ha na))
     ∙ field256 .mul-assoc u i (times a (inverseOf a))

@@ -1,11 +1,13 @@
 -- What the parts of the search promise each other, and what errata are.
 use mathlib.Core.Path.{_≡_}
+use mathlib.Core.Logic.{_≢_}
 use mathlib.Core.Bool.{Bool, true, false}
 use mathlib.Core.List.{List, [], _∷_, _++_, map}
 use Prim.Native.Nat.{ℕ, suc, _+_, _*_, _-_, _<_, _≤_}
 use lib.Bits.{bitXor}
 use lib.ListN.{length, getD, take, set}
 use lib.Seq.{slice}
+use Rattle.account.specs.Field.{power}
 use Rattle.account.specs.Code.{Cells, Clean, syndrome}
 use Rattle.account.specs.Reach.{Reach}
 use Rattle.account.specs.Errata.{Below, Distinct, filt, total, divided, solve, unweighed, Applied}
@@ -62,6 +64,15 @@ Both x y t k n ps r = Joined gf256 x y (at t) k n ps (r .p) (r .q)
 
 abbrev pub Split : ℕ → ℕ → ℕ → Type 0
 Split = Splits gf256
+
+-- y is x times the power r of α
+pub record Ratio (x y r : ℕ) : Type 0 where
+  pub small : r < 255
+  pub is : times (power gf256 2 r) x ≡ y
+
+-- each of the sums is the one before times the power i of α
+abbrev pub Climbs : List ℕ → ℕ → Type 0
+Climbs s i = Zeros 4 (filt gf256 (power gf256 2 i ∷ []) (at s))
 
 -- t are the sums that are left when the f marked cells are filtered out. A guess of wrong cells that fits, listed after the marked ones
 pub record Guess (n : ℕ) (ps t : List ℕ) (f count : ℕ) (cells : List ℕ) : Type 0 where
@@ -123,6 +134,13 @@ pub record Valued (n : ℕ) (cells : List ℕ) (k : ℕ) (s : List ℕ) (e : Err
   pub room : length (e .values) ≡ 5
   pub values : take k (e .values) ≡ unweighed gf256 (map (placeOf n) (take k cells)) (solve gf256 inverseOf (map (placeOf n) (take k cells)) (at s))
 
+-- p and q are the wrong cells of a word of n with no marks
+pub record Couple (s : List ℕ) (n p q : ℕ) : Type 0 where
+  pub below-p : p < n
+  pub below-q : q < n
+  pub apart : p ≢ q
+  pub fits : Fits gf256 n [] (at s) 3 (p ∷ q ∷ [])
+
 abbrev pub cellsOf : Errata → List ℕ
 cellsOf e = take (e .count) (e .cells)
 
@@ -153,6 +171,10 @@ SearchedAs false marks r e = Beyond marks r
 -- what is found from a syndrome holds of every word that has it
 abbrev pub FoundFor : List ℕ → List ℕ → Bool → Errata → Type 0
 FoundFor s marks good e = (r : List ℕ) → length r ≡ length marks → Cells gf256 r → s ≡ syndrome gf256 r → SearchedAs good marks r e
+
+-- and, where no cell is marked, for all such marks
+abbrev pub FoundUnmarked : List ℕ → ℕ → Bool → Errata → Type 0
+FoundUnmarked s n good e = (marks : List ℕ) → length marks ≡ n → erasures marks ≡ [] → FoundFor s marks good e
 
 -- and, where the first f of `erased` are the marked cells, for every marks that have these
 abbrev pub FoundWith : List ℕ → ℕ → List ℕ → ℕ → Bool → Errata → Type 0

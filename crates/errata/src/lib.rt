@@ -1,13 +1,15 @@
 // The errata of a word: at most five cells, each with what to add there, from the word's syndrome and its marked cells, which
 // are listed. The table is made once by an entry and lent.
+ghost use mathlib.Core.List.{[], _∷_};
 ghost use Prim.Native.Nat.{suc, _+_, _<_, _≤_};
 ghost use lib.ListN.{take};
 ghost use Rattle.account.specs.Errata.{Outside};
 ghost use Rattle.account.specs.Search.{Zeros};
 ghost use Rattle.gf256.specs.Tables.{Tables};
 ghost use Rattle.rules.specs.Says.{Says};
-ghost use Rattle.errata.specs.Errata.{at, Filtered, Listed, Drained, CellAt, One, Two, Both, Split};
-ghost use Rattle.errata.specs.Errata.{NoneAlone, Divided, Solved, Unweighed, NotNone, NotOne, GuessedAs, Bytes5, Valued, FoundWith};
+ghost use Rattle.errata.specs.Errata.{at, Filtered, Listed, Drained, CellAt, One, Two, Both, Split, Ratio, Climbs};
+ghost use Rattle.errata.specs.Errata.{NoneAlone, Divided, Solved, Unweighed, NotNone, NotOne, GuessedAs};
+ghost use Rattle.errata.specs.Errata.{Bytes5, Couple, Valued, FoundUnmarked, FoundWith};
 
 // At most five cells, each with what to add there.
 pub struct Errata {
@@ -118,6 +120,58 @@ fn one(tables: &[u8; 1022], t: [u8; 5], k: usize, n: usize, erased: [usize; 5], 
     }
     if zeros(filter(tables, x, t), k) {
         return p;
+    }
+    n
+}
+
+// The power of α by which x becomes y.
+fn ratio(tables: &[u8; 1022], x: u8, y: u8) -> usize
+    requires { ⌜ Tables (now tables) × (0 < x) × (0 < y) ⌝ }
+    ensures { λ r. ⌜ Ratio x y r ⌝ }
+{
+    let a = gf256::log(tables, y);
+    let b = gf256::log(tables, x);
+    if a < b {
+        return a + 255 - b;
+    }
+    a - b
+}
+
+// Whether each sum is the one before times the power i of α.
+fn climbs(tables: &[u8; 1022], s: [u8; 5], i: usize) -> bool
+    requires { ⌜ Tables (now tables) × Bytes5 s × (0 < at s 0) × (i < 255) ⌝ }
+    ensures { λ r. ⌜ Says r (Climbs s i) ⌝ }
+{
+    let mut m = 0;
+    while m < 4 {
+        if s[m + 1] == 0 {
+            return false;
+        }
+        if ratio(tables, s[m], s[m + 1]) != i {
+            return false;
+        }
+        m += 1;
+    }
+    true
+}
+
+// The one wrong cell of a word with no marks, by the logarithms of its sums, so that nothing is multiplied; or n.
+fn alone(tables: &[u8; 1022], s: [u8; 5], n: usize) -> usize
+    requires { ⌜ Tables (now tables) × (n ≤ 255) × Bytes5 s × NotNone s 0 ⌝ }
+    ensures { λ r. ⌜ One s 4 n [] r ⌝ }
+{
+    if s[0] == 0 {
+        return n;
+    }
+    if s[1] == 0 {
+        return n;
+    }
+    let i = ratio(tables, s[0], s[1]);
+    if n <= i {
+        return n;
+    }
+    if climbs(tables, s, i) {
+        return n - (i + 1);
     }
     n
 }
@@ -357,8 +411,67 @@ fn valued(tables: &[u8; 1022], s: [u8; 5], cells: [usize; 5], k: usize, n: usize
     }
 }
 
-// The errata of a word of n cells with the syndrome s, of which the first f of `erased` are the marked ones.
-pub fn find(tables: &[u8; 1022], s: [u8; 5], n: usize, erased: [usize; 5], f: usize) -> Found
+// The errata at two wrong cells of a word with no marks, from the two sums that weigh a cell by 1 and by its place.
+fn couple(tables: &[u8; 1022], s: [u8; 5], n: usize, p: usize, q: usize) -> Errata
+    requires { ⌜ Tables (now tables) × (n ≤ 255) × Bytes5 s × Couple s n p q ⌝ }
+    ensures { λ e. ⌜ Valued n (p ∷ q ∷ 0 ∷ 0 ∷ 0 ∷ []) 2 s e ⌝ }
+{
+    let x = gf256::place(tables, n, p);
+    let y = gf256::place(tables, n, q);
+    let j = gf256::inverse(tables, x ^ y);
+    let v = gf256::product(tables, s[3] ^ gf256::product(tables, y, s[2]), j);
+    Errata {
+        count: 2,
+        cells: [p, q, 0, 0, 0],
+        values: [v, s[2] ^ v, 0, 0, 0],
+    }
+}
+
+// A word with no marks: none, one or two wrong cells. The value of one is S_0, which weighs every cell by 1.
+fn unmarked(tables: &[u8; 1022], s: [u8; 5], n: usize) -> Found
+    requires { ⌜ Tables (now tables) × (n ≤ 255) × Bytes5 s ⌝ }
+    ensures { λ r. ⌜ FoundUnmarked s n (r .good) (r .errata) ⌝ }
+{
+    if zeros(s, 5) {
+        return Found {
+            good: true,
+            errata: Errata {
+                count: 0,
+                cells: [0; 5],
+                values: [0; 5],
+            },
+        };
+    }
+    let p = alone(tables, s, n);
+    if p < n {
+        return Found {
+            good: true,
+            errata: Errata {
+                count: 1,
+                cells: [p, 0, 0, 0, 0],
+                values: [s[2], 0, 0, 0, 0],
+            },
+        };
+    }
+    let pair = two(tables, s, 3, n, [0; 5], 0);
+    let a = pair.p;
+    let b = pair.q;
+    if n <= a {
+        return Found {
+            good: false,
+            errata: Errata {
+                count: 0,
+                cells: [0; 5],
+                values: [0; 5],
+            },
+        };
+    }
+    let errata = couple(tables, s, n, a, b);
+    Found { good: true, errata }
+}
+
+// A word of n cells with the syndrome s, of which the first f of `erased` are the marked ones.
+fn marked(tables: &[u8; 1022], s: [u8; 5], n: usize, erased: [usize; 5], f: usize) -> Found
     requires { ⌜ Tables (now tables) × Listed n erased f × Bytes5 s ⌝ }
     ensures { λ r. ⌜ FoundWith s n erased f (r .good) (r .errata) ⌝ }
 {
@@ -379,4 +492,20 @@ pub fn find(tables: &[u8; 1022], s: [u8; 5], n: usize, erased: [usize; 5], f: us
     }
     let errata = valued(tables, s, cells, count, n);
     Found { good: true, errata }
+}
+
+// The errata of a word of n cells with the syndrome s, of which the first f of `erased` are the marked ones. Beside five nothing
+// is left to search.
+pub fn find(tables: &[u8; 1022], s: [u8; 5], n: usize, erased: [usize; 5], f: usize) -> Found
+    requires { ⌜ Tables (now tables) × Listed n erased f × Bytes5 s ⌝ }
+    ensures { λ r. ⌜ FoundWith s n erased f (r .good) (r .errata) ⌝ }
+{
+    if f == 0 {
+        return unmarked(tables, s, n);
+    }
+    if f == 5 {
+        let errata = valued(tables, s, erased, f, n);
+        return Found { good: true, errata };
+    }
+    marked(tables, s, n, erased, f)
 }

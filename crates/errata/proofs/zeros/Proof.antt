@@ -29,7 +29,9 @@ loop-less : tie.Need-loop-less Inv-loop μ-loop
 loop-less c = search needs
 
 loop-again : tie.Need-loop-again Inv-loop μ-loop
-loop-again c = (omega arith, zeros-more (c .before .before .before .args .t1) (c .before .before .loop .i) (c .before .before .loop .inv .1) (c .if1 .left))
+loop-again c =
+    let L = c .before .before .loop in
+    (omega arith, zeros-more (at (c .before .before .before .args .t1)) (L .i) (L .inv .1) (c .if1 .left))
 
 returns-2 : tie.Need-returns-2 Inv-loop μ-loop
 returns-2 c = λ m l. c .before .loop .inv .1 m (omega arith)

@@ -7,7 +7,7 @@ use native.Mathlib.Omega.{arith}
 use native.Mathlib.Decide.{ℕ-discrete}
 use Rattle.account.specs.Field.{Ops, In, IsField, power}
 use Rattle.account.specs.Errata.{Outside, place, filt}
-use Rattle.account.specs.Search.{Zeros, Fits, CellOf, Found1, Found2, Joined, Splits, HalfOf}
+use Rattle.account.specs.Search.{Zeros, Fits, CellOf, Found1, Found2, Joined, Splits, Quadratic, HalfOf}
 use Rattle.account.proofs.Laws as laws
 use Rattle.account.proofs.Powers as powers
 
@@ -228,6 +228,103 @@ module _ (O : Ops) (F : IsField O) where
   square-is : (X Y j : ℕ) → ((X ⊗ j) ⊗ (X ⊗ j)) ⊕ ((X ⊗ j) ⊗ ((X ⊕ Y) ⊗ j)) ≡ ((X ⊗ Y) ⊗ j) ⊗ j
   square-is X Y j = simp (F .mul-add, laws.add-mul O F, F .mul-assoc, laws.mul-left O F, laws.gone O F)
 
+  -- ---- the quadratic of two places
+
+  cramer-2 : (a b c d i : ℕ) → ((((b ⊗ c) ⊕ (a ⊗ d)) ⊗ i) ⊗ b) ⊕ ((((c ⊗ c) ⊕ (b ⊗ d)) ⊗ i) ⊗ a) ≡ c ⊗ (((b ⊗ b) ⊕ (a ⊗ c)) ⊗ i)
+  cramer-2 a b c d i =
+      simp (
+        F .mul-add,
+        laws.add-mul O F,
+        F .mul-assoc,
+        F .mul-comm,
+        laws.mul-left O F,
+        F .add-assoc,
+        F .add-comm,
+        laws.add-left O F,
+        laws.gone O F,
+        F .add-self,
+        laws.zero-add O F,
+        F .add-zero,
+      )
+
+  cramer-3 : (a b c d i : ℕ) → ((((b ⊗ c) ⊕ (a ⊗ d)) ⊗ i) ⊗ c) ⊕ ((((c ⊗ c) ⊕ (b ⊗ d)) ⊗ i) ⊗ b) ≡ d ⊗ (((b ⊗ b) ⊕ (a ⊗ c)) ⊗ i)
+  cramer-3 a b c d i =
+      simp (
+        F .mul-add,
+        laws.add-mul O F,
+        F .mul-assoc,
+        F .mul-comm,
+        laws.mul-left O F,
+        F .add-assoc,
+        F .add-comm,
+        laws.add-left O F,
+        laws.gone O F,
+        F .add-self,
+        laws.zero-add O F,
+        F .add-zero,
+      )
+
+  -- d is the determinant and i its inverse
+  pub quadratic : (t : ℕ → ℕ) (d i u v : ℕ) → In O (t 2) → In O (t 3) → d ≡ (t 1 ⊗ t 1) ⊕ (t 0 ⊗ t 2) → d ⊗ i ≡ 1
+      → u ≡ ((t 1 ⊗ t 2) ⊕ (t 0 ⊗ t 3)) ⊗ i → v ≡ ((t 2 ⊗ t 2) ⊕ (t 1 ⊗ t 3)) ⊗ i → Quadratic O t u v
+  quadratic t d i u v h2 h3 ed ei eu ev = record {
+    some = λ z0 z1. powers.one-some O F (sym one ∙ ap₂ (λ (a b : ℕ). ((b ⊗ b) ⊕ (a ⊗ t 2)) ⊗ i) z0 z1
+        ∙ ap (λ (c : ℕ). c ⊗ i) (ap₂ (λ (a b : ℕ). a ⊕ b) (laws.zero-mul O F 0) (laws.zero-mul O F (t 2)) ∙ F .add-zero 0) ∙ laws.zero-mul O F i);
+    second =
+        sym (ap₂ (λ (a b : ℕ). (a ⊗ t 1) ⊕ (b ⊗ t 0)) eu ev ∙ cramer-2 (t 0) (t 1) (t 2) (t 3) i ∙ ap (λ (c : ℕ). t 2 ⊗ c) one ∙ F .mul-one (t 2) h2);
+    third =
+        sym (ap₂ (λ (a b : ℕ). (a ⊗ t 2) ⊕ (b ⊗ t 1)) eu ev ∙ cramer-3 (t 0) (t 1) (t 2) (t 3) i ∙ ap (λ (c : ℕ). t 3 ⊗ c) one ∙ F .mul-one (t 3) h3);
+  }
+    where
+      one : ((t 1 ⊗ t 1) ⊕ (t 0 ⊗ t 2)) ⊗ i ≡ 1
+      one = ap (λ (c : ℕ). c ⊗ i) (sym ed) ∙ ei
+
+  -- the filter at x and y leaves nothing of a sum just where it follows from the two before
+  follows : (a b c X Y : ℕ) → (c ⊕ (X ⊗ b)) ⊕ (Y ⊗ (b ⊕ (X ⊗ a))) ≡ 0 → c ≡ ((X ⊕ Y) ⊗ b) ⊕ ((X ⊗ Y) ⊗ a)
+  follows a b c X Y z =
+      sym (term a b c X Y) ∙ ap (λ (w : ℕ). w ⊕ (((X ⊕ Y) ⊗ b) ⊕ ((X ⊗ Y) ⊗ a))) z ∙ laws.zero-add O F (((X ⊕ Y) ⊗ b) ⊕ ((X ⊗ Y) ⊗ a))
+
+  followed : (a b c X Y : ℕ) → c ≡ ((X ⊕ Y) ⊗ b) ⊕ ((X ⊗ Y) ⊗ a) → (c ⊕ (X ⊗ b)) ⊕ (Y ⊗ (b ⊕ (X ⊗ a))) ≡ 0
+  followed a b c X Y e =
+      sym (laws.gone O F E L) ∙ ap (λ (w : ℕ). E ⊕ w) (F .add-comm E L ∙ term a b c X Y ∙ e) ∙ F .add-self E
+    where
+      E : ℕ
+      E = ((X ⊕ Y) ⊗ b) ⊕ ((X ⊗ Y) ⊗ a)
+
+      L : ℕ
+      L = (c ⊕ (X ⊗ b)) ⊕ (Y ⊗ (b ⊕ (X ⊗ a)))
+
+  module _ (t : ℕ → ℕ) (k u v x y : ℕ) (Q : Quadratic O t u v) (hk : 2 ≤ k) (most : k ≤ 3) (eu : x ⊕ y ≡ u) where
+    -- the product of the places is not v
+    pub not-product : In O v → In O (t 0) → In O (t 1) → (x ⊗ y ≡ v → ⊥) → Zeros k (filt O (x ∷ y ∷ []) t) → ⊥
+    not-product hv h0 h1 n z =
+        Q .some (none (t 0) (t 1) (t 2) h0 (z 0 (omega arith)) (Q .second)) (none (t 1) (t 2) (t 3) h1 (z 1 (omega arith)) (Q .third))
+      where
+        none : (a b c : ℕ) → In O a → (c ⊕ (x ⊗ b)) ⊕ (y ⊗ (b ⊕ (x ⊗ a))) ≡ 0 → c ≡ (u ⊗ b) ⊕ (v ⊗ a) → a ≡ 0
+        none a b c ha zz e =
+            laws.mul-cancel O F ((x ⊗ y) ⊕ v) a (F .in-add (x ⊗ y) v (F .in-mul x y) hv) ha (λ q. n (laws.add-eq O F (x ⊗ y) v q))
+            (F .mul-comm a ((x ⊗ y) ⊕ v) ∙ laws.add-mul O F (x ⊗ y) v a ∙ ap (λ (w : ℕ). w ⊕ (v ⊗ a)) alike ∙ F .add-self (v ⊗ a))
+          where
+            alike : (x ⊗ y) ⊗ a ≡ v ⊗ a
+            alike =
+                sym (laws.gone O F (u ⊗ b) ((x ⊗ y) ⊗ a))
+                ∙ ap (λ (w : ℕ). (u ⊗ b) ⊕ w) (sym (follows a b c x y zz ∙ ap (λ (w : ℕ). (w ⊗ b) ⊕ ((x ⊗ y) ⊗ a)) eu) ∙ e)
+                ∙ laws.gone O F (u ⊗ b) (v ⊗ a)
+
+    module _ (ev : x ⊗ y ≡ v) where
+      last : (a b c : ℕ) → c ≡ (u ⊗ b) ⊕ (v ⊗ a) → (c ⊕ (x ⊗ b)) ⊕ (y ⊗ (b ⊕ (x ⊗ a))) ≡ 0
+      last a b c e = followed a b c x y (e ∙ ap₂ (λ (p q : ℕ). (p ⊗ b) ⊕ (q ⊗ a)) (sym eu) (sym ev))
+
+      pub does-join : (3 ≤ k → t 4 ≡ (u ⊗ t 3) ⊕ (v ⊗ t 2)) → Zeros k (filt O (x ∷ y ∷ []) t)
+      does-join e zero l = last (t 0) (t 1) (t 2) (Q .second)
+      does-join e (suc zero) l = last (t 1) (t 2) (t 3) (Q .third)
+      does-join e (suc (suc zero)) l = last (t 2) (t 3) (t 4) (e (omega arith))
+      does-join e (suc (suc (suc m))) l = absurd (omega arith)
+
+      pub not-fourth : 3 ≤ k → (t 4 ≡ (u ⊗ t 3) ⊕ (v ⊗ t 2) → ⊥) → Zeros k (filt O (x ∷ y ∷ []) t) → ⊥
+      not-fourth h n z =
+          n (follows (t 2) (t 3) (t 4) x y (z 2 (omega arith)) ∙ ap₂ (λ (p q : ℕ). (p ⊗ t 3) ⊕ (q ⊗ t 2)) eu ev)
+
   -- ---- the values of two cells, from the two middle sums
 
   shared : (a b X Y : ℕ) → (a ⊗ (X ⊕ Y)) ⊕ (b ⊕ (X ⊗ a)) ≡ b ⊕ (Y ⊗ a)
@@ -341,10 +438,7 @@ module _ (O : Ops) (F : IsField O) where
       unlike e = powers.place-apart O F n short p q lp (omega arith) (omega arith) (laws.add-eq O F X Y e)
 
       next : (m : ℕ) → m < k → t (suc (suc m)) ≡ ((X ⊕ Y) ⊗ t (suc m)) ⊕ ((X ⊗ Y) ⊗ t m)
-      next m l =
-          sym (term (t m) (t (suc m)) (t (suc (suc m))) X Y)
-          ∙ ap (λ (z : ℕ). z ⊕ (((X ⊕ Y) ⊗ t (suc m)) ⊕ ((X ⊗ Y) ⊗ t m))) (f .none m l)
-          ∙ laws.zero-add O F (((X ⊕ Y) ⊗ t (suc m)) ⊕ ((X ⊗ Y) ⊗ t m))
+      next m l = follows (t m) (t (suc m)) (t (suc (suc m))) X Y (f .none m l)
 
       t2-is : t 2 ≡ ((X ⊕ Y) ⊗ t 1) ⊕ ((X ⊗ Y) ⊗ t 0)
       t2-is = next 0 (omega arith)

@@ -79,6 +79,12 @@ module _ (O : Ops) where
   abbrev pub Splits : ℕ → ℕ → ℕ → Type 0
   Splits u v x = (a b : ℕ) → In O a → In O b → a ⊕ b ≡ u → a ⊗ b ≡ v → (x ≡ a) ⊎ (x ≡ b)
 
+  -- u and v, where the sums are those of two cells, are the sum and the product of their places
+  pub record Quadratic (t : ℕ → ℕ) (u v : ℕ) : Type 0 where
+    pub some : t 0 ≡ 0 → t 1 ≡ 0 → ⊥
+    pub second : t 2 ≡ (u ⊗ t 1) ⊕ (v ⊗ t 0)
+    pub third : t 3 ≡ (u ⊗ t 2) ⊕ (v ⊗ t 1)
+
   -- z is one of the two with z z + z = c, wherever there are any
   abbrev pub HalfOf : ℕ → ℕ → Type 0
   HalfOf c z = (a : ℕ) → In O a → (a ⊗ a) ⊕ a ≡ c → (z ≡ a) ⊎ (z ≡ a ⊕ 1)

@@ -28,7 +28,8 @@ use Rattle.gf256.proofs.Field256.{field256, inv-is}
 use Rattle.errata.proofs.Sums.{drain-starts}
 use Rattle.errata.proofs.Values.{same-quotient}
 use Rattle.errata.specs.declared.Errata.{Errata}
-use Rattle.errata.specs.Errata.{at, Listed, Drained, Gathered, Guess, NoGuess, GuessedAs, Bytes5, Couple, Valued, cellsOf, valuesOf, Corrects, Beyond}
+use Rattle.errata.specs.Errata.{at, Left, Listed, Drained, Gathered, Guess, NoGuess}
+use Rattle.errata.specs.Errata.{GuessedAs, Bytes5, Couple, Valued, cellsOf, valuesOf, Corrects, Beyond}
 
 -- ---- cells after the marked ones
 
@@ -122,10 +123,10 @@ sum-at s r e (suc (suc (suc zero))) l = ap (λ (x : List ℕ). at x 3) e
 sum-at s r e (suc (suc (suc (suc zero)))) l = ap (λ (x : List ℕ). at x 4) e
 sum-at s r e (suc (suc (suc (suc (suc m))))) l = absurd (omega arith)
 
-pub left-in : (n : ℕ) (cells s t : List ℕ) (f : ℕ) → Bytes5 s → Listed n cells f → Drained n (take f cells) s t → f + 1 < 5 → at t 1 < 256
-left-in n cells s t f b L D l =
-    subst (λ (x : ℕ). x < 256) (sym (D .sum 1 (omega (arith, length-take-le f cells (omega (arith, L .few, L .room))))))
-    (filter.filt-in gf256 field256 (map (placeOf n) (take f cells)) (at s) b 1)
+pub left-in : (n : ℕ) (cells s t : List ℕ) (f : ℕ) → Bytes5 s → Listed n cells f → Drained n (take f cells) s t → Left t f
+left-in n cells s t f b L D m l =
+    subst (λ (x : ℕ). x < 256) (sym (D .sum m (omega (arith, length-take-le f cells (omega (arith, L .few, L .room))))))
+    (filter.filt-in gf256 field256 (map (placeOf n) (take f cells)) (at s) b m)
 
 module _ (marks s t r : List ℕ) (n f : ℕ) (erased : List ℕ) (L : Listed n erased f) (D : Drained n (take f erased) s t)
     (en : length marks ≡ n) (G : Gathered marks erased f) (er : length r ≡ length marks) (cr : Cells gf256 r) (es : s ≡ syndrome gf256 r) where

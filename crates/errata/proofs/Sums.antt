@@ -30,13 +30,8 @@ filtered x a b c d s ea eb ec ed = record { sum = go }
     go (suc (suc (suc zero))) l = ed
     go (suc (suc (suc (suc m)))) l = absurd (omega arith)
 
--- one place, and then another
 pub filter-one : (x : ℕ) (s r : List ℕ) → Filtered x s r → (m : ℕ) → m < 4 → at r m ≡ filt gf256 (x ∷ []) (at s) m
 filter-one x s r f m l = f .sum m l
-
-pub filter-two : (x y : ℕ) (s r u : List ℕ) → Filtered x s r → Filtered y r u → (m : ℕ) → m < 3 → at u m ≡ filt gf256 (x ∷ y ∷ []) (at s) m
-filter-two x y s r u f g m l =
-    g .sum m (omega arith) ∙ ap₂ (λ (a b : ℕ). bitXor a (times y b)) (f .sum (suc m) (omega arith)) (f .sum m (omega arith))
 
 -- a test of what is left, as a test of the filter
 pub zeros-to : (k : ℕ) (f g : ℕ → ℕ) → ((m : ℕ) → m < k → f m ≡ g m) → Zeros k f → Zeros k g

@@ -11,7 +11,7 @@ use Rattle.account.specs.Field.{power}
 use Rattle.account.specs.Code.{Cells, Clean, syndrome}
 use Rattle.account.specs.Reach.{Reach}
 use Rattle.account.specs.Errata.{Below, Distinct, filt, total, divided, solve, unweighed, Applied}
-use Rattle.account.specs.Search.{erasures, Zeros, Fits, CellOf, Found1, Found2, Joined, Splits}
+use Rattle.account.specs.Search.{erasures, Zeros, Fits, CellOf, Found1, Found2, Joined, Splits, Quadratic}
 use Rattle.gf256.specs.Gf256.{gf256, times}
 use Rattle.gf256.specs.Tables.{placeOf, inverseOf}
 use Rattle.errata.specs.declared.Errata.{Errata}
@@ -64,6 +64,13 @@ Both x y t k n ps r = Joined gf256 x y (at t) k n ps (r .p) (r .q)
 
 abbrev pub Split : ℕ → ℕ → ℕ → Type 0
 Split = Splits gf256
+
+-- the sums that are left beside f marked cells are bytes
+abbrev pub Left : List ℕ → ℕ → Type 0
+Left t f = (m : ℕ) → m + f < 5 → at t m < 256
+
+abbrev pub Places : List ℕ → ℕ → ℕ → Type 0
+Places t = Quadratic gf256 (at t)
 
 -- y is x times the power r of α
 pub record Ratio (x y r : ℕ) : Type 0 where

@@ -1,13 +1,16 @@
 // The errata of a word: at most five cells, each with what to add there, from the word's syndrome and its marked cells, which
 // are listed. The table is made once by an entry and lent.
+ghost use mathlib.Core.Path.{_≡_};
 ghost use mathlib.Core.List.{[], _∷_};
 ghost use Prim.Native.Nat.{suc, _+_, _<_, _≤_};
+ghost use lib.Bits.{bitXor};
 ghost use lib.ListN.{take};
-ghost use Rattle.account.specs.Errata.{Outside};
+ghost use Rattle.account.specs.Errata.{Outside, filt};
 ghost use Rattle.account.specs.Search.{Zeros};
+ghost use Rattle.gf256.specs.Gf256.{gf256};
 ghost use Rattle.gf256.specs.Tables.{Tables};
 ghost use Rattle.rules.specs.Says.{Says};
-ghost use Rattle.errata.specs.Errata.{at, Filtered, Listed, Drained, CellAt, One, Two, Both, Split, Ratio, Climbs};
+ghost use Rattle.errata.specs.Errata.{at, Filtered, Listed, Drained, CellAt, One, Two, Both, Split, Left, Places, Ratio, Climbs};
 ghost use Rattle.errata.specs.Errata.{NoneAlone, Divided, Solved, Unweighed, NotNone, NotOne, GuessedAs};
 ghost use Rattle.errata.specs.Errata.{Bytes5, Couple, Valued, FoundUnmarked, FoundWith};
 
@@ -191,7 +194,24 @@ fn split(tables: &[u8; 1022], u: u8, v: u8) -> u8
     gf256::product(tables, u, gf256::half(tables, c))
 }
 
-// The cells of the places x and y, if they fit; or n.
+// Whether the places x and y, whose sum is u, leave the first k sums nothing. Two of these follow from how u and v were made.
+fn joins(tables: &[u8; 1022], t: [u8; 5], k: usize, x: u8, y: u8, u: u8, v: u8) -> bool
+    requires { ⌜ Tables (now tables) × (2 ≤ k) × (k ≤ 3) × Left t 1 × (bitXor x y ≡ u) × Places t u v ⌝ }
+    ensures { λ r. ⌜ Says r (Zeros k (filt gf256 (x ∷ y ∷ []) (at t))) ⌝ }
+{
+    if gf256::product(tables, x, y) != v {
+        return false;
+    }
+    if k < 3 {
+        return true;
+    }
+    if t[4] != gf256::product(tables, u, t[3]) ^ gf256::product(tables, v, t[2]) {
+        return false;
+    }
+    true
+}
+
+// The cells of the places x and x + u, if they fit; or n.
 fn both(
     tables: &[u8; 1022],
     t: [u8; 5],
@@ -200,11 +220,13 @@ fn both(
     erased: [usize; 5],
     f: usize,
     x: u8,
-    y: u8,
+    u: u8,
+    v: u8,
 ) -> Pair
-    requires { ⌜ Tables (now tables) × (n ≤ 255) × (f ≤ 5) × (k ≤ 3) ⌝ }
-    ensures { λ r. ⌜ Both x y t k n (take f erased) r ⌝ }
+    requires { ⌜ Tables (now tables) × (n ≤ 255) × (f ≤ 5) × (2 ≤ k) × (k ≤ 3) × Left t 1 × Places t u v ⌝ }
+    ensures { λ r. ⌜ Both x (bitXor x u) t k n (take f erased) r ⌝ }
 {
+    let y = x ^ u;
     let p = cell(tables, x, n, erased, f);
     if n <= p {
         return Pair { p: n, q: n };
@@ -213,7 +235,7 @@ fn both(
     if n <= q {
         return Pair { p: n, q: n };
     }
-    if zeros(filter(tables, y, filter(tables, x, t)), k) {
+    if joins(tables, t, k, x, y, u, v) {
         return Pair { p, q };
     }
     Pair { p: n, q: n }
@@ -221,7 +243,7 @@ fn both(
 
 // The two cells that fit, by a quadratic; or n. No cell fits alone.
 fn two(tables: &[u8; 1022], t: [u8; 5], k: usize, n: usize, erased: [usize; 5], f: usize) -> Pair
-    requires { ⌜ Tables (now tables) × (n ≤ 255) × (f ≤ 5) × (2 ≤ k) × (k ≤ 3) × (at t 1 < 256) × NoneAlone t (suc k) n (take f erased) ⌝ }
+    requires { ⌜ Tables (now tables) × (n ≤ 255) × (f ≤ 5) × (2 ≤ k) × (k ≤ 3) × Left t 1 × NoneAlone t (suc k) n (take f erased) ⌝ }
     ensures { λ r. ⌜ Two t k n (take f erased) r ⌝ }
 {
     let det = gf256::product(tables, t[1], t[1]) ^ gf256::product(tables, t[0], t[2]);
@@ -243,7 +265,7 @@ fn two(tables: &[u8; 1022], t: [u8; 5], k: usize, n: usize, erased: [usize; 5], 
         i,
     );
     let x = split(tables, u, v);
-    both(tables, t, k, n, erased, f, x, x ^ u)
+    both(tables, t, k, n, erased, f, x, u, v)
 }
 
 // ---- values
@@ -323,7 +345,7 @@ pub struct Listing {
 
 // The f marked cells and after them those that are wrong, where t are the sums that are left: at first, none.
 fn guess(tables: &[u8; 1022], t: [u8; 5], n: usize, erased: [usize; 5], f: usize) -> Listing
-    requires { ⌜ Tables (now tables) × (f ≤ 5) × Listed n erased f × (f + 1 < 5 → at t 1 < 256) ⌝ }
+    requires { ⌜ Tables (now tables) × (f ≤ 5) × Listed n erased f × Left t f ⌝ }
     ensures { λ r. ⌜ GuessedAs (r .good) n (take f erased) t f (r .count) (r .cells) ⌝ }
 {
     let left = 5 - f;
@@ -346,7 +368,7 @@ fn guess(tables: &[u8; 1022], t: [u8; 5], n: usize, erased: [usize; 5], f: usize
 
 // Some are wrong, and one may be: it, or two.
 fn guess_one(tables: &[u8; 1022], t: [u8; 5], n: usize, erased: [usize; 5], f: usize) -> Listing
-    requires { ⌜ Tables (now tables) × (f ≤ 3) × Listed n erased f × (at t 1 < 256) × NotNone t f ⌝ }
+    requires { ⌜ Tables (now tables) × (f ≤ 3) × Listed n erased f × Left t f × NotNone t f ⌝ }
     ensures { λ r. ⌜ GuessedAs (r .good) n (take f erased) t f (r .count) (r .cells) ⌝ }
 {
     let left = 5 - f;
@@ -372,7 +394,7 @@ fn guess_one(tables: &[u8; 1022], t: [u8; 5], n: usize, erased: [usize; 5], f: u
 
 // One is not enough, and two may be wrong: those.
 fn guess_two(tables: &[u8; 1022], t: [u8; 5], n: usize, erased: [usize; 5], f: usize) -> Listing
-    requires { ⌜ Tables (now tables) × (f ≤ 1) × Listed n erased f × (at t 1 < 256) × NotNone t f × NotOne n (take f erased) t f ⌝ }
+    requires { ⌜ Tables (now tables) × (f ≤ 1) × Listed n erased f × Left t f × NotNone t f × NotOne n (take f erased) t f ⌝ }
     ensures { λ r. ⌜ GuessedAs (r .good) n (take f erased) t f (r .count) (r .cells) ⌝ }
 {
     let left = 5 - f;

@@ -36,7 +36,7 @@ guess-one-requires c κs =
       s .pre .0,
       omega (arith, c .if2 .left),
       s .pre .2,
-      s .pre .3 (omega (arith, c .if2 .left)),
+      s .pre .3,
       denied (Zeros (5 - s .args .f) (at (s .args .t))) (c .before .before .zeros .result) (c .before .if1 .left) (c .before .before .zeros .ensures),
     )
 

@@ -25,7 +25,7 @@ two-requires c κs =
       omega arith,
       omega arith,
       omega arith,
-      c .pre .3,
+      λ m l. c .pre .3 m (omega arith),
       λ p l f. c .pre .5 p l (subst (λ (m : ℕ). Fits gf256 (c .args .n) (take (c .args .f) (c .args .erased)) (at (c .args .t)) m (p ∷ [])) e f),
     )
 

@@ -1,8 +1,9 @@
 use mathlib.Core.Path.{refl, sym, ap, ap₂, _∙_}
 use Prim.Native.Nat.{ℕ}
+use native.Mathlib.Omega.{arith}
 use lib.Bits.{bitXor}
 use lib.ListN.{take}
-use Rattle.account.proofs.Locate.{det-some, sum-some, nowhere, proposed, found}
+use Rattle.account.proofs.Locate.{quadratic, det-some, sum-some, nowhere, proposed, found}
 use Rattle.gf256.specs.Gf256.{gf256, times}
 use Rattle.gf256.proofs.Field256.{field256}
 use Rattle.errata.specs.Errata.{at}
@@ -36,8 +37,8 @@ returns c =
     let k = s .args .k in
     let n = s .args .n in
     let ps = take (s .args .f) (s .args .erased) in
-    nowhere gf256 field256 t k n ps (s .pre .1) (s .pre .3) (s .pre .5) (s .pre .6)
-    (λ p q lp lq f. det-some gf256 field256 t k n ps (s .pre .1) (s .pre .3) (s .pre .5) (s .pre .6) p q lp lq f
+    nowhere gf256 field256 t k n ps (s .pre .1) (s .pre .3) (s .pre .5 1 (omega arith)) (s .pre .6)
+    (λ p q lp lq f. det-some gf256 field256 t k n ps (s .pre .1) (s .pre .3) (s .pre .5 1 (omega arith)) (s .pre .6) p q lp lq f
     (sym (ap₂ bitXor (c2 .product .ensures) (c .before .product2 .ensures)) ∙ c .if1 .taken))
 
 inverse-requires : tie.Need-inverse-requires
@@ -77,8 +78,8 @@ returns-2 c =
     let n = s .args .n in
     let ps = take (s .args .f) (s .args .erased) in
     let i = c4 .inverse .result in
-    nowhere gf256 field256 t k n ps (s .pre .1) (s .pre .3) (s .pre .5) (s .pre .6)
-    (λ p q lp lq f. sum-some gf256 field256 t k n ps (s .pre .1) (s .pre .3) (s .pre .5) (s .pre .6) p q lp lq f
+    nowhere gf256 field256 t k n ps (s .pre .1) (s .pre .3) (s .pre .5 1 (omega arith)) (s .pre .6)
+    (λ p q lp lq f. sum-some gf256 field256 t k n ps (s .pre .1) (s .pre .3) (s .pre .5 1 (omega arith)) (s .pre .6) p q lp lq f
     (bitXor (c7 .product .result) (c6 .product2 .result)) i (ap₂ bitXor (c7 .product .ensures) (c6 .product2 .ensures)) (c4 .inverse .ensures)
     (c .before .product5 .result) (c .before .product5 .ensures
     ∙ ap (λ (z : ℕ). times z i) (ap₂ bitXor (c3 .product3 .ensures) (c2 .product4 .ensures))) (c .if2 .taken))
@@ -108,7 +109,29 @@ split-requires : tie.Need-split-requires
 split-requires c κs = search needs
 
 both-requires : tie.Need-both-requires
-both-requires c κs = search needs
+both-requires c κs =
+    let c2 = c .before in
+    let c3 = c2 .before in
+    let c4 = c3 .before in
+    let c6 = c4 .before .before in
+    let c7 = c6 .before in
+    let c8 = c7 .before in
+    let c9 = c8 .before in
+    let c11 = c9 .before .before in
+    let c12 = c11 .before in
+    let s = c12 .before in
+    let i = c9 .inverse .result in (
+      s .pre .0,
+      s .pre .1,
+      s .pre .2,
+      s .pre .3,
+      s .pre .4,
+      s .pre .5,
+      quadratic gf256 field256 (at (s .args .t2)) (bitXor (c12 .product .result) (c11 .product2 .result)) i (c6 .product5 .result) (c2 .product8 .result)
+          (s .pre .5 2 (omega arith)) (s .pre .5 3 (omega arith)) (ap₂ bitXor (c12 .product .ensures) (c11 .product2 .ensures)) (c9 .inverse .ensures)
+          (c6 .product5 .ensures ∙ ap (λ (z : ℕ). times z i) (ap₂ bitXor (c8 .product3 .ensures) (c7 .product4 .ensures)))
+          (c2 .product8 .ensures ∙ ap (λ (z : ℕ). times z i) (ap₂ bitXor (c4 .product6 .ensures) (c3 .product7 .ensures))),
+    )
 
 returns-3 : tie.Need-returns-3
 returns-3 c =
@@ -133,8 +156,8 @@ returns-3 c =
     let x = c .before .split .result in
     let a = c .both .result .p in
     let b = c .both .result .q in
-    found gf256 field256 t k n ps (s .pre .1) (s .pre .3) (s .pre .5) (s .pre .6) x (bitXor x u) u a b refl (c5 .if2 .left) (search needs) (c .both .ensures)
-    (λ e p q lp lq f. proposed gf256 field256 t k n ps (s .pre .1) (s .pre .3) (s .pre .5) (s .pre .6) p q lp lq f
+    found gf256 field256 t k n ps (s .pre .1) (s .pre .3) (s .pre .5 1 (omega arith)) (s .pre .6) x (bitXor x u) u a b refl (c5 .if2 .left) (search needs) (c .both .ensures)
+    (λ e p q lp lq f. proposed gf256 field256 t k n ps (s .pre .1) (s .pre .3) (s .pre .5 1 (omega arith)) (s .pre .6) p q lp lq f
     (bitXor (c12 .product .result) (c11 .product2 .result)) i (ap₂ bitXor (c12 .product .ensures) (c11 .product2 .ensures)) (c9 .inverse .ensures)
     u v x (bitXor x u) a b
     (c6 .product5 .ensures ∙ ap (λ (z : ℕ). times z i) (ap₂ bitXor (c8 .product3 .ensures) (c7 .product4 .ensures)))

@@ -39,7 +39,7 @@ two-requires : tie.Need-two-requires
 two-requires c κs =
     let s = c .before .before .before .before in
     let a = c .before .alone in
-    (s .pre .0, s .pre .1, omega arith, omega arith, omega arith, s .pre .2 1, a .ensures .none (omega (arith, a .ensures .within, c .if2 .left)))
+    (s .pre .0, s .pre .1, omega arith, omega arith, omega arith, λ m l. s .pre .2 m, a .ensures .none (omega (arith, a .ensures .within, c .if2 .left)))
 
 returns-3 : tie.Need-returns-3
 returns-3 c =

@@ -41,7 +41,7 @@ pub(crate) fn search(
     requires { ⌜ Tables (now tables) × Listed (lane .len) erased f × (r < packedEnd) ⌝ }
     ensures { λ x. ⌜ SearchedBy (wordOf lane) r (lane .len) erased f x ⌝ }
 {
-    let s = remainder::syndrome_of(tables, r);
+    let s = remainder::syndrome_of(r);
     errata::find(tables, s, lane.len, erased, f)
 }
 

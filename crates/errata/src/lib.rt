@@ -169,12 +169,12 @@ fn alone(tables: &[u8; 1022], s: [u8; 5], n: usize) -> usize
     if s[1] == 0 {
         return n;
     }
-    let i = ratio(tables, s[0], s[1]);
-    if n <= i {
+    let e = ratio(tables, s[0], s[1]);
+    if n <= e {
         return n;
     }
-    if climbs(tables, s, i) {
-        return n - (i + 1);
+    if climbs(tables, s, e) {
+        return n - (e + 1);
     }
     n
 }

@@ -4,21 +4,26 @@ use mathlib.Core.Bool.{not}
 use mathlib.Core.List.{List}
 use Prim.Native.Nat.{ℕ, zero, suc, _+_, _*_, _-_, _^_, _≤_, _<_}
 use native.Mathlib.Numerals.{add-one}
-use native.Mathlib.Decide.{ℕ-discrete}
 use native.Mathlib.Omega.{arith}
 use lib.Bits.{bitOr, or-lt, or-add-and, and-le-l, and-le-r}
-use lib.Dec.{eqb}
+use lib.Dec.{eqb, T}
 use lib.ListN.{length, getD}
-use Rattle.account.specs.Reach.{countTo, isMarked, oneIf}
-use Rattle.code.specs.Marks.{Tallied}
+use borrow.Author.Count.{below-more}
+use Rattle.account.specs.Reach.{countTo, isMarked, oneIf, GoodMarks}
+use Rattle.account.proofs.Cells.{count-none}
+use Rattle.code.specs.Marks.{Tallied, AnyOf, SumOf}
 
--- the first i marks
-pub record Tallying (marks : List ℕ) (any sum i : ℕ) : Type 0 where
+-- the first i marks, or-ed
+pub record Oring (marks : List ℕ) (x i : ℕ) : Type 0 where
   pub within : i ≤ length marks
-  pub small : sum ≤ 255 * i
-  pub good : any ≤ 1 → (p : ℕ) → p < i → getD marks p 0 ≤ 1
-  pub bad : ((p : ℕ) → p < i → getD marks p 0 ≤ 1) → any ≤ 1
-  pub count : any ≤ 1 → sum ≡ countTo (isMarked marks) i
+  pub each : (p : ℕ) → p < i → getD marks p 0 ≤ x
+  pub bad : ((p : ℕ) → p < i → getD marks p 0 ≤ 1) → x ≤ 1
+
+-- and summed
+pub record Summing (marks : List ℕ) (x i : ℕ) : Type 0 where
+  pub within : i ≤ length marks
+  pub small : x ≤ 255 * i
+  pub count : GoodMarks marks → x ≡ countTo (isMarked marks) i
 
 or-left : (a b : ℕ) → a ≤ bitOr a b
 or-left a b = omega (arith, or-add-and a b, and-le-r a b)
@@ -29,15 +34,25 @@ or-right a b = omega (arith, or-add-and a b, and-le-l a b)
 or-small : (a b : ℕ) → a ≤ 1 → b ≤ 1 → bitOr a b ≤ 1
 or-small a b ha hb = let h : bitOr a b < 2 ^ 1 = or-lt 1 a b (omega arith) (omega arith) in omega arith
 
-pub tally-starts : (marks : List ℕ) → Tallying marks 0 0 0
-unfolding countTo
-tally-starts marks = record {
+pub or-starts : (marks : List ℕ) → Oring marks 0 0
+or-starts marks = record { within = omega arith; each = λ p l. absurd (omega arith); bad = λ h. omega arith }
+
+pub or-goes : (marks : List ℕ) (x i : ℕ) → i < length marks → Oring marks x i → Oring marks (bitOr x (getD marks i 0)) (i + 1)
+or-goes marks x i l O = record {
   within = omega arith;
-  small = omega arith;
-  good = λ h p l. absurd (omega arith);
-  bad = λ h. omega arith;
-  count = λ h. refl;
+  each = below-more _ i (λ p k. omega (arith, O .each p k, or-left x (getD marks i 0))) (or-right x (getD marks i 0));
+  bad = λ h. or-small x (getD marks i 0) (O .bad (λ p k. h p (omega arith))) (h i (omega arith));
 }
+
+pub or-ends : (marks : List ℕ) (x i : ℕ) → length marks ≤ i → Oring marks x i → AnyOf marks x
+or-ends marks x i h O = record {
+  good = λ g p l. omega (arith, O .each p (omega arith));
+  bad = λ g. O .bad (λ p l. g p (omega (arith, O .within)));
+  none = λ z. count-none (isMarked marks) (length marks) (λ p l. unset (getD marks p 0) (omega (arith, O .each p (omega arith))));
+}
+  where
+    unset : (m : ℕ) → m ≡ 0 → T (not (not (eqb m 0)))
+    unset m e = subst (λ (k : ℕ). T (not (not (eqb k 0)))) (sym e) tt
 
 -- a mark counts itself
 one-mark : (m : ℕ) → m ≤ 1 → m ≡ oneIf (not (eqb m 0))
@@ -45,33 +60,25 @@ one-mark zero h = refl
 one-mark (suc zero) h = refl
 one-mark (suc (suc m)) h = absurd (omega arith)
 
-pub tally-goes : (marks : List ℕ) (any sum i : ℕ) → i < length marks → getD marks i 0 < 256 → Tallying marks any sum i
-    → Tallying marks (bitOr any (getD marks i 0)) (sum + getD marks i 0) (i + 1)
+pub sum-starts : (marks : List ℕ) → Summing marks 0 0
 unfolding countTo
-tally-goes marks any sum i l b T = record {
+sum-starts marks = record { within = omega arith; small = omega arith; count = λ g. refl }
+
+pub sum-goes : (marks : List ℕ) (x i : ℕ) → i < length marks → getD marks i 0 < 256 → Summing marks x i → Summing marks (x + getD marks i 0) (i + 1)
+unfolding countTo
+sum-goes marks x i l b S = record {
   within = omega arith;
-  small = omega (arith, T .small);
-  good = λ h p k. each h p k (ℕ-discrete p i);
-  bad = λ h. or-small any m (T .bad (λ p k. h p (omega arith))) (h i (omega arith));
-  count = λ h. ap₂ (λ (a c : ℕ). a + c) (T .count (below h)) (one-mark m (omega (arith, or-right any m))) ∙ ap (countTo (isMarked marks)) (sym (add-one i));
+  small = omega (arith, S .small);
+  count = λ g. ap₂ (λ (a c : ℕ). a + c) (S .count g) (one-mark (getD marks i 0) (g i l)) ∙ ap (countTo (isMarked marks)) (sym (add-one i));
 }
-  where
-    m : ℕ
-    m = getD marks i 0
 
-    below : bitOr any m ≤ 1 → any ≤ 1
-    below h = omega (arith, or-left any m)
+pub sum-ends : (marks : List ℕ) (x i : ℕ) → length marks ≤ i → Summing marks x i → SumOf marks x
+sum-ends marks x i h S = let e : i ≡ length marks = omega (arith, S .within) in
+    record { count = λ g. S .count g ∙ ap (countTo (isMarked marks)) e }
 
-    each : bitOr any m ≤ 1 → (p : ℕ) → p < i + 1 → Dec (p ≡ i) → getD marks p 0 ≤ 1
-    each h p k (yes e) = subst (λ (q : ℕ). getD marks q 0 ≤ 1) (sym e) (omega (arith, or-right any m))
-    each h p k (no ne) = T .good (below h) p (omega arith)
+-- both
+pub tally-none : (marks : List ℕ) (x : ℕ) → AnyOf marks x → x ≡ 0 → Tallied marks (record { any = 0; sum = 0 })
+tally-none marks x A z = record { good = λ _. A .good (omega arith); bad = λ n. absurd (n (omega arith)); count = λ _. sym (A .none z) }
 
-pub tally-ends : (marks : List ℕ) (any sum i : ℕ) → length marks ≤ i → Tallying marks any sum i → Tallied marks (record { any = any; sum = sum })
-tally-ends marks any sum i h T = record {
-  good = λ g p l. T .good g p (omega (arith, T .within));
-  bad = λ g k. g (T .bad (λ p l. k p (omega (arith, T .within))));
-  count = λ g. T .count g ∙ ap (countTo (isMarked marks)) same;
-}
-  where
-    same : i ≡ length marks
-    same = omega (arith, T .within)
+pub tallied : (marks : List ℕ) (x y : ℕ) → AnyOf marks x → SumOf marks y → Tallied marks (record { any = x; sum = y })
+tallied marks x y A S = record { good = A .good; bad = λ n g. n (A .bad g); count = λ h. S .count (A .good h) }

@@ -25,6 +25,16 @@ pub record ListedIn (R l : ℕ) (marks : List ℕ) (r : Listed) : Type 0 where
 
 -- ---- parts
 
+-- the marks or-ed together: at most 1 just where each is, and zero only where none is set
+pub record AnyOf (marks : List ℕ) (a : ℕ) : Type 0 where
+  pub good : a ≤ 1 → GoodMarks marks
+  pub bad : GoodMarks marks → a ≤ 1
+  pub none : a ≡ 0 → countTo (isMarked marks) (length marks) ≡ 0
+
+-- their sum counts those that are set, where each is at most 1
+pub record SumOf (marks : List ℕ) (x : ℕ) : Type 0 where
+  pub count : GoodMarks marks → x ≡ countTo (isMarked marks) (length marks)
+
 -- i is put after the first k of p, if its mark is set and there is room
 pub record Pushed (mark i : ℕ) (p : List ℕ) (k : ℕ) (q : List ℕ) (r : ℕ) : Type 0 where
   pub none : mark ≡ 0 → (q ≡ p) × (r ≡ k)

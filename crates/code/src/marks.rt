@@ -1,7 +1,7 @@
 // Marks: one byte for each cell, 0 where it is read and 1 where it is unreadable.
 ghost use Prim.Native.Nat.{_≤_, _<_};
 ghost use lib.ListN.{length};
-ghost use Rattle.code.specs.Marks.{Tallied, Pushed, ListedIn};
+ghost use Rattle.code.specs.Marks.{Tallied, AnyOf, SumOf, Pushed, ListedIn};
 
 // All marks or-ed together, and their sum.
 pub struct Marked {
@@ -9,20 +9,46 @@ pub struct Marked {
     pub sum: usize,
 }
 
-// One pass with no branch, so that it can run wide. The bound, more than a strip has, keeps the sum from overflowing.
+// All marks or-ed together. One pass with no branch and nothing else in it, so that it runs wide.
+fn any(marks: &[u8]) -> u8
+    ensures { λ r. ⌜ AnyOf (now (marks .entry)) r ⌝ }
+{
+    let mut x: u8 = 0;
+    let mut i = 0;
+    while i < marks.len() {
+        x = x | marks[i];
+        i += 1;
+    }
+    x
+}
+
+// The sum of all marks. The bound, more than a strip has, keeps it from overflowing.
+fn sum(marks: &[u8]) -> usize
+    requires { ⌜ length (now marks) ≤ 4096 ⌝ }
+    ensures { λ r. ⌜ SumOf (now (marks .entry)) r ⌝ }
+{
+    let mut x: usize = 0;
+    let mut i = 0;
+    while i < marks.len() {
+        x += marks[i] as usize;
+        i += 1;
+    }
+    x
+}
+
+// Both; where no mark is set there is nothing to sum.
 pub fn tally(marks: &[u8]) -> Marked
     requires { ⌜ length (now marks) ≤ 4096 ⌝ }
     ensures { λ r. ⌜ Tallied (now (marks .entry)) r ⌝ }
 {
-    let mut any: u8 = 0;
-    let mut sum: usize = 0;
-    let mut i = 0;
-    while i < marks.len() {
-        any = any | marks[i];
-        sum += marks[i] as usize;
-        i += 1;
+    let any = any(marks);
+    if any == 0 {
+        return Marked { any: 0, sum: 0 };
     }
-    Marked { any, sum }
+    Marked {
+        any,
+        sum: sum(marks),
+    }
 }
 
 // The marked cells of a lane, the last first; where there are more than five, the count is six and the cells are of no account.

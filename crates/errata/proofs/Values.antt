@@ -7,7 +7,7 @@ use native.Mathlib.Numerals.{add-one}
 use native.Mathlib.Omega.{arith}
 use lib.Bits.{bitXor}
 use lib.ListN.{length, getD, take, drop, set, length-set}
-use lib.Seq.{slice, slice-empty, slice-cons, length-slice, take-suc-set, take-set-lt, drop-set-lt, drop-append-le, getD-set-same, length-take-le, getD-take}
+use lib.Seq.{slice, slice-empty, slice-cons, length-slice, take-suc-set, take-set-lt, drop-set-lt, drop-append-le, getD-set-same, getD-set-other, length-take-le, getD-take}
 use Rattle.account.specs.Errata.{Outside, Distinct, total, divided, solve, unweighed}
 use Rattle.account.proofs.Powers as powers
 use Rattle.account.proofs.Filter as filter
@@ -15,7 +15,8 @@ use Rattle.account.proofs.Solve.{solve-near}
 use Rattle.gf256.specs.Gf256.{gf256, times}
 use Rattle.gf256.specs.Tables.{placeOf, inverseOf}
 use Rattle.gf256.proofs.Field256.{field256, inverse-right}
-use Rattle.errata.specs.Errata.{at, Filtered, Listed, Divided, Solved, Unweighed}
+use Rattle.rules.proofs.Laws.{either}
+use Rattle.errata.specs.Errata.{at, Sieved, Listed, Divided, Solved, Unweighed}
 use Rattle.errata.proofs.Sums.{cell-below}
 
 abbrev div : ℕ → List ℕ → List ℕ → List ℕ
@@ -29,6 +30,10 @@ same-quotient u a i ha na e =
     ∙ ap (times u) (sym (field256 .mul-assoc i a (inverseOf a)) ∙ ap (λ (y : ℕ). times y (inverseOf a)) (field256 .mul-comm i a ∙ e)
     ∙ field256 .mul-comm 1 (inverseOf a))
     ∙ sym (field256 .mul-assoc u (inverseOf a) 1) ∙ field256 .mul-one (times u (inverseOf a)) (field256 .in-mul u (inverseOf a))
+
+positive : (a : ℕ) → a ≢ 0 → 0 < a
+positive zero ne = absurd (ne refl)
+positive (suc a) ne = omega arith
 
 -- ---- parts of a list that is written to
 
@@ -50,6 +55,48 @@ set-from : (i k : ℕ) (l : List ℕ) (v : ℕ) → i < k → k ≤ length l →
 set-from i k l v h e =
     from i k (set l i v) h (omega (arith, length-set l i v))
     ∙ ap₂ (λ (x : ℕ) (xs : List ℕ). x ∷ xs) (getD-set-same l i v 0 (omega arith)) (after i k l v h)
+
+-- ---- a place filtered out, from the last sum on
+
+-- the sums from m on are filtered
+pub record Sieving (x i k : ℕ) (s r : List ℕ) (m : ℕ) : Type 0 where
+  pub low : i < m
+  pub high : m ≤ k
+  pub room : length r ≡ 5
+  pub same : (p : ℕ) → p < m → at r p ≡ at s p
+  pub done : (p : ℕ) → m ≤ suc p → suc p < k → at r (suc p) ≡ bitXor (at s (suc p)) (times x (at s p))
+
+pub sieve-starts : (x i k : ℕ) (s : List ℕ) → i < k → length s ≡ 5 → Sieving x i k s s k
+sieve-starts x i k s h e = record {
+  low = h;
+  high = omega arith;
+  room = e;
+  same = λ p l. refl;
+  done = λ p l g. absurd (omega arith);
+}
+
+pub sieve-goes : (x i k : ℕ) (s r : List ℕ) (m a b y : ℕ) → k ≤ 5 → i + 1 < m → a + 1 ≡ m → b + 1 ≡ a → Sieving x i k s r m → y ≡ times x (at r b)
+    → Sieving x i k s (set r a (bitXor (at r a) y)) a
+sieve-goes x i k s r m a b y few h ha hb S e = record {
+  low = omega arith;
+  high = omega (arith, S .high);
+  room = length-set r a w ∙ S .room;
+  same = λ p l. getD-set-other r a p w 0 (λ q. omega (arith, q)) ∙ S .same p (omega arith);
+  done = λ p l g. either (at (set r a w) (suc p) ≡ bitXor (at s (suc p)) (times x (at s p))) (suc p - a) (λ z. here p (omega (arith, z)) (omega (arith, z)))
+      (λ n. getD-set-other r a (suc p) w 0 (λ q. n (omega (arith, q))) ∙ S .done p (omega (arith, positive (suc p - a) n)) g);
+}
+  where
+    w : ℕ
+    w = bitXor (at r a) y
+
+    here : (p : ℕ) → suc p ≡ a → p ≡ b → at (set r a w) (suc p) ≡ bitXor (at s (suc p)) (times x (at s p))
+    here p q q′ =
+        ap (at (set r a w)) q ∙ getD-set-same r a w 0 (omega (arith, S .room, S .high))
+        ∙ ap₂ bitXor (S .same a (omega arith)) (e ∙ ap (times x) (S .same b (omega arith)))
+        ∙ sym (ap₂ (λ (z z′ : ℕ). bitXor (at s z) (times x (at s z′))) q q′)
+
+pub sieve-ends : (x i k : ℕ) (s r : List ℕ) (m : ℕ) → m ≤ i + 1 → Sieving x i k s r m → Sieved x i k s r
+sieve-ends x i k s r m h S = record { room = S .room; sum = λ p l g. S .done p (omega arith) g }
 
 -- ---- two listed cells
 
@@ -103,10 +150,6 @@ module _ (n : ℕ) (cells : List ℕ) (k : ℕ) (L : Listed n cells k) where
 
   pub apart-by : (i j x y : ℕ) → i < j → j < k → x ≡ P n cells i → y ≡ P n cells j → 0 < bitXor y x
   apart-by i j x y h l ex ey = positive (bitXor y x) (λ e. apart i j h l (ap₂ bitXor (sym ey) (sym ex) ∙ e))
-    where
-      positive : (a : ℕ) → a ≢ 0 → 0 < a
-      positive zero ne = absurd (ne refl)
-      positive (suc a) ne = omega arith
 
   -- ---- dividing
 
@@ -172,7 +215,7 @@ module _ (n : ℕ) (cells : List ℕ) (k : ℕ) (L : Listed n cells k) where
   -- ---- solving
 
   pub solve-none : (i : ℕ) (s r : List ℕ) → k ≤ i → i ≤ k → Solved n cells i k s r
-  solve-none i s r h g = none r ∙ sym (ap (λ (l : List ℕ). solve gf256 inverseOf (map (placeOf n) l) (at s)) (none cells))
+  solve-none i s r h g = none r ∙ sym (ap (λ (l : List ℕ). solve gf256 inverseOf (map (placeOf n) l) (λ m. at s (i + m))) (none cells))
     where
       same : i ≡ k
       same = omega arith
@@ -180,22 +223,58 @@ module _ (n : ℕ) (cells : List ℕ) (k : ℕ) (L : Listed n cells k) where
       none : (l : List ℕ) → slice i k l ≡ []
       none l = ap (λ (m : ℕ). slice m k l) same ∙ slice-empty k l
 
-  pub solve-step : (i x : ℕ) (s t v r : List ℕ) → i < k → x ≡ P n cells i → Filtered x s t → Solved n cells (i + 1) k t v → Divided n cells i k v (at s 0) r
+  -- at most one
+  pub solve-last : (i : ℕ) (s : List ℕ) → k ≤ i + 1 → i ≤ k → length s ≡ 5 → Solved n cells i k s s
+  solve-last i s h g e = either (Solved n cells i k s s) (k - i) (λ z. solve-none i s s (omega (arith, z)) g) (λ z. one (omega (arith, positive (k - i) z)))
+    where
+      first : i ≡ i + 0
+      first = omega arith
+
+      none : k ≡ i + 1 → (l : List ℕ) → slice (i + 1) k l ≡ []
+      none q l = ap (λ (m : ℕ). slice m k l) (sym q) ∙ slice-empty k l
+
+      one : k ≡ i + 1 → Solved n cells i k s s
+      one q =
+          from i k s (omega arith) (omega (arith, L .few))
+          ∙ ap₂ (λ (a : ℕ) (vs : List ℕ). a ∷ vs) (ap (at s) first ∙ sym (field256 .add-zero (at s (i + 0)))) (none q s)
+          ∙ sym (ap (λ (l : List ℕ). solve gf256 inverseOf l (λ m. at s (i + m)))
+          (ys-cons i (omega arith) ∙ ap (λ (l : List ℕ). P n cells i ∷ map (placeOf n) l) (none q cells)))
+
+  pub solve-step : (i x : ℕ) (s t v r : List ℕ) → i < k → x ≡ P n cells i → Sieved x i k s t → Solved n cells (i + 1) k t v → Divided n cells i k v (at s i) r
       → Solved n cells i k s r
   solve-step i x s t v r h ex f S D =
-      D ∙ ap (λ (vs : List ℕ). bitXor (at s 0) (total gf256 (div (P n cells i) (ys n cells k (i + 1)) vs)) ∷ div (P n cells i) (ys n cells k (i + 1)) vs) inner
-      ∙ ap (λ (xs : List ℕ). solve gf256 inverseOf xs (at s)) (sym (ys-cons i h))
+      D ∙ ap₂ (λ (a : ℕ) (vs : List ℕ). bitXor a (total gf256 (div (P n cells i) (ys n cells k (i + 1)) vs)) ∷ div (P n cells i) (ys n cells k (i + 1)) vs)
+      (ap (at s) first) inner
+      ∙ ap (λ (xs : List ℕ). solve gf256 inverseOf xs (λ m. at s (i + m))) (sym (ys-cons i h))
     where
-      inner : slice (i + 1) k v ≡ solve gf256 inverseOf (ys n cells k (i + 1)) (λ m. bitXor (at s (suc m)) (times (P n cells i) (at s m)))
+      first : i ≡ i + 0
+      first = omega arith
+
+      before : (m : ℕ) → i + 1 + m ≡ suc (i + m)
+      before m = omega arith
+
+      behind : (m : ℕ) → suc (i + m) ≡ i + suc m
+      behind m = omega arith
+
+      inner : slice (i + 1) k v ≡ solve gf256 inverseOf (ys n cells k (i + 1)) (λ m. bitXor (at s (i + suc m)) (times (P n cells i) (at s (i + m))))
       inner =
-          S ∙ solve-near gf256 field256 inverseOf (ys n cells k (i + 1)) (at t) (λ m. bitXor (at s (suc m)) (times (P n cells i) (at s m)))
-          (λ m l. f .sum m (omega (
+          S ∙ solve-near gf256 field256 inverseOf (ys n cells k (i + 1)) (λ m. at t (i + 1 + m))
+          (λ m. bitXor (at s (i + suc m)) (times (P n cells i) (at s (i + m))))
+          (λ m l. ap (at t) (before m) ∙ f .sum (i + m) (omega arith) (omega (
             arith,
+            l,
             filter.length-map (placeOf n) (slice (i + 1) k cells),
             length-slice (i + 1) k cells (omega (arith, L .few, L .room)),
-            L .few,
           ))
-          ∙ ap (λ (z : ℕ). bitXor (at s (suc m)) (times z (at s m))) ex)
+          ∙ ap₂ (λ (a z : ℕ). bitXor (at s a) (times z (at s (i + m)))) (behind m) ex)
+
+  -- from the first cell on
+  pub solve-all : (s r : List ℕ) → Solved n cells 0 k s r → take k r ≡ solve gf256 inverseOf (map (placeOf n) (take k cells)) (at s)
+  solve-all s r S =
+      S ∙ solve-near gf256 field256 inverseOf (map (placeOf n) (take k cells)) (λ m. at s (0 + m)) (at s) (λ m l. ap (at s) (zero-plus m))
+    where
+      zero-plus : (m : ℕ) → 0 + m ≡ m
+      zero-plus m = omega arith
 
   -- ---- the weights taken off
 

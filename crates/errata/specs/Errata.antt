@@ -116,14 +116,20 @@ GuessedAs false n ps t f count cells = NoGuess n ps t f
 
 -- ---- values
 
+-- x filtered out of the sums s at i .. k - 1, all but the first of them
+pub record Sieved (x i k : ℕ) (s r : List ℕ) : Type 0 where
+  pub room : length r ≡ 5
+  pub sum : (m : ℕ) → i ≤ m → suc m < k → at r (suc m) ≡ bitXor (at s (suc m)) (times x (at s m))
+
 -- the values at the cells after i, divided, and before them what is left of the first sum
 abbrev pub Divided : ℕ → List ℕ → ℕ → ℕ → List ℕ → ℕ → List ℕ → Type 0
 Divided n cells i k v s0 r =
     slice i k r ≡ bitXor s0 (total gf256 (divided gf256 inverseOf (placeOf n (getD cells i 0)) (map (placeOf n) (slice (i + 1) k cells)) (slice (i + 1) k v)))
     ∷ divided gf256 inverseOf (placeOf n (getD cells i 0)) (map (placeOf n) (slice (i + 1) k cells)) (slice (i + 1) k v)
 
+-- the values at the cells from i on that give the sums s from i on
 abbrev pub Solved : ℕ → List ℕ → ℕ → ℕ → List ℕ → List ℕ → Type 0
-Solved n cells i k s r = slice i k r ≡ solve gf256 inverseOf (map (placeOf n) (slice i k cells)) (at s)
+Solved n cells i k s r = slice i k r ≡ solve gf256 inverseOf (map (placeOf n) (slice i k cells)) (λ m. at s (i + m))
 
 abbrev pub Unweighed : ℕ → List ℕ → ℕ → List ℕ → List ℕ → Type 0
 Unweighed n cells k u r = take k r ≡ unweighed gf256 (map (placeOf n) (take k cells)) (take k u)

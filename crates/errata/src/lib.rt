@@ -4,14 +4,14 @@ ghost use mathlib.Core.Path.{_≡_};
 ghost use mathlib.Core.List.{[], _∷_};
 ghost use Prim.Native.Nat.{suc, _+_, _<_, _≤_};
 ghost use lib.Bits.{bitXor};
-ghost use lib.ListN.{take};
+ghost use lib.ListN.{length, take};
 ghost use Rattle.account.specs.Errata.{Outside, filt};
 ghost use Rattle.account.specs.Search.{Zeros};
 ghost use Rattle.gf256.specs.Gf256.{gf256};
 ghost use Rattle.gf256.specs.Tables.{Tables};
 ghost use Rattle.rules.specs.Says.{Says};
 ghost use Rattle.errata.specs.Errata.{at, Filtered, Listed, Drained, CellAt, One, Two, Both, Split, Left, Places, Ratio, Climbs};
-ghost use Rattle.errata.specs.Errata.{NoneAlone, Divided, Solved, Unweighed, NotNone, NotOne, GuessedAs};
+ghost use Rattle.errata.specs.Errata.{NoneAlone, Sieved, Divided, Solved, Unweighed, NotNone, NotOne, GuessedAs};
 ghost use Rattle.errata.specs.Errata.{Bytes5, Couple, Valued, FoundUnmarked, FoundWith};
 
 // At most five cells, each with what to add there.
@@ -270,6 +270,18 @@ fn two(tables: &[u8; 1022], t: [u8; 5], k: usize, n: usize, erased: [usize; 5], 
 
 // ---- values
 
+// The sums v[i ..], the place x filtered out of all but the first.
+fn sieve(tables: &[u8; 1022], x: u8, i: usize, k: usize, v: &mut [u8; 5])
+    requires { ⌜ Tables (now tables) × (i < k) × (k ≤ 5) × (length (now v) ≡ 5) ⌝ }
+    ensures { λ _. ⌜ Sieved x i k (now (v .entry)) (now (v .exit)) ⌝ }
+{
+    let mut m = k;
+    while i + 1 < m {
+        m -= 1;
+        v[m] = v[m] ^ gf256::product(tables, x, v[m - 1]);
+    }
+}
+
 // The values v after cell i, each divided by what its place and that of cell i differ by; at i what is left of s0.
 fn divide(
     tables: &[u8; 1022],
@@ -277,61 +289,52 @@ fn divide(
     n: usize,
     i: usize,
     k: usize,
-    v: [u8; 5],
     s0: u8,
-) -> [u8; 5]
-    requires { ⌜ Tables (now tables) × Listed n (now cells) k × (i < k) ⌝ }
-    ensures { λ r. ⌜ Divided n (now (cells .entry)) i k v s0 r ⌝ }
+    v: &mut [u8; 5],
+)
+    requires { ⌜ Tables (now tables) × Listed n (now cells) k × (i < k) × (length (now v) ≡ 5) ⌝ }
+    ensures { λ _. ⌜ Divided n (now (cells .entry)) i k (now (v .entry)) s0 (now (v .exit)) × (length (now (v .exit)) ≡ 5) ⌝ }
 {
     let x = gf256::place(tables, n, cells[i]);
-    let mut r = v;
     let mut sum = s0;
     let mut j = i + 1;
     while j < k {
         let y = gf256::place(tables, n, cells[j]);
-        let u = gf256::product(tables, r[j], gf256::inverse(tables, y ^ x));
-        r[j] = u;
+        let u = gf256::product(tables, v[j], gf256::inverse(tables, y ^ x));
+        v[j] = u;
         sum = sum ^ u;
         j += 1;
     }
-    r[i] = sum;
-    r
+    v[i] = sum;
 }
 
-// The values at the cells i .. k - 1 that give the sums s: cell i is filtered out, the others are solved, and divided again.
-fn solve(
-    tables: &[u8; 1022],
-    cells: &[usize; 5],
-    n: usize,
-    i: usize,
-    k: usize,
-    s: [u8; 5],
-) -> [u8; 5]
-    requires { ⌜ Tables (now tables) × Listed n (now cells) k × (i ≤ k) ⌝ }
-    ensures { λ r. ⌜ Solved n (now (cells .entry)) i k s r ⌝ }
+// The sums v[i ..] become the values at the cells i .. k - 1 that give them: cell i is filtered out, the others are solved, and
+// divided again. A single sum is the value.
+fn solve(tables: &[u8; 1022], cells: &[usize; 5], n: usize, i: usize, k: usize, v: &mut [u8; 5])
+    requires { ⌜ Tables (now tables) × Listed n (now cells) k × (i ≤ k) × (length (now v) ≡ 5) ⌝ }
+    ensures { λ _. ⌜ Solved n (now (cells .entry)) i k (now (v .entry)) (now (v .exit)) × (length (now (v .exit)) ≡ 5) ⌝ }
 {
-    if k <= i {
-        return s;
+    if k <= i + 1 {
+        return;
     }
     let x = gf256::place(tables, n, cells[i]);
-    let t = filter(tables, x, s);
-    let v = solve(tables, cells, n, i + 1, k, t);
-    divide(tables, cells, n, i, k, v, s[0])
+    let s0 = v[i];
+    sieve(tables, x, i, k, v);
+    solve(tables, cells, n, i + 1, k, v);
+    divide(tables, cells, n, i, k, s0, v);
 }
 
 // Each of the first k values times the square of its place: S_-2 weighs a cell by the inverse of that.
-fn unweigh(tables: &[u8; 1022], cells: &[usize; 5], n: usize, k: usize, u: [u8; 5]) -> [u8; 5]
-    requires { ⌜ Tables (now tables) × Listed n (now cells) k ⌝ }
-    ensures { λ r. ⌜ Unweighed n (now (cells .entry)) k u r ⌝ }
+fn unweigh(tables: &[u8; 1022], cells: &[usize; 5], n: usize, k: usize, v: &mut [u8; 5])
+    requires { ⌜ Tables (now tables) × Listed n (now cells) k × (length (now v) ≡ 5) ⌝ }
+    ensures { λ _. ⌜ Unweighed n (now (cells .entry)) k (now (v .entry)) (now (v .exit)) × (length (now (v .exit)) ≡ 5) ⌝ }
 {
-    let mut r = u;
     let mut j = 0;
     while j < k {
         let x = gf256::place(tables, n, cells[j]);
-        r[j] = gf256::product(tables, gf256::product(tables, r[j], x), x);
+        v[j] = gf256::product(tables, gf256::product(tables, v[j], x), x);
         j += 1;
     }
-    r
 }
 
 // ---- the search
@@ -424,8 +427,9 @@ fn valued(tables: &[u8; 1022], s: [u8; 5], cells: [usize; 5], k: usize, n: usize
     ensures { λ e. ⌜ Valued n cells k s e ⌝ }
 {
     let own = cells;
-    let u = solve(tables, &own, n, 0, k, s);
-    let values = unweigh(tables, &own, n, k, u);
+    let mut values = s;
+    solve(tables, &own, n, 0, k, &mut values);
+    unweigh(tables, &own, n, k, &mut values);
     Errata {
         count: k,
         cells: own,

@@ -1,3 +1,5 @@
+use mathlib.Core.Path.{_∙_}
+use lib.ListN.{length-set}
 use Prim.Native.Nat.{_-_}
 use native.Mathlib.Omega.{arith}
 use borrow.Author.Needs.{needs}
@@ -7,16 +9,16 @@ use Rattle.errata.proofs.divide.Statement.{statement}
 use Rattle.errata.proofs.divide.Tie as tie
 
 abbrev Inv-loop : tie.InvT-loop
-Inv-loop tables cells n i k s0 x r₀ sum₀ j₀ r sum j = Dividing n cells k i r₀ s0 r sum j
+Inv-loop tables cells n i k s0 v₀ x sum₀ j₀ v sum j = Dividing n cells k i v₀ s0 v sum j
 
 abbrev μ-loop : tie.MeasureT-loop
-μ-loop tables cells n i k s0 x r₀ sum₀ j₀ r sum j = k - j
+μ-loop tables cells n i k s0 v₀ x sum₀ j₀ v sum j = k - j
 
 mul-place : tie.Need-mul-place Inv-loop μ-loop
 mul-place c = search needs
 
 element-copy-out-place : tie.Need-element-copy-out-place Inv-loop μ-loop
-element-copy-out-place c = omega (arith, c .pre .1 .few, c .pre .1 .room)
+element-copy-out-place c = omega (arith, c .pre .1 .few)
 
 place-requires : tie.Need-place-requires Inv-loop μ-loop
 place-requires c κs =
@@ -29,65 +31,68 @@ add-j c = omega (arith, c .before .before .pre .1 .few)
 loop-holds : tie.Need-loop-holds Inv-loop μ-loop
 loop-holds c =
     let s = c .before .before in
-    divide-starts (s .args .n) (s .args .cells .now) (s .args .k) (s .pre .1) (s .args .i) (s .args .v) (s .args .s0) (s .pre .2) (search needs)
+    divide-starts (s .args .n) (s .args .cells .now) (s .args .k) (s .pre .1) (s .args .i) (s .args .v .now) (s .args .s0) (s .pre .2) (s .pre .3)
 
 mul-place-2 : tie.Need-mul-place-2 Inv-loop μ-loop
 mul-place-2 c = search needs
 
 element-copy-out-place-2 : tie.Need-element-copy-out-place-2 Inv-loop μ-loop
-element-copy-out-place-2 c = omega (arith, c .before .before .before .before .pre .1 .few, c .before .before .before .before .pre .1 .room)
+element-copy-out-place-2 c = omega (arith, c .before .before .before .before .pre .1 .few)
 
 place-requires-2 : tie.Need-place-requires-2 Inv-loop μ-loop
 place-requires-2 c κs =
     let s = c .before .before .before .before .before in
     (s .pre .0, cell-below (s .args .n) (s .args .cells .now) (s .args .k) (s .pre .1) (c .before .before .loop .j) (search needs), s .pre .1 .short)
 
-array-read-product : tie.Need-array-read-product Inv-loop μ-loop
-array-read-product c = omega (arith, c .before .before .before .before .before .before .pre .1 .few)
+element-copy-out-product : tie.Need-element-copy-out-product Inv-loop μ-loop
+element-copy-out-product c = omega (arith, c .before .before .before .before .before .before .pre .1 .few)
 
 inverse-requires : tie.Need-inverse-requires Inv-loop μ-loop
 inverse-requires c κs =
-    let c3 = c .before .before .before in
-    let c4 = c3 .before in
-    let s = c4 .before .before in
-    let L = c3 .loop in (
+    let c1 = c .before in
+    let c4 = c1 .before .before .before in
+    let c5 = c4 .before in
+    let s = c5 .before .before in
+    let L = c4 .loop in (
       s .pre .0,
-      apart-by (s .args .n) (s .args .cells .now) (s .args .k) (s .pre .1) (s .args .i) (L .j) (c4 .place .result) (c .place2 .result)
-          (L .inv .low) (search needs) (c4 .place .ensures) (c .place2 .ensures),
+      apart-by (s .args .n) (s .args .cells .now) (s .args .k) (s .pre .1) (s .args .i) (L .j) (c5 .place .result) (c1 .place2 .result)
+          (L .inv .low) (search needs) (c5 .place .ensures) (c1 .place2 .ensures),
     )
 
 product-requires : tie.Need-product-requires Inv-loop μ-loop
-product-requires c κs = c .before .before .before .before .before .before .before .pre .0
+product-requires c κs = c .before .before .before .before .before .before .before .before .pre .0
 
-array-write-r : tie.Need-array-write-r Inv-loop μ-loop
-array-write-r c = omega (arith, c .before .before .before .before .before .before .before .before .pre .1 .few)
+element-write-v : tie.Need-element-write-v Inv-loop μ-loop
+element-write-v c = omega (arith, c .before .before .before .before .before .before .before .before .before .pre .1 .few)
 
 add-j-2 : tie.Need-add-j-2 Inv-loop μ-loop
-add-j-2 c = omega (arith, c .before .before .before .before .before .before .before .before .pre .1 .few)
+add-j-2 c = omega (arith, c .before .before .before .before .before .before .before .before .before .pre .1 .few)
 
 loop-less : tie.Need-loop-less Inv-loop μ-loop
 loop-less c = search needs
 
 loop-again : tie.Need-loop-again Inv-loop μ-loop
 loop-again c =
-    let c2 = c .before .before in
-    let c5 = c2 .before .before .before in
-    let c6 = c5 .before in
-    let s = c6 .before .before in
-    let L = c5 .loop in
-    divide-goes (s .args .n) (s .args .cells .now) (s .args .k) (s .pre .1) (s .args .i) (s .args .v) (s .args .s0) (L .r) (L .sum) (L .j)
-    (c6 .place .result) (c2 .place2 .result) (c .before .inverse .result) (c .product .result)
-    (search needs) (L .inv) (c6 .place .ensures) (c2 .place2 .ensures) (c .before .inverse .ensures) (c .product .ensures)
+    let c3 = c .before .before .before in
+    let c6 = c3 .before .before .before in
+    let c7 = c6 .before in
+    let s = c7 .before .before in
+    let L = c6 .loop in
+    divide-goes (s .args .n) (s .args .cells .now) (s .args .k) (s .pre .1) (s .args .i) (s .args .v .now) (s .args .s0) (L .v) (L .sum) (L .j)
+    (c7 .place .result) (c3 .place2 .result) (c .before .inverse .result) (c .product .result)
+    (search needs) (L .inv) (c7 .place .ensures) (c3 .place2 .ensures) (c .before .inverse .ensures) (c .product .ensures)
 
-array-write-r-2 : tie.Need-array-write-r-2 Inv-loop μ-loop
-array-write-r-2 c = omega (arith, c .before .before .before .before .pre .1 .few, c .before .before .before .before .pre .2)
+element-write-v-2 : tie.Need-element-write-v-2 Inv-loop μ-loop
+element-write-v-2 c = omega (arith, c .before .before .before .before .pre .1 .few, c .before .before .before .before .pre .2)
 
 returns : tie.Need-returns Inv-loop μ-loop
 returns c =
     let s = c .before .before .before .before in
-    let L = c .before .loop in
-    divide-ends (s .args .n) (s .args .cells .now) (s .args .k) (s .pre .1) (s .args .i) (s .args .v) (s .args .s0) (L .r) (L .sum) (L .j) (s .pre .2)
-    (search needs) (L .inv)
+    let L = c .before .loop in (
+      divide-ends (s .args .n) (s .args .cells .now) (s .args .k) (s .pre .1) (s .args .i) (s .args .v .now) (s .args .s0) (L .v) (L .sum) (L .j) (s .pre .2)
+          (search needs) (L .inv),
+      length-set (L .v) (s .args .i) (L .sum) ∙ L .inv .room,
+    )
 
 pub divide-spec : {M : Type 1} → statement M
 divide-spec =
@@ -103,12 +108,12 @@ divide-spec =
     mul-place-2
     element-copy-out-place-2
     place-requires-2
-    array-read-product
+    element-copy-out-product
     inverse-requires
     product-requires
-    array-write-r
+    element-write-v
     add-j-2
     loop-less
     loop-again
-    array-write-r-2
+    element-write-v-2
     returns)

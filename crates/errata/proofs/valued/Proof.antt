@@ -4,6 +4,7 @@ use lib.ListN.{take}
 use Rattle.account.specs.Errata.{unweighed}
 use Rattle.gf256.specs.Gf256.{gf256}
 use Rattle.gf256.specs.Tables.{placeOf}
+use Rattle.errata.proofs.Values.{solve-all}
 use borrow.Author.Needs.{needs}
 use Rattle.errata.proofs.valued.Statement.{statement}
 use Rattle.errata.proofs.valued.Tie as tie
@@ -16,12 +17,16 @@ unweigh-requires c κs = search needs
 
 returns : tie.Need-returns
 returns c =
-    let s = c .before .before .before .before in
+    let c3 = c .before .before .before in
+    let s = c3 .before .before .before in
     record {
       count = refl;
-      same-cells = search needs;
-      room = search needs;
-      values = c .unweigh .ensures ∙ ap (unweighed gf256 (map (placeOf (s .args .n)) (take (s .args .k) (s .args .cells)))) (c .before .before .solve .ensures);
+      same-cells = refl;
+      room = c .unweigh .ensures .1;
+      values =
+          c .unweigh .ensures .0
+          ∙ ap (unweighed gf256 (map (placeOf (s .args .n)) (take (s .args .k) (s .args .cells))))
+          (solve-all (s .args .n) (s .args .cells) (s .args .k) (s .pre .1) (s .args .s) (c3 .solve .last .1 .1 .1 .1 .1 .0) (c3 .solve .ensures .0));
     }
 
 pub valued-spec : {M : Type 1} → statement M

@@ -113,3 +113,13 @@ drain-goes n cells s r u i x l D ex f = subst (λ (ps : List ℕ). Drained n ps 
         ∙ ap (λ (z : ℕ). bitXor (filt gf256 (map (placeOf n) ps) (at s) (suc m)) (times z (filt gf256 (map (placeOf n) ps) (at s) m))) ex
         ∙ sym (filter.filt-append gf256 (map (placeOf n) ps) (placeOf n p ∷ []) (at s) m)
         ∙ ap (λ (l : List ℕ). filt gf256 l (at s) m) (sym (filter.map-append (placeOf n) ps (p ∷ [])))
+
+-- five are all there are
+pub same-five : (l : List ℕ) → length l ≡ 5 → at l 0 ∷ at l 1 ∷ at l 2 ∷ at l 3 ∷ at l 4 ∷ [] ≡ l
+same-five [] h = absurd (omega arith)
+same-five (a ∷ []) h = absurd (omega arith)
+same-five (a ∷ b ∷ []) h = absurd (omega arith)
+same-five (a ∷ b ∷ c ∷ []) h = absurd (omega arith)
+same-five (a ∷ b ∷ c ∷ d ∷ []) h = absurd (omega arith)
+same-five (a ∷ b ∷ c ∷ d ∷ e ∷ []) h = refl
+same-five (a ∷ b ∷ c ∷ d ∷ e ∷ f ∷ l) h = absurd (omega arith)

@@ -521,17 +521,18 @@ fn marked(tables: &[u8; 1022], s: [u8; 5], n: usize, erased: [usize; 5], f: usiz
 }
 
 // The errata of a word of n cells with the syndrome s, of which the first f of `erased` are the marked ones. Beside five nothing
-// is left to search.
+// is left to search. The sums are read one by one, as they were written: read as one they would wait for all to be stored.
 pub fn find(tables: &[u8; 1022], s: [u8; 5], n: usize, erased: [usize; 5], f: usize) -> Found
     requires { ⌜ Tables (now tables) × Listed n erased f × Bytes5 s ⌝ }
     ensures { λ r. ⌜ FoundWith s n erased f (r .good) (r .errata) ⌝ }
 {
+    let t = [s[0], s[1], s[2], s[3], s[4]];
     if f == 0 {
-        return unmarked(tables, s, n);
+        return unmarked(tables, t, n);
     }
     if f == 5 {
-        let errata = valued(tables, s, erased, f, n);
+        let errata = valued(tables, t, erased, f, n);
         return Found { good: true, errata };
     }
-    marked(tables, s, n, erased, f)
+    marked(tables, t, n, erased, f)
 }

@@ -10,7 +10,7 @@ pub struct Marked {
 }
 
 // All marks or-ed together. One pass with no branch and nothing else in it, so that it runs wide.
-fn any(marks: &[u8]) -> u8
+pub fn any(marks: &[u8]) -> u8
     ensures { λ r. ⌜ AnyOf (now (marks .entry)) r ⌝ }
 {
     let mut x: u8 = 0;

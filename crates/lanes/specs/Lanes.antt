@@ -7,7 +7,7 @@ use Prim.Native.Nat.{ℕ, _+_, _*_, _≤_, _<_}
 use lib.ListN.{length}
 use Rattle.account.specs.Lanes.{lane}
 use Rattle.account.specs.Code.{Cells, Clean}
-use Rattle.account.specs.Reach.{Reach, GoodMarks}
+use Rattle.account.specs.Reach.{countTo, isMarked, Reach, GoodMarks}
 use Rattle.rules.specs.Refusal.{Within}
 use Rattle.gf256.specs.Gf256.{gf256}
 use Rattle.level.specs.Sizes.{recordMost}
@@ -16,6 +16,10 @@ use Rattle.code.specs.Patched.{patched}
 use Rattle.code.specs.Lanes.{LaneRemains}
 use Rattle.lanes.specs.declared.Mending.{Mending}
 use Rattle.lanes.specs.declared.One.{One}
+
+-- no cell is marked, if f is 0
+pub record NoneSet (f : ℕ) (marks : List ℕ) : Type 0 where
+  pub none : f ≡ 0 → countTo (isMarked marks) (length marks) ≡ 0
 
 module _ (R : ℕ) where
   -- what mending goes on with: a legal strip with its marks, of lanes that can travel by value

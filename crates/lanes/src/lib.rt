@@ -3,14 +3,13 @@ ghost use mathlib.Core.Path.{_≡_};
 ghost use Prim.Native.Nat.{ℕ, _*_, _≤_, _<_};
 ghost use lib.ListN.{length, getD};
 ghost use Rattle.account.specs.Lanes.{lane};
-ghost use Rattle.account.specs.Reach.{countTo, isMarked};
 ghost use Rattle.rules.specs.Says.{Says};
 ghost use Rattle.rules.specs.Refusal.{Within};
 ghost use Rattle.gf256.specs.Tables.{Tables};
 ghost use Rattle.code.specs.Marks.{ListedIn};
 ghost use Rattle.code.specs.Lanes.{Remaindered};
 ghost use Rattle.lanes.specs.Fixes.{Room};
-ghost use Rattle.lanes.specs.Lanes.{Entered, Ready, OneAs, MendedAs};
+ghost use Rattle.lanes.specs.Lanes.{NoneSet, Entered, Ready, OneAs, MendedAs};
 use code::lanes::LANES;
 use code::marks::Listed;
 use fixes::FIXES;
@@ -32,9 +31,9 @@ pub struct Mending {
     pub noted: usize,
 }
 
-// The marked cells of lane l, where f are marked in the whole strip. Most strips have none.
+// The marked cells of lane l. Most strips have none at all, and then f is 0.
 fn marked_in(marks: &[u8], f: usize, lanes: usize, l: usize) -> Listed
-    requires { ⌜ (l < lanes) × (lanes ≤ 16) × (length (now marks) ≤ 4096) × (f ≡ countTo (isMarked (now marks)) (length (now marks))) ⌝ }
+    requires { ⌜ (l < lanes) × (lanes ≤ 16) × (length (now marks) ≤ 4096) × NoneSet f (now marks) ⌝ }
     ensures { λ r. ⌜ ListedIn lanes l (now (marks .entry)) r ⌝ }
 {
     if f == 0 {
@@ -93,7 +92,7 @@ fn mend_one(
     cells: &mut [u16; FIXES],
     bytes: &mut [u8; FIXES],
 ) -> One
-    requires { ⌜ Tables (now tables) × Ready lanes l (now strip) (now marks) r × (f ≡ countTo (isMarked (now marks)) (length (now marks))) × Room k (now cells) (now bytes) ⌝ }
+    requires { ⌜ Tables (now tables) × Ready lanes l (now strip) (now marks) r × NoneSet f (now marks) × Room k (now cells) (now bytes) ⌝ }
     ensures { λ o. ⌜ OneAs lanes (now (strip .entry)) (now (marks .entry)) l k (now (cells .entry)) (now (bytes .entry)) (now (cells .exit)) (now (bytes .exit)) (o .good) o ⌝ }
 {
     let m = marked_in(marks, f, lanes, l);
@@ -124,7 +123,7 @@ fn mend_each(
     cells: &mut [u16; FIXES],
     bytes: &mut [u8; FIXES],
 ) -> Mending
-    requires { ⌜ Entered lanes (now strip) (now marks) × (f ≡ countTo (isMarked (now marks)) (length (now marks))) × Remaindered lanes (now strip) r × Room 0 (now cells) (now bytes) ⌝ }
+    requires { ⌜ Entered lanes (now strip) (now marks) × NoneSet f (now marks) × Remaindered lanes (now strip) r × Room 0 (now cells) (now bytes) ⌝ }
     ensures { λ m. ⌜ MendedAs lanes (now (strip .entry)) (now (marks .entry)) (now (cells .exit)) (now (bytes .exit)) m ⌝ }
 {
     let tables = gf256::tables::TABLES;
@@ -178,8 +177,8 @@ fn all_clean(r: [u64; LANES], lanes: usize) -> bool
     true
 }
 
-// What is to be put right in a strip of which f cells are marked: all lanes are tested in one pass first, and a clean strip with no
-// marks is left at that.
+// What is to be put right in a strip, of which no cell is marked if f is 0: all lanes are tested in one pass first, and a clean strip
+// with no marks is left at that.
 pub fn mend(
     strip: &[u8],
     marks: &[u8],
@@ -188,7 +187,7 @@ pub fn mend(
     cells: &mut [u16; FIXES],
     bytes: &mut [u8; FIXES],
 ) -> Mending
-    requires { ⌜ Entered lanes (now strip) (now marks) × (f ≡ countTo (isMarked (now marks)) (length (now marks))) × Room 0 (now cells) (now bytes) ⌝ }
+    requires { ⌜ Entered lanes (now strip) (now marks) × NoneSet f (now marks) × Room 0 (now cells) (now bytes) ⌝ }
     ensures { λ m. ⌜ MendedAs lanes (now (strip .entry)) (now (marks .entry)) (now (cells .exit)) (now (bytes .exit)) m ⌝ }
 {
     let r = code::lanes::remainders(strip, lanes);

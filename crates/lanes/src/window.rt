@@ -38,21 +38,21 @@ fn pick(yes: bool, a: u8, b: u8) -> u8
     b
 }
 
-// Where cell p is in the window; 0 if it is not there.
+// Where cell p is in the window; if it is not there, some place in it, not the same for all, so that stores do not wait for each other.
 fn offset(p: usize, from: usize) -> usize
     ensures { λ r. ⌜ (r < 96) × (Inside from p → from + r ≡ p) ⌝ }
 {
     if p < from {
-        return 0;
+        return p % 64;
     }
     let q = p - from;
     if WINDOW <= q {
-        return 0;
+        return p % 64;
     }
     q
 }
 
-// Cell p put right, if it is in the window. If not, the first cell gets what it has: that costs less than a branch.
+// Cell p put right, if it is in the window. If not, another gets what it has: that costs less than a branch.
 fn patch_one(p: usize, b: u8, from: usize, window: &mut [u8])
     requires { ⌜ 96 ≤ length (now window) ⌝ }
     ensures { λ _. ⌜ PatchedAt from p b (now (window .entry)) (now (window .exit)) ⌝ }

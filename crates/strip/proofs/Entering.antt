@@ -19,11 +19,11 @@ module _ (s marks : List ℕ) (room scratch : ℕ) where
   -- rule k stops it
   pub enters-not : (k c : ℕ) → (c ≡ 0 → ⊥) → Stops k (entering 4 s marks room scratch) c
       → StripEntersAs 4 s marks room scratch (record { code = c; marked = 0 })
-  enters-not k c n h = record { first = stops k (entering 4 s marks room scratch) c h; count = λ z. absurd (n z) }
+  enters-not k c n h = record { first = stops k (entering 4 s marks room scratch) c h; none = λ z. absurd (n z) }
 
-  pub enters : (f : ℕ) → Hold (entering 4 s marks room scratch) → f ≡ countTo (isMarked marks) (length marks)
+  pub enters : (f : ℕ) → Hold (entering 4 s marks room scratch) → (f ≡ 0 → countTo (isMarked marks) (length marks) ≡ 0)
       → StripEntersAs 4 s marks room scratch (record { code = 0; marked = f })
-  enters f h q = record { first = hold-first (entering 4 s marks room scratch) h; count = λ _. q }
+  enters f h q = record { first = hold-first (entering 4 s marks room scratch) h; none = λ _. q }
 
   pub entered : (c : ℕ) → c ≡ 0 → First (entering 4 s marks room scratch) c → Hold (entering 4 s marks room scratch)
   entered c z f = all-hold 5 (entering 4 s marks room scratch) c tt f z

@@ -46,10 +46,10 @@ pub record StripReadsAs (R : ℕ) (s marks tiles tiles' scratch scratch' : List 
 
 -- ---- parts
 
--- what is asked before the picture is looked at, and how many cells are marked
+-- what is asked before the picture is looked at, and whether any cell is marked
 pub record StripEntersAs (R : ℕ) (s marks : List ℕ) (room scratch : ℕ) (e : Entered) : Type 0 where
   pub first : First (entering R s marks room scratch) (e .code)
-  pub count : e .code ≡ 0 → e .marked ≡ countTo (isMarked marks) (length marks)
+  pub none : e .code ≡ 0 → e .marked ≡ 0 → countTo (isMarked marks) (length marks) ≡ 0
 
 -- the record bs of a strip of N cells, judged and unpacked
 pub record FinishedAs (R : ℕ) (bs : List ℕ) (N e : ℕ) (tiles tiles' : List ℕ) (n : ReadNumbers) : Type 0 where

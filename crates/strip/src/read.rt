@@ -53,7 +53,7 @@ fn legal(n: usize) -> bool
     true
 }
 
-// Refusals 1 to 5, and how many cells are marked.
+// Refusals 1 to 5, and all marks or-ed: 0 where no cell is marked.
 pub struct Entered {
     pub code: u8,
     pub marked: usize,
@@ -68,8 +68,7 @@ fn enter(strip: &[u8], marks: &[u8], tiles: usize, scratch: usize) -> Entered
     if marks.len() != strip.len() {
         return Entered { code: 2, marked: 0 };
     }
-    let t = code::marks::tally(marks);
-    let any = t.any;
+    let any = code::marks::any(marks);
     if 1 < any {
         return Entered { code: 3, marked: 0 };
     }
@@ -79,8 +78,10 @@ fn enter(strip: &[u8], marks: &[u8], tiles: usize, scratch: usize) -> Entered
     if scratch < SCRATCH_LEAST {
         return Entered { code: 5, marked: 0 };
     }
-    let marked = t.sum;
-    Entered { code: 0, marked }
+    Entered {
+        code: 0,
+        marked: any as usize,
+    }
 }
 
 // Percent of the cells that were mended, rounded down.
@@ -139,7 +140,14 @@ pub fn read(strip: &[u8], marks: &[u8], tiles: &mut [u8], scratch: &mut [u8]) ->
     }
     let mut cells = [0u16; FIXES];
     let mut bytes = [0u8; FIXES];
-    let m = lanes::mend(strip, marks, entered.marked, LANES, &mut cells, &mut bytes);
+    let m = lanes::mend(
+        strip,
+        marks,
+        entered.marked as usize,
+        LANES,
+        &mut cells,
+        &mut bytes,
+    );
     let beyond = m.beyond;
     if beyond < LANES {
         return Reading::Refused {

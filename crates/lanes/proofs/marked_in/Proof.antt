@@ -7,7 +7,7 @@ use Rattle.lanes.proofs.marked_in.Tie as tie
 returns : tie.Need-returns
 returns c =
     let a = c .before .before .args in
-    none-listed-in (a .lanes) (a .marks .now) (a .l) (c .before .before .pre .0) (omega (arith, c .before .before .pre .3, c .if1 .taken)) _ (search needs)
+    none-listed-in (a .lanes) (a .marks .now) (a .l) (c .before .before .pre .0) (c .before .before .pre .3 .none (omega (arith, c .if1 .taken))) _ (search needs)
 
 list-requires : tie.Need-list-requires
 list-requires c κs = search needs

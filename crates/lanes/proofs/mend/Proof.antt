@@ -21,7 +21,7 @@ returns c =
     let r = c .before .before .before .remainders in
     let z = c .before .all-clean in
     untouched (a .lanes) (a .strip .now) (a .marks .now) (p .0) (record { cell = λ j h. omega (arith, c .before .before .before .before .before .shared-slice-known .given j) })
-    (omega (arith, p .1, c .before .before .if1 .taken)) (r .result) (r .ensures)
+    (p .1 .none (omega (arith, c .before .before .if1 .taken))) (r .result) (r .ensures)
     (said ((j : ℕ) → j < a .lanes → getD (r .result) j 0 ≡ 0) (z .result) (c .if2 .taken) (z .ensures)) (a .cells .now) (a .bytes .now) (p .2)
 
 mend-each-requires : tie.Need-mend-each-requires

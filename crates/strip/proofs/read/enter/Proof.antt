@@ -26,12 +26,8 @@ returns-2 c =
     enters-not (a .strip .now) (a .marks .now) (a .tiles) (a .scratch) 1 2 (λ z. omega arith)
     ((said (Legal 4 (length (a .strip .now))) (l .result) (not-false (l .result) (c .before .if1 .left)) (l .ensures)), ((c .if2 .taken), refl))
 
-tally-requires : tie.Need-tally-requires
-tally-requires c κs =
-    let a = c .before .before .before .before .before .args in
-    let l = c .before .before .legal in
-    let L = said (Legal 4 (length (a .strip .now))) (l .result) (not-false (l .result) (c .before .if1 .left)) (l .ensures) in
-    omega (arith, L .to, L .cells, c .if2 .left)
+any-requires : tie.Need-any-requires
+any-requires c κs = search needs
 
 returns-3 : tie.Need-returns-3
 returns-3 c =
@@ -39,7 +35,7 @@ returns-3 c =
     let l = c .before .before .before .before .legal in
     enters-not (a .strip .now) (a .marks .now) (a .tiles) (a .scratch) 2 3 (λ z. omega arith) (
       (said (Legal 4 (length (a .strip .now))) (l .result) (not-false (l .result) (c .before .before .before .if1 .left)) (l .ensures)),
-      ((c .before .before .if2 .left), ((c .before .tally .ensures .bad (λ h. omega (arith, h, c .if3 .taken))), refl)),
+      ((c .before .before .if2 .left), ((λ g. omega (arith, c .before .any .ensures .bad g, c .if3 .taken)), refl)),
     )
 
 returns-4 : tie.Need-returns-4
@@ -48,7 +44,7 @@ returns-4 c =
     let l = c .before .before .before .before .before .legal in
     enters-not (a .strip .now) (a .marks .now) (a .tiles) (a .scratch) 3 4 (λ z. omega arith) (
       (said (Legal 4 (length (a .strip .now))) (l .result) (not-false (l .result) (c .before .before .before .before .if1 .left)) (l .ensures)),
-      ((c .before .before .before .if2 .left), ((c .before .before .tally .ensures .good (omega arith)), ((λ h. omega (arith, h, c .if4 .taken)), refl))),
+      ((c .before .before .before .if2 .left), ((c .before .before .any .ensures .good (omega arith)), ((λ h. omega (arith, h, c .if4 .taken)), refl))),
     )
 
 returns-5 : tie.Need-returns-5
@@ -60,26 +56,29 @@ returns-5 c =
       (
         (c .before .before .before .before .if2 .left),
         (
-          (c .before .before .before .tally .ensures .good (omega arith)),
+          (c .before .before .before .any .ensures .good (omega arith)),
           ((omega arith), ((λ h. omega (arith, h, c .if5 .taken)), refl)),
         ),
       ),
     )
 
+cast-t7 : tie.Need-cast-t7
+cast-t7 c = search needs
+
 returns-6 : tie.Need-returns-6
 returns-6 c =
     let a = c .before .before .before .before .before .before .before .before .before .args in
     let l = c .before .before .before .before .before .before .legal in
-    enters (a .strip .now) (a .marks .now) (a .tiles) (a .scratch) (c .before .before .before .tally .result .sum) (
+    enters (a .strip .now) (a .marks .now) (a .tiles) (a .scratch) (c .before .before .before .any .result) (
       (said (Legal 4 (length (a .strip .now))) (l .result) (not-false (l .result) (c .before .before .before .before .before .if1 .left)) (l .ensures)),
       (
         (c .before .before .before .before .if2 .left),
         (
-          (c .before .before .before .tally .ensures .good (omega arith)),
+          (c .before .before .before .any .ensures .good (omega arith)),
           ((omega arith), ((omega arith), tt)),
         ),
       ),
-    ) (c .before .before .before .tally .ensures .count (omega arith))
+    ) (c .before .before .before .any .ensures .none)
 
 pub enter-spec : {M : Type 1} → statement M
 enter-spec =
@@ -88,8 +87,9 @@ enter-spec =
     legal-requires
     returns
     returns-2
-    tally-requires
+    any-requires
     returns-3
     returns-4
     returns-5
+    cast-t7
     returns-6)

@@ -25,7 +25,7 @@ mend-requires c κs =
     let z = c .before .before .if1 .left in
     let h = entered (a .strip .now) (a .marks .now) (length (a .tiles .now)) (length (a .scratch .now)) (g .result .code) z (g .ensures .first) in
     let r = ready (a .strip .now) (a .marks .now) (length (a .tiles .now)) (length (a .scratch .now)) h in
-    (r, g .ensures .count z, record { left = omega arith; cells-long = refl; bytes-long = refl })
+    (r, record { none = g .ensures .none z }, record { left = omega arith; cells-long = refl; bytes-long = refl })
 
 returns-2 : tie.Need-returns-2
 returns-2 c =

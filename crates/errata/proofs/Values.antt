@@ -281,9 +281,9 @@ module _ (n : ℕ) (cells : List ℕ) (k : ℕ) (L : Listed n cells k) where
   pub unweigh-starts : (u : List ℕ) → length u ≡ 5 → Unweighing n cells k u u 0
   unweigh-starts u e = record { high = omega arith; room = e; list = refl }
 
-  pub unweigh-goes : (u r : List ℕ) (j x v w : ℕ) → j < k → Unweighing n cells k u r j → x ≡ P n cells j → v ≡ times (getD r j 0) x → w ≡ times v x
+  pub unweigh-goes : (u r : List ℕ) (j x q w : ℕ) → j < k → Unweighing n cells k u r j → x ≡ P n cells j → q ≡ times x x → w ≡ times (getD r j 0) q
       → Unweighing n cells k u (set r j w) (j + 1)
-  unweigh-goes u r j x v w l U ex ev ew = record {
+  unweigh-goes u r j x q w l U ex eq ew = record {
     high = omega arith;
     room = length-set r j w ∙ U .room;
     list =
@@ -297,7 +297,8 @@ module _ (n : ℕ) (cells : List ℕ) (k : ℕ) (L : Listed n cells k) where
       here : unw (ys n cells k j) (slice j k r) ≡ w ∷ rest
       here =
           ap₂ unw (ys-cons j l) (from j k r l (omega (arith, U .room, L .few)))
-          ∙ ap (λ (a : ℕ). a ∷ rest) (sym (ew ∙ ap₂ times (ev ∙ ap (times (getD r j 0)) ex) ex))
+          ∙ ap (λ (a : ℕ). a ∷ rest)
+          (sym (ew ∙ ap (times (getD r j 0)) (eq ∙ ap₂ times ex ex) ∙ sym (field256 .mul-assoc (getD r j 0) (P n cells j) (P n cells j))))
 
   pub unweigh-ends : (u r : List ℕ) (j : ℕ) → k ≤ j → Unweighing n cells k u r j → Unweighed n cells k u r
   unweigh-ends u r j g U =

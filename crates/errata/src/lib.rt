@@ -332,7 +332,7 @@ fn unweigh(tables: &[u8; 1022], cells: &[usize; 5], n: usize, k: usize, v: &mut 
     let mut j = 0;
     while j < k {
         let x = gf256::place(tables, n, cells[j]);
-        v[j] = gf256::product(tables, gf256::product(tables, v[j], x), x);
+        v[j] = gf256::product(tables, v[j], gf256::product(tables, x, x));
         j += 1;
     }
 }

@@ -124,14 +124,6 @@ pub fn remainder_of(w: &[u8]) -> u64
     r[0]
 }
 
-// The remainders of the four lanes of s. Cells after the last whole column count for nothing.
-pub fn remainders_of(s: &[u8]) -> [u64; 4]
-    ensures { λ r. ⌜ LanesRemain 4 (now (s .entry)) r ⌝ }
-{
-    let r = remainders(s, 4);
-    [r[0], r[1], r[2], r[3]]
-}
-
 // The five check bytes after data.
 pub fn checks_of(data: &[u8]) -> u64
     ensures { λ x. ⌜ Checks (now («data» .entry)) x ⌝ }

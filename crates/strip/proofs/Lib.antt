@@ -1,4 +1,3 @@
-pub mod Placing
 pub mod Entering
 pub mod Reader
 pub mod Laid

@@ -3,7 +3,3 @@ pub mod Reader
 pub mod Laid
 pub mod Alike
 pub mod Theorems
-pub mod Pieces
-pub mod Weighing
-pub mod Unpacking
-pub mod Judging

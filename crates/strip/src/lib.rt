@@ -1,4 +1,3 @@
 // Strips: levels carried by coloured cells. The entries are total: they ask nothing of their caller, and refuse by FORMAT 9.
 pub mod write; // a level's strip
-mod windows; // the record of a mended strip
 pub mod read; // the level within reach of a strip

@@ -108,7 +108,7 @@ fn accept(
     if count == 0 {
         return record::read::accept(&strip[0..to], LANES, tiles);
     }
-    super::windows::accept(strip, cells, bytes, count, LANES, to, tiles, scratch)
+    windows::accept(strip, cells, bytes, count, LANES, to, tiles, scratch)
 }
 
 // The answer for a record that was judged, of a strip of n cells of which so many were mended.

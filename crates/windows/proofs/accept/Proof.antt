@@ -5,10 +5,10 @@ use native.Mathlib.Omega.{arith}
 use lib.ListN.{drop}
 use Rattle.tiles.proofs.Part.{length-part, tilesFrom-part}
 use Rattle.record.proofs.Reader.{rejected, room-for, accepted}
-use Rattle.strip.proofs.Weighing.{recordIn, length-record}
+use Rattle.windows.proofs.Weighing.{recordIn, length-record}
 use borrow.Author.Needs.{needs}
-use Rattle.strip.proofs.windows.accept.Statement.{statement}
-use Rattle.strip.proofs.windows.accept.Tie as tie
+use Rattle.windows.proofs.accept.Statement.{statement}
+use Rattle.windows.proofs.accept.Tie as tie
 
 judge-requires : tie.Need-judge-requires
 judge-requires c κs = search needs

@@ -14,7 +14,7 @@ use Rattle.level.proofs.Windows.{field-part}
 use Rattle.tiles.specs.Part.{tilesFrom}
 use Rattle.tiles.proofs.Part.{partOf, part-same, tilesFrom-part, length-tilesFrom, getD-tilesFrom}
 use Rattle.tiles.proofs.Putting.{tiles-put}
-use Rattle.strip.proofs.Pieces.{Sees, field-seen}
+use Rattle.windows.proofs.Pieces.{Sees, field-seen}
 
 -- a window of n bytes has the k tiles that are next, and where more are to come, no others
 pub window-holds : (to from m t n k : ℕ) → 8 * from ≡ 24 + 3 * t → 24 + 3 * m ≤ 8 * to → n ≤ 96 → from + n ≤ to → (from + n < to → n ≡ 96)

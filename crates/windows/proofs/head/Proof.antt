@@ -1,8 +1,8 @@
 use native.Mathlib.Omega.{arith}
-use Rattle.strip.proofs.Weighing.{head-seen}
+use Rattle.windows.proofs.Weighing.{head-seen}
 use borrow.Author.Needs.{needs}
-use Rattle.strip.proofs.windows.head.Statement.{statement}
-use Rattle.strip.proofs.windows.head.Tie as tie
+use Rattle.windows.proofs.head.Statement.{statement}
+use Rattle.windows.proofs.head.Tie as tie
 
 show-requires : tie.Need-show-requires
 show-requires c κs = search needs

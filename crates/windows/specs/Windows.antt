@@ -8,7 +8,7 @@ use Rattle.rules.specs.Says.{Says}
 use Rattle.level.specs.Record.{bitAt}
 use Rattle.level.specs.Sizes.{recordLeast, recordMost}
 use Rattle.tiles.specs.Sum.{PartSummed}
-use Rattle.strip.specs.declared.windows.Weighed.{Weighed}
+use Rattle.windows.specs.declared.Weighed.{Weighed}
 
 -- the record is in the first cells of a strip, up to one of them; what is to be put right and the scratch have their sizes
 pub record Lent (s : List ℕ) (count to scratch : ℕ) : Type 0 where

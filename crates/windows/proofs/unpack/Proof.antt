@@ -7,10 +7,10 @@ use borrow.Rule.Slice.PartMut.{postOf}
 use lib.ListN.{length, take, drop, length-drop}
 use lib.Seq.{length-take-le}
 use Rattle.rules.proofs.Numbers.{lt-or-ge}
-use Rattle.strip.proofs.Weighing.{recordIn, length-record, sees}
-use Rattle.strip.proofs.Unpacking.{window-holds, Unpacking, unpacking-0, unpacking-more, unpacked-all}
-use Rattle.strip.proofs.windows.unpack.Statement.{statement}
-use Rattle.strip.proofs.windows.unpack.Tie as tie
+use Rattle.windows.proofs.Weighing.{recordIn, length-record, sees}
+use Rattle.windows.proofs.Unpacking.{window-holds, Unpacking, unpacking-0, unpacking-more, unpacked-all}
+use Rattle.windows.proofs.unpack.Statement.{statement}
+use Rattle.windows.proofs.unpack.Tie as tie
 
 abbrev Inv-loop : tie.InvT-loop
 Inv-loop strip cells bytes count to m tiles₀ scratch₀ from₀ t₀ tiles scratch from t =

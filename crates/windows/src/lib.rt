@@ -9,7 +9,7 @@ ghost use Rattle.level.specs.Sizes.{tilesMost};
 ghost use Rattle.level.specs.Reading.{tilesIn};
 ghost use Rattle.code.specs.Patched.{patched};
 ghost use Rattle.record.specs.Reading.{Heads, JudgedAs, AcceptedAs};
-ghost use Rattle.strip.specs.Windows.{Lent, WeighedAs};
+ghost use Rattle.windows.specs.Windows.{Lent, WeighedAs};
 use lanes::fixes::FIXES;
 use record::read::Head;
 use record::read::Judged;
@@ -156,7 +156,7 @@ fn unpack(
 }
 
 // The record in the first cells of the mended strip judged; its tiles are written only where nothing is refused.
-pub(crate) fn accept(
+pub fn accept(
     strip: &[u8],
     cells: &[u16; FIXES],
     bytes: &[u8; FIXES],

@@ -23,9 +23,9 @@ use Rattle.tiles.specs.Sum.{addsAt, Counted}
 use Rattle.tiles.proofs.Part.{partOf, length-part, part-same, tilesFrom-part, length-tilesFrom, getD-tilesFrom}
 use Rattle.tiles.proofs.Counting.{part-summed}
 use Rattle.tiles.proofs.Putting.{tiles-put}
-use Rattle.strip.specs.declared.windows.Weighed.{Weighed}
-use Rattle.strip.specs.Windows.{Lent, WeighedAs}
-use Rattle.strip.proofs.Pieces.{Sees, field-seen, blank-more, blank-seen, full-sum, last-sum}
+use Rattle.windows.specs.declared.Weighed.{Weighed}
+use Rattle.windows.specs.Windows.{Lent, WeighedAs}
+use Rattle.windows.proofs.Pieces.{Sees, field-seen, blank-more, blank-seen, full-sum, last-sum}
 
 -- no bit of w is set from bit d on
 abbrev pub BlankFrom : ℕ → List ℕ → Type 0

@@ -1,10 +1,10 @@
 use native.Mathlib.Omega.{arith}
 use Rattle.record.proofs.Judging.{area-few}
-use Rattle.strip.proofs.Weighing.{recordIn, length-record}
-use Rattle.strip.proofs.Judging.{not-ranged, not-fitting, not-blank-after, tiles-refused, tiles-good}
+use Rattle.windows.proofs.Weighing.{recordIn, length-record}
+use Rattle.windows.proofs.Judging.{not-ranged, not-fitting, not-blank-after, tiles-refused, tiles-good}
 use borrow.Author.Needs.{needs}
-use Rattle.strip.proofs.windows.judge.Statement.{statement}
-use Rattle.strip.proofs.windows.judge.Tie as tie
+use Rattle.windows.proofs.judge.Statement.{statement}
+use Rattle.windows.proofs.judge.Tie as tie
 
 head-requires : tie.Need-head-requires
 head-requires c κs = search needs

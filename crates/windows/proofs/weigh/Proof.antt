@@ -6,9 +6,9 @@ use borrow.Author.Needs.{needs}
 use lib.ListN.{length, take}
 use lib.Seq.{length-take-le}
 use Rattle.rules.proofs.Tests.{said, denied}
-use Rattle.strip.proofs.Weighing.{BlankFrom, recordIn, length-record, sees, Weighing, weighing-0, weighing-more, some-seen, not-blank, weighed-all}
-use Rattle.strip.proofs.windows.weigh.Statement.{statement}
-use Rattle.strip.proofs.windows.weigh.Tie as tie
+use Rattle.windows.proofs.Weighing.{BlankFrom, recordIn, length-record, sees, Weighing, weighing-0, weighing-more, some-seen, not-blank, weighed-all}
+use Rattle.windows.proofs.weigh.Statement.{statement}
+use Rattle.windows.proofs.weigh.Tie as tie
 
 abbrev Inv-loop : tie.InvT-loop
 Inv-loop strip cells bytes count to bits scratch₀ sum₀ from₀ scratch sum from =

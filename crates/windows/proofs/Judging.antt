@@ -17,8 +17,8 @@ use Rattle.record.specs.Sum.{SumCode}
 use Rattle.record.specs.Reading.{Heads, without, JudgedAs}
 use Rattle.record.proofs.Reading.{blank-is, misfits}
 use Rattle.record.proofs.Judging.{Opens, judged-none, judged-7, judged-8, judged-0, area-is, headed, head-of-level, judged-by-tiles}
-use Rattle.strip.specs.declared.windows.Weighed.{Weighed}
-use Rattle.strip.specs.Windows.{WeighedAs}
+use Rattle.windows.specs.declared.Weighed.{Weighed}
+use Rattle.windows.specs.Windows.{WeighedAs}
 
 module _ (R to : ℕ) (bs : List ℕ) (long : length bs ≡ to) (f : Head) (hd : Heads bs f) where
   abbrev tiles : ℕ

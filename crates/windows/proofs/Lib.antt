@@ -1,0 +1,4 @@
+pub mod Pieces
+pub mod Weighing
+pub mod Unpacking
+pub mod Judging

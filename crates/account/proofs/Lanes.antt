@@ -1,7 +1,7 @@
 -- Lanes and cells: cell p is byte p div R of lane p mod R.
 use mathlib.Core.Path.{_≡_, refl, sym, ap, _∙_}
 use Prim.Native.Nat.{ℕ, zero, suc, _+_, _*_, _/_, _%_, _≤_, _<_}
-use native.Mathlib.Nat.{div-add-mod, mod-lt, mul-div-le, mul-le-mul-left, mul-suc, mul-div-right, div-lt-iff-lt-mul, mul-comm}
+use native.Mathlib.Nat.{div-add-mod, mod-lt, mul-div-le, mul-le-mul-left, mul-suc, mul-div-right, mul-add-div, div-eq-of-lt, div-lt-iff-lt-mul, mul-comm}
 use native.Mathlib.Omega.{arith}
 use mathlib.Core.List.{List, [], _∷_}
 use lib.ListN.{length, getD}
@@ -28,6 +28,10 @@ module _ (R : ℕ) (some : 0 < R) where
 
   pub cell-below : (N i j : ℕ) → j < R → i < N / R → R * i + j < N
   cell-below N i j hj hi = omega (arith, mul-div-le N R, mul-le-mul-left R hi, mul-suc R i)
+
+  -- cell i of lane j is cell R i + j
+  pub place-of : (i j : ℕ) → j < R → (R * i + j) / R ≡ i
+  place-of i j h = mul-add-div some i j ∙ ap (λ (x : ℕ). i + x) (div-eq-of-lt h) ∙ omega arith
 
   pub bytes-lane : (O : Ops) (j : ℕ) (s : List ℕ) → j < R → Cells O s → Cells O (lane R j s)
   bytes-lane O j s h b = record {

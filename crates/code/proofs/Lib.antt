@@ -1,12 +1,6 @@
 pub mod Applying
-pub mod Tally
-pub mod Listing
 pub mod Writing
 pub mod Repairing
 pub mod LaneRepairs
-pub mod Gathering
-pub mod CheckCells
 pub mod Answers
 pub mod Theorems
-pub mod Patching
-pub mod Mending

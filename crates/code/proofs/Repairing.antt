@@ -3,7 +3,7 @@ use mathlib.Core.Path.{_≡_, refl, sym, ap, _∙_, subst}
 use mathlib.Core.Logic.{_≢_}
 use mathlib.Core.Bool.{Bool, true, false}
 use mathlib.Core.List.{List, [], _∷_}
-use Prim.Native.Nat.{ℕ, zero, suc, _+_, _*_, _-_, _≤_, _<_}
+use Prim.Native.Nat.{ℕ, zero, suc, _≤_, _<_}
 use native.Mathlib.Omega.{arith}
 use lib.ListN.{length, getD}
 use lib.Seq.{ext-getD, length-take-le}
@@ -23,8 +23,9 @@ use Rattle.code.specs.declared.repair.Entered.{Entered}
 use Rattle.rules.specs.Refusal.{Rule, unless, First, Hold, Within}
 use Rattle.rules.proofs.Laws.{stops, hold-first, all-hold, before, after, Alike, first-alike}
 use Rattle.code.specs.Word.{wordMost}
-use Rattle.code.specs.Repair.{repairedNumbers, enteringWord, repairing, Repairs, RepairsAs, WordEntersAs, Searchable, countedOf}
-use Rattle.code.proofs.Applying.{count-is}
+use Rattle.marks.specs.Marks.{countedOf}
+use Rattle.code.specs.Repair.{repairedNumbers, enteringWord, repairing, Repairs, RepairsAs, WordEntersAs, Searchable}
+use Rattle.marks.proofs.Counting.{count-is}
 
 -- ---- a syndrome's bytes
 

@@ -1,14 +1,12 @@
 -- FORMAT 4: repair of a word.
 use mathlib.Core.Path.{_≡_}
 use mathlib.Core.Logic.{_≢_}
-use mathlib.Core.Bool.{not}
 use mathlib.Core.List.{List, [], _∷_, _++_}
-use Prim.Native.Nat.{ℕ, _+_, _≤_, _<_}
-use lib.Dec.{eqb}
+use Prim.Native.Nat.{ℕ, _≤_}
 use lib.ListN.{length}
 use Rattle.account.specs.Field.{Ops}
 use Rattle.account.specs.Code.{Cells, Clean}
-use Rattle.account.specs.Reach.{countTo, isMarked, oneIf, and, differing, Reach, GoodMarks, Reachable}
+use Rattle.account.specs.Reach.{countTo, isMarked, differing, Reach, GoodMarks, Reachable}
 use Rattle.rules.specs.Refusal.{Rule, unless, First, Within}
 use Rattle.code.specs.Word.{wordMost}
 use Rattle.code.specs.declared.repair.Repaired.{Repaired}
@@ -65,9 +63,3 @@ pub record Searchable (n : ℕ) (marks : List ℕ) (f : ℕ) : Type 0 where
   pub short : length marks ≤ wordMost
   pub count : f ≡ countTo (isMarked marks) (length marks)
   pub few : f ≤ 5
-
--- how many of the errata are at an unmarked cell and change it
-abbrev pub countedOf : List ℕ → List ℕ → List ℕ → ℕ
-countedOf marks [] vs = 0
-countedOf marks (p ∷ ps) [] = 0
-countedOf marks (p ∷ ps) (v ∷ vs) = oneIf (and (not (isMarked marks p)) (not (eqb v 0))) + countedOf marks ps vs

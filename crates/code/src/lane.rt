@@ -1,9 +1,5 @@
 // A lane of a strip by value: one record of the program, so that no buffer is lent.
-ghost use Prim.Native.Nat.{_<_, _≤_};
-ghost use Rattle.gf256.specs.Tables.{Tables};
-ghost use Rattle.remainder.specs.Remainder.{packedEnd};
-ghost use Rattle.errata.specs.Errata.{Listed, ErrataFor};
-ghost use Rattle.code.specs.Lane.{laneMost, wordOf, LaneRepairsAs, SearchedBy, Belonging};
+ghost use Rattle.code.specs.Lane.{LaneRepairsAs};
 use super::repair::Repaired;
 
 // How many bytes a lane has at most.
@@ -19,47 +15,6 @@ pub struct Lane {
 pub struct LaneRepair {
     pub lane: Lane,
     pub answer: Repaired,
-}
-
-// At most five cells of a lane with the bytes that belong there, and how many unmarked ones were wrong; or that none will do.
-pub struct LaneErrata {
-    pub good: bool,
-    pub mended: usize,
-    pub count: usize,
-    pub cells: [usize; 5],
-    pub bytes: [u8; 5],
-}
-
-// The errata of a lane with the remainder r, of which the first f of `erased` are the marked cells.
-pub(crate) fn search(
-    tables: &[u8; 1022],
-    lane: Lane,
-    r: u64,
-    erased: [usize; 5],
-    f: usize,
-) -> errata::Found
-    requires { ⌜ Tables (now tables) × Listed (lane .len) erased f × (r < packedEnd) ⌝ }
-    ensures { λ x. ⌜ SearchedBy (wordOf lane) r (lane .len) erased f x ⌝ }
-{
-    let s = remainder::syndrome_of(r);
-    errata::find(tables, s, lane.len, erased, f)
-}
-
-// The bytes of a lane that belong at the cells of its errata.
-pub(crate) fn belonging(lane: Lane, e: errata::Errata) -> [u8; 5]
-    requires { ⌜ ErrataFor (lane .len) e × (lane .len ≤ laneMost) ⌝ }
-    ensures { λ b. ⌜ Belonging (lane .bytes) e b ⌝ }
-{
-    let bytes = lane.bytes;
-    let cells = e.cells;
-    let values = e.values;
-    let mut b = [0u8; 5];
-    let mut i: usize = 0;
-    while i < e.count {
-        b[i] = bytes[cells[i]] ^ values[i];
-        i += 1;
-    }
-    b
 }
 
 // The lane becomes the clean lane within reach, if there is one. Its marks are a lane too.

@@ -1,19 +1,16 @@
 // Repair of a word in place: find the errata, count, apply.
 ghost use mathlib.Core.Path.{_≡_};
-ghost use mathlib.Core.Bool.{not};
 ghost use mathlib.Core.List.{List};
-ghost use Prim.Native.Nat.{ℕ, _+_, _/_, _<_, _≤_};
-ghost use lib.Dec.{eqb};
+ghost use Prim.Native.Nat.{ℕ, _<_, _≤_};
 ghost use lib.ListN.{length};
 ghost use Rattle.account.specs.Code.{Cells};
-ghost use Rattle.account.specs.Reach.{countTo, isMarked, oneIf, and};
+ghost use Rattle.account.specs.Reach.{countTo, isMarked};
 ghost use Rattle.account.specs.Errata.{Applied};
-ghost use Rattle.account.specs.Lanes.{lane};
 ghost use Rattle.gf256.specs.Gf256.{gf256};
 ghost use Rattle.remainder.specs.Remainder.{packedEnd, Remains};
 ghost use Rattle.errata.specs.Errata.{Gathered, cellsOf, valuesOf, ErrataFor, SearchedAs};
 ghost use Rattle.code.specs.Word.{wordMost};
-ghost use Rattle.code.specs.Repair.{WordEntersAs, Searchable, countedOf, RepairsAs};
+ghost use Rattle.code.specs.Repair.{WordEntersAs, Searchable, RepairsAs};
 use super::word::WORD_MOST;
 
 // What repairing a word answers: how many unmarked cells were mended, or a refusal's number.
@@ -40,7 +37,7 @@ fn enter(n: usize, marks: &[u8]) -> Entered
     if marks.len() != n {
         return Entered { code: 2, marked: 0 };
     }
-    let t = super::marks::tally(marks);
+    let t = marks::tally(marks);
     let any = t.any;
     if 1 < any {
         return Entered { code: 3, marked: 0 };
@@ -57,7 +54,7 @@ fn erased(marks: &[u8], f: usize) -> [usize; 5]
     if f == 0 {
         return [0; 5];
     }
-    super::marks::list(marks, 1, 0).cells
+    marks::list(marks, 1, 0).cells
 }
 
 // The errata of a word with the remainder r, with the table made here.
@@ -88,36 +85,6 @@ fn search(word: &[u8], marks: &[u8], f: usize) -> errata::Found
         };
     }
     errata_of(r, marks, f)
-}
-
-// 1 where an erratum is at an unmarked cell and changes it.
-fn changes(marks: &[u8], p: usize, v: u8) -> usize
-    requires { ⌜ p < length (now marks) ⌝ }
-    ensures { λ r. ⌜ r ≡ oneIf (and (not (isMarked (now (marks .entry)) p)) (not (eqb v 0))) ⌝ }
-{
-    if marks[p] != 0 {
-        return 0;
-    }
-    if v == 0 {
-        return 0;
-    }
-    1
-}
-
-// How many unmarked cells of lane l the errata change.
-pub(crate) fn count(e: errata::Errata, marks: &[u8], lanes: usize, l: usize) -> usize
-    requires { ⌜ ErrataFor (length (now marks) / lanes) e × (l < lanes) × (length (now marks) ≤ 4096) ⌝ }
-    ensures { λ r. ⌜ r ≡ countedOf (lane lanes l (now (marks .entry))) (cellsOf e) (valuesOf e) ⌝ }
-{
-    let cells = e.cells;
-    let values = e.values;
-    let mut c = 0;
-    let mut i = e.count;
-    while 0 < i {
-        i -= 1;
-        c += changes(marks, lanes * cells[i] + l, values[i]);
-    }
-    c
 }
 
 // The errata, added to the word.
@@ -154,7 +121,7 @@ pub fn repair(word: &mut [u8], marks: &[u8]) -> Repaired
         return Repaired::Refused(6);
     }
     let errata = found.errata;
-    let mended = count(errata, marks, 1, 0);
+    let mended = marks::count(errata, marks, 1, 0);
     apply(errata, word);
     Repaired::Mended(mended)
 }

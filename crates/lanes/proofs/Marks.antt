@@ -12,9 +12,9 @@ use Rattle.account.specs.Reach.{countTo, isMarked, oneIf}
 use Rattle.account.proofs.Cells.{count-none}
 use Rattle.account.proofs.Lanes.{length-lane}
 use Rattle.rules.proofs.Numbers.{lt-or-ge}
-use Rattle.code.specs.Marks.{ListedIn}
-use Rattle.code.proofs.Applying.{lane-marked, lane-inside}
-use Rattle.code.proofs.Listing.{none-listed}
+use Rattle.marks.specs.Marks.{ListedIn}
+use Rattle.marks.proofs.Counting.{lane-marked, lane-inside}
+use Rattle.marks.proofs.Listing.{none-listed}
 
 -- what is counted nowhere is nowhere
 zero-count : (f : ℕ → Bool) (n : ℕ) → countTo f n ≡ 0 → (i : ℕ) → i < n → T (not (f i))

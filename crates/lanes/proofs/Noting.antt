@@ -6,9 +6,9 @@ use native.Mathlib.Nat.{mul-le-mul, le-of-lt}
 use native.Mathlib.Omega.{arith}
 use lib.ListN.{length, getD, set, length-set}
 use Rattle.account.specs.Lanes.{lane}
-use Rattle.code.specs.Patched.{patched}
-use Rattle.code.specs.declared.lane.LaneErrata.{LaneErrata}
-use Rattle.code.proofs.Patching.{patched-0, patched-more, patched-pushed, length-patched, lane-set, lane-set-other}
+use Rattle.dealt.specs.Patched.{patched}
+use Rattle.dealt.specs.declared.LaneErrata.{LaneErrata}
+use Rattle.dealt.proofs.Patching.{patched-0, patched-more, patched-pushed, length-patched, lane-set, lane-set-other}
 use Rattle.lanes.specs.Fixes.{AreOf, Noting, Noted}
 
 module _ (R l k : ℕ) (e : LaneErrata) (cells bytes : List ℕ) where

@@ -1,27 +1,25 @@
 -- A lane of a strip mended, from what the lower library promises of it.
 use mathlib.Core.Path.{_≡_, refl, sym, ap, _∙_, subst}
-use mathlib.Core.Bool.{Bool, true, false}
+use mathlib.Core.Bool.{true}
 use mathlib.Core.List.{List}
 use Prim.Native.Nat.{ℕ, _+_, _*_, _/_, _≤_, _<_}
-use native.Mathlib.Nat.{mul-div-right, mul-le-mul, le-div-iff-mul-le}
+use native.Mathlib.Nat.{mul-div-right, le-div-iff-mul-le}
 use native.Mathlib.Omega.{arith}
-use lib.ListN.{length, getD}
+use lib.ListN.{length}
 use Rattle.account.specs.Lanes.{lane}
 use Rattle.account.specs.Code.{Cells, Clean}
-use Rattle.account.specs.Reach.{Reach, countTo, isMarked, differsAt, marked}
+use Rattle.account.specs.Reach.{Reach, countTo, isMarked, differsAt}
 use Rattle.account.proofs.Cells.{count-none, not-differs}
 use Rattle.account.proofs.Lanes.{length-lane, bytes-lane}
 use Rattle.gf256.specs.Gf256.{gf256}
-use Rattle.level.specs.Strip.{columns, Legal, wrongIn, Mendable}
-use Rattle.code.specs.Marks.{ListedIn}
-use Rattle.code.specs.declared.marks.Listed.{Listed}
-use Rattle.code.specs.declared.lane.LaneErrata.{LaneErrata}
-use Rattle.code.specs.Lanes.{LaneFixed, LaneFixedAs, LaneAsked, LaneRemains}
-use Rattle.code.specs.Patched.{patched}
-use Rattle.code.proofs.Mending.{lane-clean}
-use Rattle.lanes.specs.declared.One.{One}
+use Rattle.level.specs.Strip.{columns, Mendable}
+use Rattle.marks.specs.Marks.{ListedIn}
+use Rattle.marks.specs.declared.Listed.{Listed}
+use Rattle.dealt.specs.declared.LaneErrata.{LaneErrata}
+use Rattle.dealt.specs.Lanes.{LaneFixed, LaneAsked}
+use Rattle.dealt.specs.Patched.{patched}
 use Rattle.lanes.specs.Fixes.{Room, Noting, Noted}
-use Rattle.lanes.specs.Lanes.{Entered, Ready, LaneMended, OneGood, OneAs}
+use Rattle.lanes.specs.Lanes.{Entered, OneGood, OneAs}
 
 module _ (R : ℕ) (s marks : List ℕ) (E : Entered R s marks) where
   pub some : 0 < R
@@ -42,9 +40,6 @@ module _ (R : ℕ) (s marks : List ℕ) (E : Entered R s marks) where
     matched = E .matched;
     good = E .good;
   }
-
-  pub strip-few : (j : ℕ) → j < R → length marks ≤ 4096
-  strip-few j h = let Q = asked j h in omega (arith, Q .matched, Q .full, mul-le-mul (Q .lanes) (Q .legal .to))
 
   -- ---- one lane
 

@@ -9,8 +9,8 @@ use lib.ListN.{length, getD}
 use Rattle.account.specs.Code.{Cells}
 use Rattle.account.specs.Reach.{countTo, isMarked}
 use Rattle.gf256.specs.Gf256.{gf256}
-use Rattle.code.specs.Lanes.{Remaindered}
-use Rattle.code.proofs.Mending.{lane-clean}
+use Rattle.dealt.specs.Lanes.{Remaindered}
+use Rattle.dealt.proofs.Mending.{lane-clean}
 use Rattle.lanes.specs.Fixes.{Room}
 use Rattle.lanes.specs.Lanes.{Entered, MendedAs}
 use Rattle.lanes.proofs.Marks.{none-listed-in}

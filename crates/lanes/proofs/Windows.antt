@@ -9,8 +9,8 @@ use lib.ListN.{length, getD, take, drop, set, length-set, length-drop, List·get
 use lib.Seq.{getD-set-same, getD-set-other, set-getD, getD-take, getD-drop, length-take-le}
 use Rattle.rules.specs.Says.{Says}
 use Rattle.rules.proofs.Tests.{said, denied}
-use Rattle.code.specs.Patched.{patched}
-use Rattle.code.proofs.Patching.{patched-0, patched-more, length-patched}
+use Rattle.dealt.specs.Patched.{patched}
+use Rattle.dealt.proofs.Patching.{patched-0, patched-more, length-patched}
 use Rattle.lanes.specs.Fixes.{Inside, PatchedAt, Shows, WindowPatched, Shown}
 
 -- ---- one cell

@@ -4,8 +4,8 @@ use mathlib.Core.List.{List}
 use Prim.Native.Nat.{ℕ, _+_, _/_, _≤_, _<_}
 use lib.ListN.{length, getD}
 use Rattle.account.specs.Lanes.{lane}
-use Rattle.code.specs.Patched.{patched}
-use Rattle.code.specs.declared.lane.LaneErrata.{LaneErrata}
+use Rattle.dealt.specs.Patched.{patched}
+use Rattle.dealt.specs.declared.LaneErrata.{LaneErrata}
 
 -- ---- noting
 

@@ -1,6 +1,6 @@
 // What is to be put right in a strip: cells, and beside each the byte that belongs there. There is room for the errata of sixteen lanes.
 ghost use Rattle.lanes.specs.Fixes.{Noting, Noted};
-use code::lane::LaneErrata;
+use dealt::LaneErrata;
 
 // How many cells can be noted: five in each of sixteen lanes.
 pub const FIXES: usize = 80;

@@ -6,13 +6,13 @@ ghost use Rattle.account.specs.Lanes.{lane};
 ghost use Rattle.rules.specs.Says.{Says};
 ghost use Rattle.rules.specs.Refusal.{Within};
 ghost use Rattle.gf256.specs.Tables.{Tables};
-ghost use Rattle.code.specs.Marks.{ListedIn};
-ghost use Rattle.code.specs.Lanes.{Remaindered};
+ghost use Rattle.marks.specs.Marks.{ListedIn};
+ghost use Rattle.dealt.specs.Lanes.{Remaindered};
 ghost use Rattle.lanes.specs.Fixes.{Room};
 ghost use Rattle.lanes.specs.Lanes.{NoneSet, Entered, Ready, OneAs, MendedAs};
-use code::lanes::LANES;
-use code::marks::Listed;
+use dealt::LANES;
 use fixes::FIXES;
+use marks::Listed;
 
 pub mod fixes; // what is to be put right in a strip
 pub mod window; // parts of the mended strip
@@ -42,7 +42,7 @@ fn marked_in(marks: &[u8], f: usize, lanes: usize, l: usize) -> Listed
             cells: [0; 5],
         };
     }
-    code::marks::list(marks, lanes, l)
+    marks::list(marks, lanes, l)
 }
 
 // Lane l, which is not clean: its errata noted after the first k.
@@ -61,7 +61,7 @@ fn repair_one(
     requires { ⌜ Tables (now tables) × Ready lanes l (now strip) (now marks) r × (marked .count ≤ 5) × ListedIn lanes l (now marks) marked × Room k (now cells) (now bytes) ⌝ }
     ensures { λ o. ⌜ OneAs lanes (now (strip .entry)) (now (marks .entry)) l k (now (cells .entry)) (now (bytes .entry)) (now (cells .exit)) (now (bytes .exit)) (o .good) o ⌝ }
 {
-    let e = code::lanes::mend(tables, strip, marks, lanes, l, r, marked);
+    let e = dealt::mend(tables, strip, marks, lanes, l, r, marked);
     let good = e.good;
     if !good {
         return One {
@@ -190,7 +190,7 @@ pub fn mend(
     requires { ⌜ Entered lanes (now strip) (now marks) × NoneSet f (now marks) × Room 0 (now cells) (now bytes) ⌝ }
     ensures { λ m. ⌜ MendedAs lanes (now (strip .entry)) (now (marks .entry)) (now (cells .exit)) (now (bytes .exit)) m ⌝ }
 {
-    let r = code::lanes::remainders(strip, lanes);
+    let r = dealt::remainders(strip, lanes);
     if f == 0 {
         if all_clean(r, lanes) {
             return Mending {

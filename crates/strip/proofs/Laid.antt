@@ -13,7 +13,7 @@ use Rattle.account.proofs.Lanes.{getD-past, cell}
 use Rattle.gf256.specs.Gf256.{gf256}
 use Rattle.rules.specs.Refusal.{First, asked}
 use Rattle.rules.specs.Placed.{Placed}
-use Rattle.code.specs.Lanes.{ChecksPut}
+use Rattle.dealt.specs.Lanes.{ChecksPut}
 use Rattle.code.specs.declared.word.Written.the-variants as written
 use Rattle.level.specs.Level.{Level, IsLevel, lending}
 use Rattle.level.specs.Record.{recordLength}

@@ -6,7 +6,7 @@ ghost use Rattle.rules.specs.Refusal.{Within};
 ghost use Rattle.rules.specs.Says.{Says};
 ghost use Rattle.level.specs.Strip.{Legal, wearOf};
 ghost use Rattle.level.specs.Reading.{dataOf};
-ghost use Rattle.code.specs.Patched.{patched};
+ghost use Rattle.dealt.specs.Patched.{patched};
 ghost use Rattle.record.specs.Reading.{AcceptedAs};
 ghost use Rattle.strip.specs.Reading.{stripNumbers, StripEntersAs, FinishesAs, StripReadsAs};
 ghost use Rattle.level.specs.Sizes.{tilesMost, scratchLeast, stripLeast, stripMost};
@@ -68,7 +68,7 @@ fn enter(strip: &[u8], marks: &[u8], tiles: usize, scratch: usize) -> Entered
     if marks.len() != strip.len() {
         return Entered { code: 2, marked: 0 };
     }
-    let any = code::marks::any(marks);
+    let any = marks::any(marks);
     if 1 < any {
         return Entered { code: 3, marked: 0 };
     }

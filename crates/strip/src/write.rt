@@ -29,7 +29,7 @@ fn lay(w: usize, h: usize, par: usize, tiles: &[u8], out: &mut [u8]) -> usize
     let b = record::write::put_record(w, h, par, tiles, out);
     let k = (b + 3) / 4;
     fill(out, b, 4 * k);
-    code::lanes::put_checks(out, k);
+    dealt::put_checks(out, k);
     4 * (k + 5)
 }
 

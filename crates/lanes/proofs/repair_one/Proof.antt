@@ -2,7 +2,7 @@ use mathlib.Core.Path.{subst}
 use mathlib.Core.Bool.{Bool}
 use borrow.Author.Tests.{not-true, not-false}
 use Rattle.gf256.specs.Gf256.{gf256}
-use Rattle.code.specs.Lanes.{LaneFixedAs}
+use Rattle.dealt.specs.Lanes.{LaneFixedAs}
 use Rattle.lanes.proofs.Repairs.{asked, to-note, mended-one}
 use Rattle.lanes.proofs.repair_one.Statement.{statement}
 use Rattle.lanes.proofs.repair_one.Tie as tie

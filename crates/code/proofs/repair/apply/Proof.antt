@@ -1,12 +1,13 @@
 use mathlib.Core.Path.{_≡_, subst}
-use Prim.Native.Nat.{ℕ, _-_, _≤_, _<_}
+use Prim.Native.Nat.{ℕ, _-_, _≤_}
 use native.Mathlib.Omega.{arith}
 use borrow.Author.Needs.{needs}
 use lib.ListN.{length}
 use lib.Seq.{slice}
 use Rattle.account.specs.Errata.{Applied}
 use Rattle.gf256.specs.Gf256.{gf256}
-use Rattle.code.proofs.Applying.{apply-starts, apply-goes, erratum-below}
+use Rattle.marks.proofs.Counting.{erratum-below}
+use Rattle.code.proofs.Applying.{apply-starts, apply-goes}
 use Rattle.code.proofs.repair.apply.Statement.{statement}
 use Rattle.code.proofs.repair.apply.Tie as tie
 

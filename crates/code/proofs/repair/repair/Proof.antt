@@ -4,7 +4,7 @@ use Prim.Native.Nat.{ℕ, _/_}
 use lib.ListN.{length}
 use Rattle.remainder.proofs.LanesOf.{lane-word}
 use Rattle.errata.specs.Errata.{cellsOf, valuesOf, ErrataFor}
-use Rattle.code.specs.Repair.{countedOf}
+use Rattle.marks.specs.Marks.{countedOf}
 use native.Mathlib.Omega.{arith}
 use borrow.Author.Tests.{not-true, not-false}
 use Rattle.code.proofs.Repairing.{entry-of, repair-refused, repair-beyond, too-many, searchable, repair-mends, searched, unsearched}

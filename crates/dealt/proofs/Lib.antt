@@ -1,0 +1,4 @@
+pub mod Gathering
+pub mod CheckCells
+pub mod Patching
+pub mod Mending

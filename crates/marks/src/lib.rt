@@ -1,0 +1,128 @@
+// Marks: one byte for each cell, 0 where it is read and 1 where it is unreadable. All of them or-ed, summed and listed, and the unmarked cells
+// that errata change, counted.
+ghost use mathlib.Core.Path.{_≡_};
+ghost use mathlib.Core.Bool.{not};
+ghost use Prim.Native.Nat.{_/_, _≤_, _<_};
+ghost use lib.Dec.{eqb};
+ghost use lib.ListN.{length};
+ghost use Rattle.account.specs.Reach.{isMarked, oneIf, and};
+ghost use Rattle.account.specs.Lanes.{lane};
+ghost use Rattle.errata.specs.Errata.{cellsOf, valuesOf, ErrataFor};
+ghost use Rattle.marks.specs.Marks.{Tallied, AnyOf, SumOf, Pushed, ListedIn, countedOf};
+
+// All marks or-ed together, and their sum.
+pub struct Marked {
+    pub any: u8,
+    pub sum: usize,
+}
+
+// All marks or-ed together. One pass with no branch and nothing else in it, so that it runs wide.
+pub fn any(marks: &[u8]) -> u8
+    ensures { λ r. ⌜ AnyOf (now (marks .entry)) r ⌝ }
+{
+    let mut x: u8 = 0;
+    let mut i = 0;
+    while i < marks.len() {
+        x = x | marks[i];
+        i += 1;
+    }
+    x
+}
+
+// The sum of all marks. The bound, more than a strip has, keeps it from overflowing.
+fn sum(marks: &[u8]) -> usize
+    requires { ⌜ length (now marks) ≤ 4096 ⌝ }
+    ensures { λ r. ⌜ SumOf (now (marks .entry)) r ⌝ }
+{
+    let mut x: usize = 0;
+    let mut i = 0;
+    while i < marks.len() {
+        x += marks[i] as usize;
+        i += 1;
+    }
+    x
+}
+
+// Both; where no mark is set there is nothing to sum.
+pub fn tally(marks: &[u8]) -> Marked
+    requires { ⌜ length (now marks) ≤ 4096 ⌝ }
+    ensures { λ r. ⌜ Tallied (now (marks .entry)) r ⌝ }
+{
+    let any = any(marks);
+    if any == 0 {
+        return Marked { any: 0, sum: 0 };
+    }
+    Marked {
+        any,
+        sum: sum(marks),
+    }
+}
+
+// The marked cells of a lane, the last first; where there are more than five, the count is six and the cells are of no account.
+pub struct Listed {
+    pub count: usize,
+    pub cells: [usize; 5],
+}
+
+// Cell i after the first k, if it is marked and there is room.
+fn push(cells: &mut [usize; 5], k: usize, mark: u8, i: usize) -> usize
+    requires { ⌜ k ≤ 5 ⌝ }
+    ensures { λ r. ⌜ Pushed mark i (now (cells .entry)) k (now (cells .exit)) r ⌝ }
+{
+    if mark == 0 {
+        return k;
+    }
+    if 4 < k {
+        return 6;
+    }
+    cells[k] = i;
+    k + 1
+}
+
+// The marked cells of lane l, from the last down to the sixth.
+pub fn list(marks: &[u8], lanes: usize, l: usize) -> Listed
+    requires { ⌜ (l < lanes) × (lanes ≤ 16) × (length (now marks) ≤ 4096) ⌝ }
+    ensures { λ r. ⌜ ListedIn lanes l (now (marks .entry)) r ⌝ }
+{
+    let mut cells = [0usize; 5];
+    let mut k: usize = 0;
+    let mut i = marks.len() / lanes;
+    while 0 < i {
+        i -= 1;
+        k = push(&mut cells, k, marks[lanes * i + l], i);
+        if 5 < k {
+            return Listed { count: k, cells };
+        }
+    }
+    Listed { count: k, cells }
+}
+
+// 1 where an erratum is at an unmarked cell and changes it.
+fn changes(marks: &[u8], p: usize, v: u8) -> usize
+    requires { ⌜ p < length (now marks) ⌝ }
+    ensures { λ r. ⌜ r ≡ oneIf (and (not (isMarked (now (marks .entry)) p)) (not (eqb v 0))) ⌝ }
+{
+    if marks[p] != 0 {
+        return 0;
+    }
+    if v == 0 {
+        return 0;
+    }
+    1
+}
+
+// How many unmarked cells of lane l the errata change.
+pub fn count(e: errata::Errata, marks: &[u8], lanes: usize, l: usize) -> usize
+    requires { ⌜ ErrataFor (length (now marks) / lanes) e × (l < lanes) × (length (now marks) ≤ 4096) ⌝ }
+    ensures { λ r. ⌜ r ≡ countedOf (lane lanes l (now (marks .entry))) (cellsOf e) (valuesOf e) ⌝ }
+{
+    let cells = e.cells;
+    let values = e.values;
+    let mut c = 0;
+    let mut i = e.count;
+    while 0 < i {
+        i -= 1;
+        c += changes(marks, lanes * cells[i] + l, values[i]);
+    }
+    c
+}

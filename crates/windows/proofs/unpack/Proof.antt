@@ -71,7 +71,7 @@ unpack-requires c κs =
       l .inv .0,
     )) ∙ omega arith in
     let h = window-holds (a .to) (l .from) (a .m) (l .t) (o .result) (k .result) (l .inv .1 .on (omega arith)) (p .2) (o .ensures .most) (o .ensures .before)
-    (o .ensures .full) (omega arith) (k .ensures .0) (k .ensures .1) (k .ensures .2) in (
+    (o .ensures .full) (omega arith) (omega (arith, k .ensures .0)) (k .ensures .1) (k .ensures .2) in (
       omega (arith, k .ensures .0),
       omega (arith, long, h .0),
       omega (
@@ -107,7 +107,7 @@ loop-again c =
     let x = o .last .1 .1 .1 .1 .1 .1 .0 in
     let bs = recordIn (a .strip .now) (a .cells .now) (a .bytes .now) (a .count) (a .to) in
     let h = window-holds (a .to) (l .from) (a .m) (l .t) (o .result) (k .result) (l .inv .1 .on (omega arith)) (p .2) (o .ensures .most) (o .ensures .before)
-    (o .ensures .full) (omega arith) (k .ensures .0) (k .ensures .1) (k .ensures .2) in (
+    (o .ensures .full) (omega arith) (omega (arith, k .ensures .0)) (k .ensures .1) (k .ensures .2) in (
       search needs,
       unpacking-more bs (a .m) (a .tiles .now) (l .tiles) (u .last .1 .1 .0) (postOf (l .t) (length (l .tiles) - l .t) (l .tiles))
           (take (o .result - 0) x) (l .from) (l .t) (o .result) (k .result) (l .inv .1) (omega arith)

@@ -3,12 +3,12 @@ use mathlib.Core.Path.{_≡_, refl, sym, ap, ap₂, _∙_, subst}
 use mathlib.Core.Logic.{_≢_}
 use mathlib.Core.Bool.{Bool, not}
 use mathlib.Core.List.{List, [], _∷_, _++_, append-assoc, append-nil}
-use Prim.Native.Nat.{ℕ, suc, _+_, _*_, _/_, _-_, _<_, _≤_}
+use Prim.Native.Nat.{ℕ, zero, suc, _+_, _*_, _/_, _-_, _<_, _≤_}
 use native.Mathlib.Decide.{ℕ-discrete}
 use native.Mathlib.Numerals.{add-one}
 use native.Mathlib.Omega.{arith}
 use lib.ListN.{length, getD, take, length-set, length-append}
-use lib.Seq.{take-suc-set, length-take-le}
+use lib.Seq.{take-suc-set, take-set-le, length-take-le}
 use borrow.Author.Tests.{eq-eqb, ne-eqb}
 use Rattle.account.specs.Lanes.{lane}
 use Rattle.account.specs.Reach.{countTo, isMarked}
@@ -20,12 +20,12 @@ use Rattle.marks.specs.Marks.{Pushed, ListedIn}
 
 -- the first k are listed, those below i are still to come
 pub record Listing (marks p : List ℕ) (k i : ℕ) : Type 0 where
-  pub room : length p ≡ 5
+  pub room : length p ≡ 6
   pub few : k ≤ 5
   pub within : i ≤ length marks
   pub list : take k p ++ places (isMarked marks) i ≡ erasures marks
 
-pub list-starts : (marks p : List ℕ) (i : ℕ) → length p ≡ 5 → i ≡ length marks → Listing marks p 0 i
+pub list-starts : (marks p : List ℕ) (i : ℕ) → length p ≡ 6 → i ≡ length marks → Listing marks p 0 i
 list-starts marks p i e h = record { room = e; few = omega arith; within = omega arith; list = ap (places (isMarked marks)) h }
 
 -- one cell more
@@ -41,19 +41,20 @@ module _ (marks p q : List ℕ) (k r i : ℕ) (L : Listing marks p k (suc i)) (u
     where
       go : Dec (getD marks i 0 ≡ 0) → Listing marks q r i
       go (yes z) = record {
-        room = ap length (u .none z .0) ∙ L .room;
+        room = ap length (u .put) ∙ length-set p k i ∙ L .room;
         few = h;
         within = omega (arith, L .within);
         list =
-            ap₂ (λ (m : ℕ) (v : List ℕ). take m v ++ places (isMarked marks) i) (u .none z .1) (u .none z .0)
+            ap₂ (λ (m : ℕ) (v : List ℕ). take m v ++ places (isMarked marks) i) (u .none z) (u .put)
+            ∙ ap (λ (v : List ℕ). v ++ places (isMarked marks) i) (take-set-le k p k i (omega arith))
             ∙ ap more (sym (ap not (eq-eqb (getD marks i 0) 0 z))) ∙ L .list;
       }
       go (no ne) = record {
-        room = ap length (u .put ne low) ∙ length-set p k i ∙ L .room;
+        room = ap length (u .put) ∙ length-set p k i ∙ L .room;
         few = h;
         within = omega (arith, L .within);
         list =
-            ap₂ (λ (m : ℕ) (v : List ℕ). take m v ++ places (isMarked marks) i) (u .some ne ∙ add-one k) (u .put ne low)
+            ap₂ (λ (m : ℕ) (v : List ℕ). take m v ++ places (isMarked marks) i) (u .some ne ∙ add-one k) (u .put)
             ∙ ap (λ (v : List ℕ). v ++ places (isMarked marks) i) (take-suc-set p k i (omega (arith, L .room, low)))
             ∙ append-assoc (take k p) (i ∷ []) (places (isMarked marks) i) ∙ marked-list ne;
       }
@@ -66,7 +67,7 @@ module _ (marks p q : List ℕ) (k r i : ℕ) (L : Listing marks p k (suc i)) (u
   list-full h = go (ℕ-discrete (getD marks i 0) 0)
     where
       go : Dec (getD marks i 0 ≡ 0) → (r ≤ 6) × (5 < countTo (isMarked marks) (length marks))
-      go (yes z) = absurd (omega (arith, u .none z .1, L .few))
+      go (yes z) = absurd (omega (arith, u .none z, L .few))
       go (no ne) = (
         omega (arith, u .some ne, L .few),
         omega (
@@ -103,19 +104,37 @@ module _ (R l : ℕ) (inside : l < R) (marks p : List ℕ) (k i : ℕ) (hi : 0 <
     pub lane-goes : r ≤ 5 → Listing (lane R l marks) q r (i - 1)
     lane-goes = list-goes (lane R l marks) p q k r (i - 1) this pushed
 
-    pub lane-many : 5 < r → ListedIn R l marks (record { count = r; cells = q })
-    lane-many h = record {
+    pub lane-many : (cells : List ℕ) → 5 < r → ListedIn R l marks (record { count = r; cells = cells })
+    lane-many cells h = record {
       most = list-full (lane R l marks) p q k r (i - 1) this pushed h .0;
       list = λ g. absurd (omega arith);
       count = λ g. absurd (omega arith);
       many = λ g. list-full (lane R l marks) p q k r (i - 1) this pushed h .1;
     }
 
+-- the first five of six
+abbrev five : List ℕ → List ℕ
+five p = getD p 0 0 ∷ getD p 1 0 ∷ getD p 2 0 ∷ getD p 3 0 ∷ getD p 4 0 ∷ []
+
+five-front : (p : List ℕ) → length p ≡ 6 → (k : ℕ) → k ≤ 5 → take k (five p) ≡ take k p
+five-front [] n k h = absurd (omega arith)
+five-front (a ∷ []) n k h = absurd (omega arith)
+five-front (a ∷ b ∷ []) n k h = absurd (omega arith)
+five-front (a ∷ b ∷ c ∷ []) n k h = absurd (omega arith)
+five-front (a ∷ b ∷ c ∷ d ∷ []) n k h = absurd (omega arith)
+five-front (a ∷ b ∷ c ∷ d ∷ e ∷ r) n zero h = refl
+five-front (a ∷ b ∷ c ∷ d ∷ e ∷ r) n (suc zero) h = refl
+five-front (a ∷ b ∷ c ∷ d ∷ e ∷ r) n (suc (suc zero)) h = refl
+five-front (a ∷ b ∷ c ∷ d ∷ e ∷ r) n (suc (suc (suc zero))) h = refl
+five-front (a ∷ b ∷ c ∷ d ∷ e ∷ r) n (suc (suc (suc (suc zero)))) h = refl
+five-front (a ∷ b ∷ c ∷ d ∷ e ∷ r) n (suc (suc (suc (suc (suc zero))))) h = refl
+five-front (a ∷ b ∷ c ∷ d ∷ e ∷ r) n (suc (suc (suc (suc (suc (suc k)))))) h = absurd (omega arith)
+
 -- all are listed
-pub list-ends : (R l : ℕ) (marks p : List ℕ) (k i : ℕ) → i ≡ 0 → Listing (lane R l marks) p k i → ListedIn R l marks (record { count = k; cells = p })
+pub list-ends : (R l : ℕ) (marks p : List ℕ) (k i : ℕ) → i ≡ 0 → Listing (lane R l marks) p k i → ListedIn R l marks (record { count = k; cells = five p })
 list-ends R l marks p k i z L = record {
   most = omega (arith, L .few);
-  list = λ h. record { room = L .room; list = all };
+  list = λ h. record { room = refl; list = five-front p (L .room) k (L .few) ∙ all };
   count = λ h.
       sym (length-take-le k p (omega (arith, L .room, L .few))) ∙ ap length all ∙ count-places (isMarked (lane R l marks)) (length (lane R l marks));
   many = λ h. absurd (omega (arith, L .few));

@@ -37,11 +37,11 @@ pub record AnyOf (marks : List ℕ) (a : ℕ) : Type 0 where
 pub record SumOf (marks : List ℕ) (x : ℕ) : Type 0 where
   pub count : GoodMarks marks → x ≡ countTo (isMarked marks) (length marks)
 
--- i is put after the first k of p, if its mark is set and there is room
+-- i is put after the first k of p, and counts if its mark is set
 pub record Pushed (mark i : ℕ) (p : List ℕ) (k : ℕ) (q : List ℕ) (r : ℕ) : Type 0 where
-  pub none : mark ≡ 0 → (q ≡ p) × (r ≡ k)
+  pub none : mark ≡ 0 → r ≡ k
   pub some : mark ≢ 0 → r ≡ k + 1
-  pub put : mark ≢ 0 → k < 5 → q ≡ set p k i
+  pub put : q ≡ set p k i
 
 -- how many of the errata are at an unmarked cell and change it
 abbrev pub countedOf : List ℕ → List ℕ → List ℕ → ℕ

@@ -2,6 +2,7 @@
 // that errata change, counted.
 ghost use mathlib.Core.Path.{_≡_};
 ghost use mathlib.Core.Bool.{not};
+ghost use mathlib.Core.Logic.{_≢_};
 ghost use Prim.Native.Nat.{_/_, _≤_, _<_};
 ghost use lib.Dec.{eqb};
 ghost use lib.ListN.{length};
@@ -64,19 +65,24 @@ pub struct Listed {
     pub cells: [usize; 5],
 }
 
-// Cell i after the first k, if it is marked and there is room.
-fn push(cells: &mut [usize; 5], k: usize, mark: u8, i: usize) -> usize
+// 1 where a mark is set.
+fn one(mark: u8) -> usize
+    ensures { λ r. ⌜ (r ≤ 1) × (mark ≡ 0 → r ≡ 0) × (mark ≢ 0 → r ≡ 1) ⌝ }
+{
+    if mark == 0 {
+        return 0;
+    }
+    1
+}
+
+// Cell i after the first k, where it stays if it is marked. It is put there in any case: nothing foretells where marks are, and a store costs less
+// than a branch that was guessed wrong.
+fn push(cells: &mut [usize; 6], k: usize, mark: u8, i: usize) -> usize
     requires { ⌜ k ≤ 5 ⌝ }
     ensures { λ r. ⌜ Pushed mark i (now (cells .entry)) k (now (cells .exit)) r ⌝ }
 {
-    if mark == 0 {
-        return k;
-    }
-    if 4 < k {
-        return 6;
-    }
     cells[k] = i;
-    k + 1
+    k + one(mark)
 }
 
 // The marked cells of lane l, from the last down to the sixth.
@@ -84,17 +90,23 @@ pub fn list(marks: &[u8], lanes: usize, l: usize) -> Listed
     requires { ⌜ (l < lanes) × (lanes ≤ 16) × (length (now marks) ≤ 4096) ⌝ }
     ensures { λ r. ⌜ ListedIn lanes l (now (marks .entry)) r ⌝ }
 {
-    let mut cells = [0usize; 5];
+    let mut cells = [0usize; 6];
     let mut k: usize = 0;
     let mut i = marks.len() / lanes;
     while 0 < i {
         i -= 1;
         k = push(&mut cells, k, marks[lanes * i + l], i);
         if 5 < k {
-            return Listed { count: k, cells };
+            return Listed {
+                count: k,
+                cells: [0; 5],
+            };
         }
     }
-    Listed { count: k, cells }
+    Listed {
+        count: k,
+        cells: [cells[0], cells[1], cells[2], cells[3], cells[4]],
+    }
 }
 
 // 1 where an erratum is at an unmarked cell and changes it.

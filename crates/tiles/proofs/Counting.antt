@@ -12,7 +12,9 @@ use Rattle.account.specs.Lists.{listOf, sumOf}
 use Rattle.account.proofs.Lanes.{getD-past}
 use Rattle.level.specs.Record.{bitAt, fieldAt}
 use Rattle.tiles.specs.Part.{tilesFrom, threeAt}
-use Rattle.tiles.specs.Sum.{weighed, weight, PartSummed, addsAt, Counted, pairsOf}
+use Rattle.tiles.specs.Sum.{weighed, weight, PartSummed, addsAt, Counted, pairsOf, triplesOf}
+use Rattle.tiles.specs.Pack.{wordAt}
+use Rattle.tiles.proofs.Digits.{three-groups}
 use Rattle.tiles.proofs.Eight.{eight, eight-at, six-1, last-1, first-1, six-2, last-2, first-2, six-3, last-3, first-3, first-4, last-4}
 
 -- one pair more
@@ -25,6 +27,23 @@ pub pairs-none : (w : ℕ → ℕ) (n u : ℕ) → n ≡ 0 → pairsOf w n u ≡
 unfolding pairsOf
 pairs-none w zero u h = refl
 pairs-none w (suc n) u h = absurd (omega arith)
+
+-- three more
+pub triples-next : (w : ℕ → ℕ) (n t u : ℕ) → 0 < n
+    → triplesOf w n (u * 512 + t % 512)
+    ≡ w (t % 512 / 64) + w (t % 512 / 8 % 8) + w (t % 512 % 8) + triplesOf w (n - 1) (u / 512 * 512 + u % 512)
+unfolding triplesOf
+triples-next w zero t u h = absurd (omega arith)
+triples-next w (suc n) t u h =
+    let e : suc n - 1 ≡ n = omega arith in
+    let low : (u * 512 + t % 512) % 512 ≡ t % 512 = omega arith in
+    let high : (u * 512 + t % 512) / 512 ≡ u / 512 * 512 + u % 512 = omega arith in
+    rw (e, low, high)
+
+pub triples-none : (w : ℕ → ℕ) (n v : ℕ) → n ≡ 0 → triplesOf w n v ≡ 0
+unfolding triplesOf
+triples-none w zero v h = refl
+triples-none w (suc n) v h = absurd (omega arith)
 
 -- the four pairs of three bytes are their eight tiles
 four-pairs : (w : ℕ → ℕ) (x y z : ℕ) → x < 256 → y < 256 → z < 256
@@ -82,6 +101,42 @@ sum-next w part g by =
     sum-three w part g (getD part (3 * g) 0) (getD part (3 * g + 1) 0) (getD part (3 * g + 2) 0) refl refl refl
     (by (3 * g)) (by (3 * g + 1)) (by (3 * g + 2))
 
+-- 24 tiles more, of nine bytes
+pub nine-next : (w : ℕ → ℕ) (part : List ℕ) (k : ℕ) → ((q : ℕ) → getD part q 0 < 256)
+    → sumOf (8 * (3 * (k + 1))) (λ t. w (fieldAt part (3 * t) 3))
+    ≡ sumOf (8 * (3 * k)) (λ t. w (fieldAt part (3 * t) 3)) + triplesOf w 8 (wordAt part (9 * k) * 256 + getD part (9 * k + 8) 0)
+nine-next w part k by =
+    let n : 3 * (k + 1) ≡ 3 * k + 1 + 1 + 1 = omega arith in
+    omega (
+      arith,
+      ap (λ (g : ℕ). sumOf (8 * g) (λ t. w (fieldAt part (3 * t) 3))) n,
+      sum-next w part (3 * k) by,
+      sum-next w part (3 * k + 1) by,
+      sum-next w part (3 * k + 1 + 1) by,
+      three-groups w (threeAt part (3 * k)) (threeAt part (3 * k + 1)) (threeAt part (3 * k + 1 + 1)) (small (3 * k + 1)) (small (3 * k + 1 + 1)),
+      ap (triplesOf w 8) joined,
+    )
+  where
+    small : (g : ℕ) → threeAt part g < 16777216
+    small g = omega (arith, by (3 * g), by (3 * g + 1), by (3 * g + 2))
+
+    joined : wordAt part (9 * k) * 256 + getD part (9 * k + 8) 0
+        ≡ (threeAt part (3 * k) * 16777216 + threeAt part (3 * k + 1)) * 16777216 + threeAt part (3 * k + 1 + 1)
+    joined =
+        let at : (i j : ℕ) → i ≡ j → getD part i 0 ≡ getD part j 0 = λ i j e. ap (λ (q : ℕ). getD part q 0) e in
+        omega (
+          arith,
+          at (9 * k) (3 * (3 * k)) (omega arith),
+          at (9 * k + 1) (3 * (3 * k) + 1) (omega arith),
+          at (9 * k + 2) (3 * (3 * k) + 2) (omega arith),
+          at (9 * k + 3) (3 * (3 * k + 1)) (omega arith),
+          at (9 * k + 4) (3 * (3 * k + 1) + 1) (omega arith),
+          at (9 * k + 5) (3 * (3 * k + 1) + 2) (omega arith),
+          at (9 * k + 6) (3 * (3 * k + 1 + 1)) (omega arith),
+          at (9 * k + 7) (3 * (3 * k + 1 + 1) + 1) (omega arith),
+          at (9 * k + 8) (3 * (3 * k + 1 + 1) + 2) (omega arith),
+        )
+
 -- sums of numbers
 sum-first : (n : ℕ) (f : ℕ → ℕ) → sumOf (suc n) f ≡ f 0 + sumOf n (λ i. f (suc i))
 unfolding sumOf
@@ -112,6 +167,17 @@ pub field-none : (part : List ℕ) (p n : ℕ) → ((q : ℕ) → p ≤ q → bi
 unfolding fieldAt
 field-none part p zero h = refl
 field-none part p (suc n) h = omega (arith, field-none part p n h, h (p + n) (omega arith))
+
+-- past the end nothing is added
+pub ended : (part : List ℕ) (h : ℕ) → length part ≤ 3 * h → h ≤ length part / 3 + 1
+    → sumOf (8 * h) (addsAt part) ≡ sumOf (8 * (length part / 3 + 1)) (addsAt part)
+ended part h all most = ⊎-elim (λ a.
+    let e : 8 * (length part / 3 + 1) ≡ 8 * h + 8 = omega arith in
+    omega (arith, ap (λ (k : ℕ). sumOf k (addsAt part)) e, sum-append (8 * h) 8 (addsAt part), sum-none 8 (λ i. addsAt part (8 * h + i)) past)) (λ b.
+    let e : h ≡ length part / 3 + 1 = omega arith in ap (λ (k : ℕ). sumOf (8 * k) (addsAt part)) e) (lt-or-ge h (length part / 3 + 1))
+  where
+    past : (i : ℕ) → addsAt part (8 * h + i) ≡ 0
+    past i = ap weighed (field-none part (3 * (8 * h + i)) 3 (λ q l. bit-past part q (omega arith)))
 
 -- the sum over all groups of three bytes is that of the tiles
 module _ (part : List ℕ) (m : ℕ) (room : 3 * m ≤ 8 * length part) (none : (p : ℕ) → 3 * m ≤ p → p < 8 * length part → bitAt part p ≡ 0) where

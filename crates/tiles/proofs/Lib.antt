@@ -1,7 +1,7 @@
 pub mod Rows
-pub mod Keys
 pub mod Eight
 pub mod Part
+pub mod Digits
 pub mod Counting
 pub mod Putting
 pub mod Packing

@@ -11,6 +11,7 @@ use Rattle.rules.proofs.Numbers.{lt-or-ge}
 use Rattle.account.specs.Lists.{listOf}
 use Rattle.account.proofs.Lists.{length-listOf, getD-listOf}
 use Rattle.level.specs.Record.{fieldAt}
+use Rattle.lookups.specs.Spread.{firstOf, secondOf, thirdOf}
 use Rattle.tiles.specs.Part.{tilesFrom, threeAt}
 use Rattle.tiles.specs.Put.{spreadOf, byteOf, Puts}
 use Rattle.tiles.proofs.Eight.{eight, eight-at, six-1, last-1, first-1, six-2, last-2, first-2, six-3, last-3, first-3, first-4, last-4}
@@ -84,6 +85,32 @@ spread-three x y z hx hy hz =
       first-4 x y z hx,
       last-4 x y z,
     ) (omega arith)
+
+-- the same from what each byte has of them
+pub spread-sum : (x y z : ℕ) → x < 256 → y < 256 → z < 256 → spreadOf 4 (x * 65536 + y * 256 + z) 0 ≡ firstOf x + secondOf y + thirdOf z
+unfolding numberOf
+spread-sum x y z hx hy hz = spread-three x y z hx hy hz ∙ omega arith
+
+first-small : (x a : ℕ) → x < 256 → a ≡ firstOf x → a < 1048576
+first-small x a h e = omega arith
+
+second-small : (y b : ℕ) → y < 256 → b ≡ secondOf y → b < 281474976710656
+second-small y b h e = omega arith
+
+third-small : (z c : ℕ) → z < 256 → c ≡ thirdOf z → c < 576460752303423488
+third-small z c h e = omega arith
+
+pub pair-small : (x y a b : ℕ) → x < 256 → y < 256 → a ≡ firstOf x → b ≡ secondOf y → a + b < 562949953421312
+pair-small x y a b hx hy ea eb = two a b (first-small x a hx ea) (second-small y b hy eb)
+  where
+    two : (a b : ℕ) → a < 1048576 → b < 281474976710656 → a + b < 562949953421312
+    two a b ha hb = omega arith
+
+pub sum-small : (x y z a b c : ℕ) → x < 256 → y < 256 → z < 256 → a ≡ firstOf x → b ≡ secondOf y → c ≡ thirdOf z → a + b + c < 18446744073709551616
+sum-small x y z a b c hx hy hz ea eb ec = three (a + b) c (pair-small x y a b hx hy ea eb) (third-small z c hz ec)
+  where
+    three : (d c : ℕ) → d < 562949953421312 → c < 576460752303423488 → d + c < 18446744073709551616
+    three d c hd hc = omega arith
 
 spread-byte : (x y z : ℕ) → x < 256 → y < 256 → z < 256 → (j : ℕ) → byteOf j (spreadOf 4 (x * 65536 + y * 256 + z) 0) ≡ getD (eight x y z) j 0
 spread-byte x y z hx hy hz j =

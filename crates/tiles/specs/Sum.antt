@@ -2,21 +2,14 @@
 use mathlib.Core.Path.{_≡_}
 use mathlib.Core.Bool.{cond}
 use mathlib.Core.List.{List, [], _∷_}
-use Prim.Native.Nat.{ℕ, zero, suc, _+_, _*_, _/_, _%_, _≤_, _<_}
+use Prim.Native.Nat.{ℕ, zero, suc, _+_, _*_, _-_, _/_, _%_, _≤_, _<_}
 use lib.Dec.{ltb}
 use lib.ListN.{length}
-use Rattle.level.specs.Tile.{Row, adds}
 use Rattle.account.specs.Lists.{sumOf}
 use Rattle.level.specs.Record.{bitAt, fieldAt}
 use Rattle.tiles.specs.Part.{tilesFrom}
-
--- twelve bits a sum; 36 to 47 are free
-abbrev pub packed : Row → ℕ
-packed r = r .player + 4096 * r .crate' + 16777216 * r .goal
-
--- what a tile adds; the bits from 48 on count what is no tile code
-abbrev pub weighed : ℕ → ℕ
-weighed t = cond (ltb t 7) (packed (adds t)) 281474976710656
+-- a row as one number, and what a tile adds
+pub use Rattle.lookups.specs.Weights.{packed, weighed}
 
 unfoldable pub weight : List ℕ → ℕ
 weight [] = 0
@@ -36,6 +29,16 @@ addsAt part t = weighed (fieldAt part (3 * t) 3)
 pub record Counted (part : List ℕ) (r : ℕ) : Type 0 where
   pub all : r ≡ sumOf (8 * (length part / 3 + 1)) (addsAt part)
   pub small : r ≤ 2251799813685248 * (length part / 3 + 1)
+
+-- what its groups from g on add
+pub record CountedFrom (part : List ℕ) (g r : ℕ) : Type 0 where
+  pub rest : sumOf (8 * g) (addsAt part) + r ≡ sumOf (8 * (length part / 3 + 1)) (addsAt part)
+  pub small : r ≤ 2251799813685248 * (length part / 3 + 1 - g)
+
+-- what n times three tiles add, the last three in the lowest nine bits, where a tile adds w
+unfoldable pub triplesOf : (ℕ → ℕ) → ℕ → ℕ → ℕ
+triplesOf w zero v = 0
+triplesOf w (suc n) v = w (v % 512 / 64) + w (v % 512 / 8 % 8) + w (v % 512 % 8) + triplesOf w n (v / 512)
 
 -- what n pairs of tiles add, the last pair in the lowest six bits, where a tile adds w
 unfoldable pub pairsOf : (ℕ → ℕ) → ℕ → ℕ → ℕ

@@ -3,7 +3,7 @@ ghost use mathlib.Core.Path.{_≡_};
 ghost use Prim.Native.Nat.{ℕ, _+_, _*_, _/_, _≤_, _<_};
 ghost use lib.ListN.{length, getD};
 ghost use Rattle.level.specs.Sizes.{tilesMost};
-ghost use Rattle.tiles.specs.Pack.{wordAt, joinedAt, turnedOf, PackedIn};
+ghost use Rattle.tiles.specs.Pack.{joinedAt, turnedOf, PackedIn};
 use super::group::wide;
 
 // One tile more in the lowest bits.
@@ -14,27 +14,12 @@ fn push(v: u64, t: u8) -> u64
     v * 8 + wide(t)
 }
 
-// Eight bytes as one number, the first highest. It becomes one load.
-fn word(tiles: &[u8], k: usize) -> u64
-    requires { ⌜ k + 8 ≤ length (now tiles) ⌝ }
-    ensures { λ r. ⌜ r ≡ wordAt (now (tiles .entry)) k ⌝ }
-{
-    wide(tiles[k]) << 56
-        | wide(tiles[k + 1]) << 48
-        | wide(tiles[k + 2]) << 40
-        | wide(tiles[k + 3]) << 32
-        | wide(tiles[k + 4]) << 24
-        | wide(tiles[k + 5]) << 16
-        | wide(tiles[k + 6]) << 8
-        | wide(tiles[k + 7])
-}
-
 // Eight tiles as one number of 24 bits, the first highest: two are put together at each of four places, then four at two.
 fn full(tiles: &[u8], g: usize) -> u64
     requires { ⌜ (g ≤ 1000) × (8 * g + 8 ≤ length (now tiles)) × ((q : ℕ) → getD (now tiles) q 0 ≤ 7) ⌝ }
     ensures { λ r. ⌜ r ≡ joinedAt (now (tiles .entry)) g ⌝ }
 {
-    let w = word(tiles, 8 * g);
+    let w = super::group::word(tiles, 8 * g);
     let a = (w + w / 32) & 0x003F003F003F003F;
     let b = (a + a / 1024) & 0x00000FFF00000FFF;
     (b + b / 1048576) % 16777216

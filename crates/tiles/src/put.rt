@@ -7,30 +7,22 @@ ghost use Rattle.tiles.specs.Part.{tilesFrom};
 ghost use Rattle.tiles.specs.Put.{spreadOf, Puts};
 ghost use Rattle.level.specs.Sizes.{tilesMost};
 
-// The eight tiles in the lowest 24 bits, a byte each, the first lowest.
-fn spread(v: u64) -> u64
-    ensures { λ r. ⌜ r ≡ spreadOf 4 v 0 ⌝ }
+// The eight tiles of three bytes, a byte each, the first lowest. Each table is used in this one place, so that it stays one load.
+fn spread(x: u8, y: u8, z: u8) -> u64
+    ensures { λ r. ⌜ r ≡ spreadOf 4 (x * 65536 + y * 256 + z) 0 ⌝ }
 {
-    let mut u = v;
-    let mut s: u64 = 0;
-    let mut n: usize = 4;
-    while 0 < n {
-        s = s * 65536 + super::table::two(u % 64);
-        u = u / 64;
-        n -= 1;
-    }
-    s
+    lookups::first(x as usize) + lookups::second(y as usize) + lookups::third(z as usize)
 }
 
-// Two tiles with no table: a table that is called from two places is not inlined in either.
-fn two_last(a: u64) -> u64
+// Two tiles, the first in the lower byte.
+fn two(a: u64) -> u64
     requires { ⌜ a < 64 ⌝ }
     ensures { λ r. ⌜ r ≡ a / 8 + 256 * (a % 8) ⌝ }
 {
     a / 8 + 256 * (a % 8)
 }
 
-// The same for the last tiles.
+// The eight tiles in the lowest 24 bits.
 fn spread_last(v: u64) -> u64
     ensures { λ r. ⌜ r ≡ spreadOf 4 v 0 ⌝ }
 {
@@ -38,7 +30,7 @@ fn spread_last(v: u64) -> u64
     let mut s: u64 = 0;
     let mut n: usize = 4;
     while 0 < n {
-        s = s * 65536 + two_last(u % 64);
+        s = s * 65536 + two(u % 64);
         u = u / 64;
         n -= 1;
     }
@@ -82,8 +74,15 @@ pub fn unpack(part: &[u8], m: usize, tiles: &mut [u8])
     let n = m / 8;
     let mut g: usize = 0;
     while g < n {
-        put_word(tiles, 8 * g, spread(super::group::full(part, g)));
+        put_word(
+            tiles,
+            8 * g,
+            spread(part[3 * g], part[3 * g + 1], part[3 * g + 2]),
+        );
         g += 1;
+    }
+    if 8 * n == m {
+        return;
     }
     put_rest(tiles, 8 * n, m, spread_last(super::group::last(part, n)));
 }

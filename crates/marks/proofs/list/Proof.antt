@@ -53,7 +53,7 @@ returns c =
     let L = c5 .loop in
     let u = c .before .push in
     lane-many (s .args .lanes) (s .args .l) (s .pre .0) (s .args .marks .now) (L .cells) (L .k) (L .i) (search needs) (L .inv) (u .last .0) (u .result)
-    (u .ensures) (c .if1 .taken)
+    (u .ensures) _ (c .if1 .taken)
 
 loop-less : tie.Need-loop-less Inv-loop μ-loop
 loop-less c = search needs
@@ -66,6 +66,21 @@ loop-again c =
     let u = c .before .push in
     lane-goes (s .args .lanes) (s .args .l) (s .pre .0) (s .args .marks .now) (L .cells) (L .k) (L .i) (search needs) (L .inv) (u .last .0) (u .result)
     (u .ensures) (search needs)
+
+array-read-t7 : tie.Need-array-read-t7 Inv-loop μ-loop
+array-read-t7 c = search needs
+
+array-read-t19 : tie.Need-array-read-t19 Inv-loop μ-loop
+array-read-t19 c = search needs
+
+array-read-t22 : tie.Need-array-read-t22 Inv-loop μ-loop
+array-read-t22 c = search needs
+
+array-read-t25 : tie.Need-array-read-t25 Inv-loop μ-loop
+array-read-t25 c = search needs
+
+array-read-t28 : tie.Need-array-read-t28 Inv-loop μ-loop
+array-read-t28 c = search needs
 
 returns-2 : tie.Need-returns-2 Inv-loop μ-loop
 returns-2 c =
@@ -89,4 +104,9 @@ list-spec =
     returns
     loop-less
     loop-again
+    array-read-t7
+    array-read-t19
+    array-read-t22
+    array-read-t25
+    array-read-t28
     returns-2)

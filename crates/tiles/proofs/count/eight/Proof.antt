@@ -10,10 +10,10 @@ use Rattle.tiles.proofs.count.eight.Statement.{statement}
 use Rattle.tiles.proofs.count.eight.Tie as tie
 
 abbrev Inv-loop : tie.InvT-loop
-Inv-loop v u₀ s₀ n₀ u s n = (n ≤ 4) × (s + 562949953421312 * n ≤ 2251799813685248) × (s + pairsOf weighed n u ≡ pairsOf weighed 4 v)
+Inv-loop rows v u₀ s₀ n₀ u s n = (n ≤ 4) × (s + 562949953421312 * n ≤ 2251799813685248) × (s + pairsOf weighed n u ≡ pairsOf weighed 4 v)
 
 abbrev μ-loop : tie.MeasureT-loop
-μ-loop v u₀ s₀ n₀ u s n = n
+μ-loop rows v u₀ s₀ n₀ u s n = n
 
 loop-holds : tie.Need-loop-holds Inv-loop μ-loop
 loop-holds c = search needs

@@ -1,58 +1,49 @@
-use mathlib.Core.Path.{_≡_, refl, sym, _∙_}
-use Prim.Native.Nat.{_-_, _≤_, _<_}
+use mathlib.Core.Path.{sym, _∙_}
+use Prim.Native.Nat.{ℕ, _<_}
 use native.Mathlib.Omega.{arith}
 use borrow.Author.Needs.{needs}
-use Rattle.tiles.specs.Put.{spreadOf}
-use Rattle.tiles.proofs.Putting.{limit, limit-4, limit-next, limit-top, spread-next, spread-none}
+use Rattle.tiles.proofs.Putting.{spread-sum, pair-small, sum-small}
 use Rattle.tiles.proofs.put.spread.Statement.{statement}
 use Rattle.tiles.proofs.put.spread.Tie as tie
 
-abbrev Inv-loop : tie.InvT-loop
-Inv-loop v u₀ s₀ n₀ u s n = (n ≤ 4) × (s < limit n) × (spreadOf n u s ≡ spreadOf 4 v 0)
+under : (n : ℕ) → n < 562949953421312 → n < 18446744073709551616
+under n h = omega arith
 
-abbrev μ-loop : tie.MeasureT-loop
-μ-loop v u₀ s₀ n₀ u s n = n
+first-requires : tie.Need-first-requires
+first-requires c κs = search needs
 
-loop-holds : tie.Need-loop-holds Inv-loop μ-loop
-loop-holds c = (omega arith, limit-4, refl)
+second-requires : tie.Need-second-requires
+second-requires c κs = search needs
 
-mul-s : tie.Need-mul-s Inv-loop μ-loop
-mul-s c = let l = c .before .loop in omega (arith, l .inv .1, limit-next (l .n) (omega arith), limit-top (l .n - 1))
+add-result : tie.Need-add-result
+add-result c =
+    let a = c .before .before .args in
+    let h = pair-small (a .x) (a .y) (c .before .first .result) (c .second .result) (omega arith) (omega arith) (c .before .first .ensures) (c .second .ensures) in
+    record { fits = under _ h }
 
-two-requires : tie.Need-two-requires Inv-loop μ-loop
-two-requires c κs = search needs
+third-requires : tie.Need-third-requires
+third-requires c κs = search needs
 
-add-s : tie.Need-add-s Inv-loop μ-loop
-add-s c = let l = c .before .before .loop in omega (arith, c .two .ensures, l .inv .1, limit-next (l .n) (omega arith), limit-top (l .n - 1))
+add-result-2 : tie.Need-add-result-2
+add-result-2 c =
+    let a = c .before .before .before .args in
+    record {
+      fits = sum-small (a .x) (a .y) (a .z) (c .before .before .first .result) (c .before .second .result) (c .third .result) (omega arith) (omega arith)
+          (omega arith) (c .before .before .first .ensures) (c .before .second .ensures) (c .third .ensures);
+    }
 
-sub-n : tie.Need-sub-n Inv-loop μ-loop
-sub-n c = search needs
-
-loop-less : tie.Need-loop-less Inv-loop μ-loop
-loop-less c = search needs
-
-loop-again : tie.Need-loop-again Inv-loop μ-loop
-loop-again c =
-    let l = c .before .before .loop in (
-      omega arith,
-      omega (arith, c .two .ensures, l .inv .1, limit-next (l .n) (omega arith)),
-      sym (spread-next (l .n) (l .u) (l .s) (c .two .result) (omega arith) (c .two .ensures)) ∙ l .inv .2,
+returns : tie.Need-returns
+returns c =
+    let a = c .before .before .before .args in
+    omega (
+      arith,
+      c .before .before .first .ensures,
+      c .before .second .ensures,
+      c .third .ensures,
+      spread-sum (a .x) (a .y) (a .z) (omega arith) (omega arith) (omega arith),
     )
-
-returns : tie.Need-returns Inv-loop μ-loop
-returns c = let l = c .before .loop in sym (spread-none (l .n) (l .u) (l .s) (omega arith)) ∙ l .inv .2
 
 pub spread-spec : {M : Type 1} → statement M
 spread-spec =
     tie.close
-    (tie.spec
-    Inv-loop
-    μ-loop
-    loop-holds
-    mul-s
-    two-requires
-    add-s
-    sub-n
-    loop-less
-    loop-again
-    returns)
+    (tie.spec first-requires second-requires add-result third-requires add-result-2 returns)

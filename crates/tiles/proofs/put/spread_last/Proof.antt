@@ -19,11 +19,11 @@ loop-holds c = (omega arith, limit-4, refl)
 mul-s : tie.Need-mul-s Inv-loop μ-loop
 mul-s c = let l = c .before .loop in omega (arith, l .inv .1, limit-next (l .n) (omega arith), limit-top (l .n - 1))
 
-two-last-requires : tie.Need-two-last-requires Inv-loop μ-loop
-two-last-requires c κs = search needs
+two-requires : tie.Need-two-requires Inv-loop μ-loop
+two-requires c κs = search needs
 
 add-s : tie.Need-add-s Inv-loop μ-loop
-add-s c = let l = c .before .before .loop in omega (arith, c .two-last .ensures, l .inv .1, limit-next (l .n) (omega arith), limit-top (l .n - 1))
+add-s c = let l = c .before .before .loop in omega (arith, c .two .ensures, l .inv .1, limit-next (l .n) (omega arith), limit-top (l .n - 1))
 
 sub-n : tie.Need-sub-n Inv-loop μ-loop
 sub-n c = search needs
@@ -35,8 +35,8 @@ loop-again : tie.Need-loop-again Inv-loop μ-loop
 loop-again c =
     let l = c .before .before .loop in (
       omega arith,
-      omega (arith, c .two-last .ensures, l .inv .1, limit-next (l .n) (omega arith)),
-      sym (spread-next (l .n) (l .u) (l .s) (c .two-last .result) (omega arith) (c .two-last .ensures)) ∙ l .inv .2,
+      omega (arith, c .two .ensures, l .inv .1, limit-next (l .n) (omega arith)),
+      sym (spread-next (l .n) (l .u) (l .s) (c .two .result) (omega arith) (c .two .ensures)) ∙ l .inv .2,
     )
 
 returns : tie.Need-returns Inv-loop μ-loop
@@ -50,7 +50,7 @@ spread-last-spec =
     μ-loop
     loop-holds
     mul-s
-    two-last-requires
+    two-requires
     add-s
     sub-n
     loop-less

@@ -25,8 +25,29 @@ loop-holds c = (omega arith, refl, λ i h. absurd (omega arith), λ i h. refl)
 mul-put-word : tie.Need-mul-put-word Inv-loop μ-loop
 mul-put-word c = search needs
 
-full-requires : tie.Need-full-requires Inv-loop μ-loop
-full-requires c κs = search needs
+mul-spread : tie.Need-mul-spread Inv-loop μ-loop
+mul-spread c = search needs
+
+shared-slice-read-spread : tie.Need-shared-slice-read-spread Inv-loop μ-loop
+shared-slice-read-spread c = search needs
+
+mul-spread-2 : tie.Need-mul-spread-2 Inv-loop μ-loop
+mul-spread-2 c = search needs
+
+add-spread : tie.Need-add-spread Inv-loop μ-loop
+add-spread c = search needs
+
+shared-slice-read-spread-2 : tie.Need-shared-slice-read-spread-2 Inv-loop μ-loop
+shared-slice-read-spread-2 c = search needs
+
+mul-spread-3 : tie.Need-mul-spread-3 Inv-loop μ-loop
+mul-spread-3 c = search needs
+
+add-spread-2 : tie.Need-add-spread-2 Inv-loop μ-loop
+add-spread-2 c = search needs
+
+shared-slice-read-spread-3 : tie.Need-shared-slice-read-spread-3 Inv-loop μ-loop
+shared-slice-read-spread-3 c = search needs
 
 spread-requires : tie.Need-spread-requires Inv-loop μ-loop
 spread-requires c κs = search needs
@@ -42,19 +63,30 @@ loop-less c = search needs
 
 loop-again : tie.Need-loop-again Inv-loop μ-loop
 loop-again c =
-    let a = c .before .before .before .before .before .before .before .before .before .before .args in
-    let k = c .before .before .before .before .before .before .before .before .before .shared-slice-known .given in
-    let l = c .before .before .before .before .before .before .before .loop in
-    let t = c .before .before .before .before .full in
+    let s = c .before .before .before .before .before .before .before .before .before in
+    let a = s .before .before .before .args in
+    let k = s .before .before .shared-slice-known .given in
+    let l = s .loop in
     let w = c .before .before .before .spread in
     let p = c .before .before .put-word in (
       omega arith,
       p .kept .0 ∙ l .inv .1,
-      λ i h r. tiles-next (a .part .now) (l .tiles) (p .last .0) (l .g) (8 * l .g + 8) (w .result) (λ q. omega (arith, k q))
-          (w .ensures ∙ ap (λ (v : ℕ). spreadOf 4 v 0) (t .ensures)) (p .ensures)
+      λ i h r. tiles-next (a .part .now) (l .tiles) (p .last .0) (l .g) (8 * l .g + 8) (w .result) (λ q. omega (arith, k q)) (w .ensures) (p .ensures)
           (λ j x y. l .inv .2 j x (omega arith)) i h (omega arith),
       λ i h. p .ensures .past i (omega arith) ∙ l .inv .3 i (omega arith),
     )
+
+mul-if1 : tie.Need-mul-if1 Inv-loop μ-loop
+mul-if1 c = search needs
+
+same-length : tie.Need-same-length Inv-loop μ-loop
+same-length c = search needs
+
+returns : tie.Need-returns Inv-loop μ-loop
+returns c =
+    let a = c .before .before .before .before .before .args in
+    let l = c .before .before .loop in
+    tiles-put (a .part .now) (a .tiles .now) (l .tiles) (a .m) (omega arith) (l .inv .1) (λ i h. l .inv .2 i (omega arith) h) (λ i h. l .inv .3 i (omega arith))
 
 mul-put-rest : tie.Need-mul-put-rest Inv-loop μ-loop
 mul-put-rest c = search needs
@@ -68,14 +100,15 @@ spread-last-requires c κs = search needs
 put-rest-requires : tie.Need-put-rest-requires Inv-loop μ-loop
 put-rest-requires c κs = search needs
 
-same-length : tie.Need-same-length Inv-loop μ-loop
-same-length c = search needs
+same-length-2 : tie.Need-same-length-2 Inv-loop μ-loop
+same-length-2 c = search needs
 
-returns : tie.Need-returns Inv-loop μ-loop
-returns c =
-    let a = c .before .before .before .before .before .before .before .before .before .before .args in
-    let k = c .before .before .before .before .before .before .before .before .before .shared-slice-known .given in
-    let l = c .before .before .before .before .before .before .before .loop in
+returns-2 : tie.Need-returns-2 Inv-loop μ-loop
+returns-2 c =
+    let s = c .before .before .before .before .before .before .before .before in
+    let a = s .before .before .before .args in
+    let k = s .before .before .shared-slice-known .given in
+    let l = s .loop in
     let t = c .before .before .before .before .last in
     let w = c .before .before .before .spread-last in
     let p = c .before .before .put-rest in
@@ -93,15 +126,25 @@ unpack-spec =
     μ-loop
     loop-holds
     mul-put-word
-    full-requires
+    mul-spread
+    shared-slice-read-spread
+    mul-spread-2
+    add-spread
+    shared-slice-read-spread-2
+    mul-spread-3
+    add-spread-2
+    shared-slice-read-spread-3
     spread-requires
     put-word-requires
     add-g
     loop-less
     loop-again
+    mul-if1
+    same-length
+    returns
     mul-put-rest
     last-requires
     spread-last-requires
     put-rest-requires
-    same-length
-    returns)
+    same-length-2
+    returns-2)

@@ -3,8 +3,8 @@ use Prim.Native.Nat.{_+_}
 use native.Mathlib.Omega.{arith}
 use Rattle.tiles.proofs.Word.{or-eight}
 use borrow.Author.Needs.{needs}
-use Rattle.tiles.proofs.pack.word.Statement.{statement}
-use Rattle.tiles.proofs.pack.word.Tie as tie
+use Rattle.tiles.proofs.group.word.Statement.{statement}
+use Rattle.tiles.proofs.group.word.Tie as tie
 
 shared-slice-read-wide : tie.Need-shared-slice-read-wide
 shared-slice-read-wide c = search needs

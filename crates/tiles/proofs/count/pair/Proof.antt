@@ -2,8 +2,8 @@ use Prim.Native.Nat.{_/_, _%_}
 use native.Mathlib.Omega.{arith}
 use borrow.Author.Needs.{needs}
 use Rattle.tiles.proofs.Rows.{weighed-small}
-use Rattle.tiles.proofs.count.pair_last.Statement.{statement}
-use Rattle.tiles.proofs.count.pair_last.Tie as tie
+use Rattle.tiles.proofs.count.pair.Statement.{statement}
+use Rattle.tiles.proofs.count.pair.Tie as tie
 
 cast-weigh : tie.Need-cast-weigh
 cast-weigh c = search needs
@@ -25,5 +25,5 @@ add-result c =
 returns : tie.Need-returns
 returns c = search needs
 
-pub pair-last-spec : {M : Type 1} → statement M
-pair-last-spec = tie.close (tie.spec cast-weigh weigh-requires cast-weigh-2 weigh-requires-2 add-result returns)
+pub pair-spec : {M : Type 1} → statement M
+pair-spec = tie.close (tie.spec cast-weigh weigh-requires cast-weigh-2 weigh-requires-2 add-result returns)

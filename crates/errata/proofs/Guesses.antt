@@ -24,9 +24,9 @@ use Rattle.account.proofs.Search as search'
 use Rattle.account.proofs.Search.{Ready, distinct-append, distinct-erasures}
 use Rattle.gf256.specs.Gf256.{gf256, times}
 use Rattle.gf256.specs.Tables.{placeOf, inverseOf}
+use Rattle.gf256.proofs.Lookups.{same-quotient}
 use Rattle.gf256.proofs.Field256.{field256, inv-is}
 use Rattle.errata.proofs.Sums.{drain-starts}
-use Rattle.errata.proofs.Values.{same-quotient}
 use Rattle.errata.specs.declared.Errata.{Errata}
 use Rattle.errata.specs.Errata.{at, Left, Listed, Drained, Gathered, Guess, NoGuess}
 use Rattle.errata.specs.Errata.{GuessedAs, Bytes5, Couple, Valued, cellsOf, valuesOf, Corrects, Beyond}

@@ -14,22 +14,14 @@ use Rattle.account.proofs.Filter as filter
 use Rattle.account.proofs.Solve.{solve-near}
 use Rattle.gf256.specs.Gf256.{gf256, times}
 use Rattle.gf256.specs.Tables.{placeOf, inverseOf}
-use Rattle.gf256.proofs.Field256.{field256, inverse-right}
+use Rattle.gf256.proofs.Field256.{field256}
+use Rattle.gf256.proofs.Lookups.{same-quotient}
 use Rattle.rules.proofs.Laws.{either}
 use Rattle.errata.specs.Errata.{at, Sieved, Listed, Divided, Solved, Unweighed}
 use Rattle.errata.proofs.Sums.{cell-below}
 
 abbrev div : ℕ → List ℕ → List ℕ → List ℕ
 div = divided gf256 inverseOf
-
--- dividing by a is multiplying with any inverse of it
-pub same-quotient : (u a i : ℕ) → a < 256 → a ≢ 0 → times a i ≡ 1 → times u i ≡ times u (inverseOf a)
-same-quotient u a i ha na e =
-    sym (field256 .mul-one (times u i) (field256 .in-mul u i)) ∙ ap (times (times u i)) (sym (inverse-right a ha na))
-    ∙ field256 .mul-assoc u i (times a (inverseOf a))
-    ∙ ap (times u) (sym (field256 .mul-assoc i a (inverseOf a)) ∙ ap (λ (y : ℕ). times y (inverseOf a)) (field256 .mul-comm i a ∙ e)
-    ∙ field256 .mul-comm 1 (inverseOf a))
-    ∙ sym (field256 .mul-assoc u (inverseOf a) 1) ∙ field256 .mul-one (times u (inverseOf a)) (field256 .in-mul u (inverseOf a))
 
 positive : (a : ℕ) → a ≢ 0 → 0 < a
 positive zero ne = absurd (ne refl)

@@ -116,7 +116,7 @@ fn one(tables: &[u8; 1022], t: [u8; 5], k: usize, n: usize, erased: [usize; 5], 
     if t[0] == 0 {
         return n;
     }
-    let x = gf256::product(tables, t[1], gf256::inverse(tables, t[0]));
+    let x = gf256::quotient(tables, t[1], t[0]);
     let p = cell(tables, x, n, erased, f);
     if n <= p {
         return n;
@@ -189,8 +189,7 @@ fn split(tables: &[u8; 1022], u: u8, v: u8) -> u8
     requires { ⌜ Tables (now tables) × (0 < u) ⌝ }
     ensures { λ x. ⌜ Split u v x ⌝ }
 {
-    let j = gf256::inverse(tables, u);
-    let c = gf256::product(tables, gf256::product(tables, v, j), j);
+    let c = gf256::quotient(tables, gf256::quotient(tables, v, u), u);
     gf256::product(tables, u, gf256::half(tables, c))
 }
 
@@ -250,19 +249,18 @@ fn two(tables: &[u8; 1022], t: [u8; 5], k: usize, n: usize, erased: [usize; 5], 
     if det == 0 {
         return Pair { p: n, q: n };
     }
-    let i = gf256::inverse(tables, det);
-    let u = gf256::product(
+    let u = gf256::quotient(
         tables,
         gf256::product(tables, t[1], t[2]) ^ gf256::product(tables, t[0], t[3]),
-        i,
+        det,
     );
     if u == 0 {
         return Pair { p: n, q: n };
     }
-    let v = gf256::product(
+    let v = gf256::quotient(
         tables,
         gf256::product(tables, t[2], t[2]) ^ gf256::product(tables, t[1], t[3]),
-        i,
+        det,
     );
     let x = split(tables, u, v);
     both(tables, t, k, n, erased, f, x, u, v)
@@ -300,7 +298,7 @@ fn divide(
     let mut j = i + 1;
     while j < k {
         let y = gf256::place(tables, n, cells[j]);
-        let u = gf256::product(tables, v[j], gf256::inverse(tables, y ^ x));
+        let u = gf256::quotient(tables, v[j], y ^ x);
         v[j] = u;
         sum = sum ^ u;
         j += 1;
@@ -444,8 +442,7 @@ fn couple(tables: &[u8; 1022], s: [u8; 5], n: usize, p: usize, q: usize) -> Erra
 {
     let x = gf256::place(tables, n, p);
     let y = gf256::place(tables, n, q);
-    let j = gf256::inverse(tables, x ^ y);
-    let v = gf256::product(tables, s[3] ^ gf256::product(tables, y, s[2]), j);
+    let v = gf256::quotient(tables, s[3] ^ gf256::product(tables, y, s[2]), x ^ y);
     Errata {
         count: 2,
         cells: [p, q, 0, 0, 0],

@@ -1,5 +1,6 @@
--- What is read from the table: products, inverses, places, and powers of α and of its inverse.
+-- What is read from the table: products, quotients, places, and powers of α and of its inverse.
 use mathlib.Core.Path.{_≡_, sym, ap, ap₂, _∙_}
+use mathlib.Core.Logic.{_≢_}
 use mathlib.Core.List.{List}
 use Prim.Native.Nat.{ℕ, zero, suc, _+_, _*_, _-_, _/_, _%_, _<_, _≤_}
 use native.Mathlib.Nat.{mul-zero, mul-suc}
@@ -8,8 +9,17 @@ use lib.ListN.{getD}
 use Rattle.account.specs.Field.{power}
 use Rattle.account.proofs.Powers as powers
 use Rattle.gf256.specs.Gf256.{gf256, times}
-use Rattle.gf256.specs.Tables.{Tables, IsLog, placeOf}
-use Rattle.gf256.proofs.Field256.{field256}
+use Rattle.gf256.specs.Tables.{Tables, IsLog, placeOf, inverseOf}
+use Rattle.gf256.proofs.Field256.{field256, inverse-right}
+
+-- dividing by a is multiplying with any inverse of it
+pub same-quotient : (u a i : ℕ) → a < 256 → a ≢ 0 → times a i ≡ 1 → times u i ≡ times u (inverseOf a)
+same-quotient u a i ha na e =
+    sym (field256 .mul-one (times u i) (field256 .in-mul u i)) ∙ ap (times (times u i)) (sym (inverse-right a ha na))
+    ∙ field256 .mul-assoc u i (times a (inverseOf a))
+    ∙ ap (times u) (sym (field256 .mul-assoc i a (inverseOf a)) ∙ ap (λ (y : ℕ). times y (inverseOf a)) (field256 .mul-comm i a ∙ e)
+    ∙ field256 .mul-comm 1 (inverseOf a))
+    ∙ sym (field256 .mul-assoc u (inverseOf a) 1) ∙ field256 .mul-one (times u (inverseOf a)) (field256 .in-mul u (inverseOf a))
 
 module _ (t : List ℕ) (T : Tables t) where
   pub product-by : (a b i j : ℕ) → IsLog a i → IsLog b j → getD t (i + j) 0 ≡ times a b
@@ -23,6 +33,12 @@ module _ (t : List ℕ) (T : Tables t) where
     where
       all : i + (255 - i) ≡ 255
       all = omega (arith, I .small)
+
+  pub quotient-by : (a b i j : ℕ) → b < 256 → b ≢ 0 → IsLog a i → IsLog b j → getD t (i + (255 - j)) 0 ≡ times a (inverseOf b)
+  quotient-by a b i j hb nb I J =
+      T .power-at (i + (255 - j)) (omega (arith, I .small)) ∙ powers.pow-add gf256 field256 2 i (255 - j)
+      ∙ ap₂ times (I .is) (sym (T .power-at (255 - j) (omega arith)))
+      ∙ same-quotient a b (getD t (255 - j) 0) hb nb (inverse-by b j J)
 
   pub place-by : (n p : ℕ) → p < n → n ≤ 255 → getD t (n - (p + 1)) 0 ≡ placeOf n p
   place-by n p h k = T .power-at (n - (p + 1)) (omega arith) ∙ ap (power gf256 2) same

@@ -1,11 +1,11 @@
-// GF(256): products, inverses and powers of α by a table that an entry makes once and lends.
+// GF(256): products, quotients and powers of α by a table that an entry makes once and lends.
 ghost use mathlib.Core.Path.{_≡_};
 ghost use Prim.Native.Nat.{_≤_, _<_};
 ghost use Rattle.account.specs.Field.{power};
 ghost use Rattle.account.specs.Code.{alphaTo};
 ghost use Rattle.account.specs.Search.{HalfOf};
 ghost use Rattle.gf256.specs.Gf256.{gf256, times};
-ghost use Rattle.gf256.specs.Tables.{Tables, IsLog, placeOf};
+ghost use Rattle.gf256.specs.Tables.{Tables, IsLog, placeOf, inverseOf};
 use tables::HALVES;
 use tables::LOGS;
 
@@ -32,11 +32,15 @@ pub fn product(tables: &[u8; 1022], a: u8, b: u8) -> u8
     tables[log(tables, a) + log(tables, b)]
 }
 
-pub fn inverse(tables: &[u8; 1022], a: u8) -> u8
-    requires { ⌜ Tables (now tables) × (0 < a) ⌝ }
-    ensures { λ r. ⌜ times a r ≡ 1 ⌝ }
+// a over b: a times the inverse of b.
+pub fn quotient(tables: &[u8; 1022], a: u8, b: u8) -> u8
+    requires { ⌜ Tables (now tables) × (0 < b) ⌝ }
+    ensures { λ r. ⌜ (times b (inverseOf b) ≡ 1) × (r ≡ times a (inverseOf b)) ⌝ }
 {
-    tables[255 - log(tables, a)]
+    if a == 0 {
+        return 0;
+    }
+    tables[log(tables, a) + (255 - log(tables, b))]
 }
 
 // One of the two z with z z + z = c, wherever there are any.

@@ -7,6 +7,8 @@ use Rattle.errata.proofs.Sums.{cell-below}
 use Rattle.errata.proofs.Values.{Dividing, apart-by, divide-starts, divide-goes, divide-ends}
 use Rattle.errata.proofs.divide.Statement.{statement}
 use Rattle.errata.proofs.divide.Tie as tie
+use lib.Bits.{bitXor}
+use Rattle.gf256.specs.Tables.{inverseOf}
 
 abbrev Inv-loop : tie.InvT-loop
 Inv-loop tables cells n i k s0 v₀ x sum₀ j₀ v sum j = Dividing n cells k i v₀ s0 v sum j
@@ -44,11 +46,11 @@ place-requires-2 c κs =
     let s = c .before .before .before .before .before in
     (s .pre .0, cell-below (s .args .n) (s .args .cells .now) (s .args .k) (s .pre .1) (c .before .before .loop .j) (search needs), s .pre .1 .short)
 
-element-copy-out-product : tie.Need-element-copy-out-product Inv-loop μ-loop
-element-copy-out-product c = omega (arith, c .before .before .before .before .before .before .pre .1 .few)
+element-copy-out-quotient : tie.Need-element-copy-out-quotient Inv-loop μ-loop
+element-copy-out-quotient c = omega (arith, c .before .before .before .before .before .before .pre .1 .few)
 
-inverse-requires : tie.Need-inverse-requires Inv-loop μ-loop
-inverse-requires c κs =
+quotient-requires : tie.Need-quotient-requires Inv-loop μ-loop
+quotient-requires c κs =
     let c1 = c .before in
     let c4 = c1 .before .before .before in
     let c5 = c4 .before in
@@ -59,28 +61,25 @@ inverse-requires c κs =
           (L .inv .low) (search needs) (c5 .place .ensures) (c1 .place2 .ensures),
     )
 
-product-requires : tie.Need-product-requires Inv-loop μ-loop
-product-requires c κs = c .before .before .before .before .before .before .before .before .pre .0
-
 element-write-v : tie.Need-element-write-v Inv-loop μ-loop
-element-write-v c = omega (arith, c .before .before .before .before .before .before .before .before .before .pre .1 .few)
+element-write-v c = omega (arith, c .before .before .before .before .before .before .before .before .pre .1 .few)
 
 add-j-2 : tie.Need-add-j-2 Inv-loop μ-loop
-add-j-2 c = omega (arith, c .before .before .before .before .before .before .before .before .before .pre .1 .few)
+add-j-2 c = omega (arith, c .before .before .before .before .before .before .before .before .pre .1 .few)
 
 loop-less : tie.Need-loop-less Inv-loop μ-loop
 loop-less c = search needs
 
 loop-again : tie.Need-loop-again Inv-loop μ-loop
 loop-again c =
-    let c3 = c .before .before .before in
+    let c3 = c .before .before in
     let c6 = c3 .before .before .before in
     let c7 = c6 .before in
     let s = c7 .before .before in
     let L = c6 .loop in
     divide-goes (s .args .n) (s .args .cells .now) (s .args .k) (s .pre .1) (s .args .i) (s .args .v .now) (s .args .s0) (L .v) (L .sum) (L .j)
-    (c7 .place .result) (c3 .place2 .result) (c .before .inverse .result) (c .product .result)
-    (search needs) (L .inv) (c7 .place .ensures) (c3 .place2 .ensures) (c .before .inverse .ensures) (c .product .ensures)
+    (c7 .place .result) (c3 .place2 .result) (inverseOf (bitXor (c3 .place2 .result) (c7 .place .result))) (c .quotient .result)
+    (search needs) (L .inv) (c7 .place .ensures) (c3 .place2 .ensures) (c .quotient .ensures .0) (c .quotient .ensures .1)
 
 element-write-v-2 : tie.Need-element-write-v-2 Inv-loop μ-loop
 element-write-v-2 c = omega (arith, c .before .before .before .before .pre .1 .few, c .before .before .before .before .pre .2)
@@ -108,9 +107,8 @@ divide-spec =
     mul-place-2
     element-copy-out-place-2
     place-requires-2
-    element-copy-out-product
-    inverse-requires
-    product-requires
+    element-copy-out-quotient
+    quotient-requires
     element-write-v
     add-j-2
     loop-less

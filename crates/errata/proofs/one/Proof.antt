@@ -12,6 +12,7 @@ use Rattle.errata.proofs.Sums.{filter-one, zeros-to, zeros-from}
 use borrow.Author.Needs.{needs}
 use Rattle.errata.proofs.one.Statement.{statement}
 use Rattle.errata.proofs.one.Tie as tie
+use Rattle.gf256.specs.Tables.{inverseOf}
 
 array-read-if1 : tie.Need-array-read-if1
 array-read-if1 c = search needs
@@ -21,17 +22,14 @@ returns c =
     let s = c .before in
     first-none gf256 field256 (at (s .args .t2)) (s .args .k) (s .args .n) (take (s .args .f) (s .args .erased)) (s .pre .5) (c .if1 .taken)
 
-array-read-product : tie.Need-array-read-product
-array-read-product c = search needs
+array-read-quotient : tie.Need-array-read-quotient
+array-read-quotient c = search needs
 
-array-read-inverse : tie.Need-array-read-inverse
-array-read-inverse c = search needs
+array-read-quotient-2 : tie.Need-array-read-quotient-2
+array-read-quotient-2 c = search needs
 
-inverse-requires : tie.Need-inverse-requires
-inverse-requires c κs = search needs
-
-product-requires : tie.Need-product-requires
-product-requires c κs = search needs
+quotient-requires : tie.Need-quotient-requires
+quotient-requires c κs = search needs
 
 cell-requires : tie.Need-cell-requires
 cell-requires c κs = search needs
@@ -39,10 +37,9 @@ cell-requires c κs = search needs
 returns-2 : tie.Need-returns-2
 returns-2 c =
     let c2 = c .before .before in
-    let c3 = c2 .before in
-    let s = c3 .before .before in
-    out-of-range gf256 field256 (at (s .args .t2)) (s .args .k) (s .args .n) (take (s .args .f) (s .args .erased)) (c2 .product .result) (c3 .inverse .result)
-    (c .before .cell .result) (search needs) (c3 .inverse .ensures) (c2 .product .ensures)
+    let s = c2 .before .before in
+    out-of-range gf256 field256 (at (s .args .t2)) (s .args .k) (s .args .n) (take (s .args .f) (s .args .erased)) (c2 .quotient .result) (inverseOf (at (s .args .t2) 0))
+    (c .before .cell .result) (search needs) (c2 .quotient .ensures .0) (c2 .quotient .ensures .1)
     (c .before .cell .ensures) (search needs)
 
 filter-requires : tie.Need-filter-requires
@@ -56,13 +53,12 @@ returns-3 c =
     let c2 = c .before .before in
     let c4 = c2 .before .before in
     let c5 = c4 .before in
-    let c6 = c5 .before in
-    let s = c6 .before .before in
-    let x = c5 .product .result in
+    let s = c5 .before .before in
+    let x = c5 .quotient .result in
     let u = c2 .filter .result in
-    it-fits gf256 field256 (at (s .args .t2)) (s .args .k) (s .args .n) (take (s .args .f) (s .args .erased)) x (c6 .inverse .result) (c4 .cell .result)
+    it-fits gf256 field256 (at (s .args .t2)) (s .args .k) (s .args .n) (take (s .args .f) (s .args .erased)) x (inverseOf (at (s .args .t2) 0)) (c4 .cell .result)
     (search needs)
-    (c6 .inverse .ensures) (c5 .product .ensures)
+    (c5 .quotient .ensures .0) (c5 .quotient .ensures .1)
     (c4 .cell .ensures) (search needs)
     (zeros-to (s .args .k) (at u) (filt gf256 (x ∷ []) (at (s .args .t2))) (λ m l. filter-one x (s .args .t2) u (c2 .filter .ensures) m (omega arith))
     (said (Zeros (s .args .k) (at u)) (c .before .zeros .result) (c .if3 .taken) (c .before .zeros .ensures)))
@@ -72,13 +68,12 @@ returns-4 c =
     let c2 = c .before .before in
     let c4 = c2 .before .before in
     let c5 = c4 .before in
-    let c6 = c5 .before in
-    let s = c6 .before .before in
-    let x = c5 .product .result in
+    let s = c5 .before .before in
+    let x = c5 .quotient .result in
     let u = c2 .filter .result in
-    it-fails gf256 field256 (at (s .args .t2)) (s .args .k) (s .args .n) (take (s .args .f) (s .args .erased)) x (c6 .inverse .result) (c4 .cell .result)
+    it-fails gf256 field256 (at (s .args .t2)) (s .args .k) (s .args .n) (take (s .args .f) (s .args .erased)) x (inverseOf (at (s .args .t2) 0)) (c4 .cell .result)
     (search needs)
-    (c6 .inverse .ensures) (c5 .product .ensures)
+    (c5 .quotient .ensures .0) (c5 .quotient .ensures .1)
     (c4 .cell .ensures) (search needs)
     (zeros-from (s .args .k) (at u) (filt gf256 (x ∷ []) (at (s .args .t2))) (λ m l. filter-one x (s .args .t2) u (c2 .filter .ensures) m (omega arith))
     (denied (Zeros (s .args .k) (at u)) (c .before .zeros .result) (c .if3 .left) (c .before .zeros .ensures)))
@@ -89,10 +84,9 @@ one-spec =
     (tie.spec
     array-read-if1
     returns
-    array-read-product
-    array-read-inverse
-    inverse-requires
-    product-requires
+    array-read-quotient
+    array-read-quotient-2
+    quotient-requires
     cell-requires
     returns-2
     filter-requires

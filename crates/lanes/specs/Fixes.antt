@@ -40,10 +40,10 @@ pub record Noted (R l k : ℕ) (e : LaneErrata) (cells bytes cells' bytes' : Lis
 
 -- ---- windows
 
--- cell p is in the window from cell a on
-pub record Inside (a p : ℕ) : Type 0 where
-  pub from : a ≤ p
-  pub to : p < a + 96
+-- cell p is the r-th after cell a, if the window from cell a on has it; and only then is r below 96
+pub record Behind (a p r : ℕ) : Type 0 where
+  pub is : r < 96 → a + r ≡ p
+  pub only : (q : ℕ) → q < 96 → a + q ≡ p → r ≡ q
 
 -- cell p of the strip is b, if the window w from cell a on has it; all else is as it was
 pub record PatchedAt (a p b : ℕ) (w w' : List ℕ) : Type 0 where

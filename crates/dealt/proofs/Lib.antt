@@ -1,4 +1,3 @@
 pub mod Gathering
 pub mod CheckCells
-pub mod Patching
-pub mod Mending
+pub mod Searching

@@ -1,39 +1,18 @@
 -- The lanes of a strip, for the crates above: their remainders, the errata of each, and their check cells. R lanes, over any field.
 use mathlib.Core.Path.{_≡_}
-use mathlib.Core.Bool.{Bool, true, false}
 use mathlib.Core.List.{List}
 use Prim.Native.Nat.{ℕ, _+_, _*_, _-_, _/_, _%_, _≤_, _<_}
-use lib.Bits.{bitXor}
 use lib.ListN.{length, getD, take}
 use Rattle.account.specs.Field.{Ops}
-use Rattle.account.specs.Code.{Cells, Clean, WordOf}
+use Rattle.account.specs.Code.{Cells, WordOf}
 use Rattle.account.specs.Lanes.{lane}
-use Rattle.account.specs.Reach.{differing, Reach, GoodMarks, Reachable}
 use Rattle.gf256.specs.Gf256.{gf256}
 use Rattle.remainder.specs.Remainder.{unpacked, Remains, LanesRemain}
-use Rattle.errata.specs.declared.Errata.{Errata}
 use Rattle.errata.specs.declared.Found.{Found}
 use Rattle.errata.specs.Errata.{Gathered, SearchedAs}
-use Rattle.rules.specs.Refusal.{Within}
 use Rattle.code.specs.Lane.{laneMost}
-use Rattle.dealt.specs.Patched.{patched}
-use Rattle.dealt.specs.declared.LaneErrata.{LaneErrata}
 
 module _ (O : Ops) (R : ℕ) where
-  -- the errata e of lane l of s: with its cells put right the lane is the clean word within reach, and so many unmarked cells differ
-  pub record LaneFixed (l : ℕ) (marks s : List ℕ) (e : LaneErrata) : Type 0 where
-    pub few : e .count ≤ 5
-    pub below : (i : ℕ) → i < e .count → getD (e .cells) i 0 < length s / R
-    pub cells : Cells O (patched (e .cells) (e .bytes) (e .count) (lane R l s))
-    pub clean : Clean O (patched (e .cells) (e .bytes) (e .count) (lane R l s))
-    pub reach : Reach (lane R l marks) (lane R l s) (patched (e .cells) (e .bytes) (e .count) (lane R l s))
-    pub mended : e .mended ≡ differing (lane R l marks) (lane R l s) (patched (e .cells) (e .bytes) (e .count) (lane R l s))
-
-  -- or there is none
-  abbrev pub LaneFixedAs : ℕ → List ℕ → List ℕ → Bool → LaneErrata → Type 0
-  LaneFixedAs l marks s true e = LaneFixed l marks s e
-  LaneFixedAs l marks s false e = Reachable O (lane R l marks) (lane R l s) → ⊥
-
   -- each lane of the first k columns of x is completed to a clean word by the five columns after them; the other cells are as they were
   pub record ChecksPut (k : ℕ) (x x' : List ℕ) : Type 0 where
     pub long : length x' ≡ length x
@@ -51,15 +30,6 @@ pub record LaneRemains (R j : ℕ) (s : List ℕ) (r : ℕ) : Type 0 where
 pub record Remaindered (R : ℕ) (s r : List ℕ) : Type 0 where
   pub each : LanesRemain R s r
 
--- lane l of R, of a strip and marks that fit
-pub record LaneAsked (R l : ℕ) (s marks : List ℕ) : Type 0 where
-  pub inside : l < R
-  pub lanes : R ≤ 16
-  pub legal : Within 6 laneMost (length s / R)
-  pub full : length s ≡ R * (length s / R)
-  pub matched : length marks ≡ length s
-  pub good : GoodMarks marks
-
 -- lane l of R, each of n cells
 pub record LaneOf (R l n : ℕ) (s : List ℕ) : Type 0 where
   pub inside : l < R
@@ -75,8 +45,3 @@ abbrev pub SearchedBy : ℕ → ℕ → List ℕ → ℕ → Found → Type 0
 SearchedBy r n erased f x =
     (marks : List ℕ) → length marks ≡ n → Gathered marks erased f → (w : List ℕ) → length w ≡ n → Cells gf256 w → Remains w r
     → SearchedAs (x .good) marks w (x .errata)
-
--- the bytes that belong at the cells of e
-pub record Belonging (w : List ℕ) (e : Errata) (b : List ℕ) : Type 0 where
-  pub room : length b ≡ 5
-  pub each : (i : ℕ) → i < e .count → getD b i 0 ≡ bitXor (getD w (getD (e .cells) i 0) 0) (getD (e .values) i 0)

@@ -9,25 +9,15 @@ ghost use Rattle.rules.specs.Placed.{Placed};
 ghost use Rattle.gf256.specs.Tables.{Tables};
 ghost use Rattle.rules.specs.Refusal.{Within};
 ghost use Rattle.remainder.specs.Remainder.{unpacked, packedEnd};
-ghost use Rattle.errata.specs.Errata.{Listed, ErrataFor};
+ghost use Rattle.errata.specs.Errata.{Listed};
 ghost use Rattle.code.specs.Word.{dataMost};
-ghost use Rattle.code.specs.Lane.{laneMost, wordOf};
-ghost use Rattle.marks.specs.Marks.{ListedIn};
-ghost use Rattle.dealt.specs.Lanes.{LaneRemains, Remaindered, LaneFixedAs, ChecksPut, LaneAsked, LaneOf, checkCell, SearchedBy, Belonging};
+ghost use Rattle.code.specs.Lane.{wordOf};
+ghost use Rattle.dealt.specs.Lanes.{Remaindered, ChecksPut, LaneOf, checkCell, SearchedBy};
 use code::lane::LANE_MOST;
 use code::lane::Lane;
 
 // Room for the numbers of sixteen lanes.
 pub const LANES: usize = 16;
-
-// At most five cells of a lane with the bytes that belong there, and how many unmarked ones were wrong; or that none will do.
-pub struct LaneErrata {
-    pub good: bool,
-    pub mended: usize,
-    pub count: usize,
-    pub cells: [usize; 5],
-    pub bytes: [u8; 5],
-}
 
 // The remainders of the lanes: zero just where a lane is clean, and what its errata are found from.
 pub fn remainders(strip: &[u8], lanes: usize) -> [u64; LANES]
@@ -38,7 +28,7 @@ pub fn remainders(strip: &[u8], lanes: usize) -> [u64; LANES]
 }
 
 // Lane l of a strip, by value.
-fn gather(strip: &[u8], lanes: usize, l: usize, n: usize) -> Lane
+pub fn gather(strip: &[u8], lanes: usize, l: usize, n: usize) -> Lane
     requires { ⌜ LaneOf lanes l n (now strip) × (lanes ≤ 16) ⌝ }
     ensures { λ r. ⌜ (r .len ≡ n) × (wordOf r ≡ lane lanes l (now (strip .entry))) ⌝ }
 {
@@ -57,69 +47,12 @@ fn gather(strip: &[u8], lanes: usize, l: usize, n: usize) -> Lane
 }
 
 // The errata of a lane of n cells with the remainder r, of which the first f of `erased` are the marked cells.
-fn search(tables: &[u8; 1022], n: usize, r: u64, erased: [usize; 5], f: usize) -> errata::Found
+pub fn search(tables: &[u8; 1022], n: usize, r: u64, erased: [usize; 5], f: usize) -> errata::Found
     requires { ⌜ Tables (now tables) × Listed n erased f × (r < packedEnd) ⌝ }
     ensures { λ x. ⌜ SearchedBy r n erased f x ⌝ }
 {
     let s = remainder::syndrome_of(r);
     errata::find(tables, s, n, erased, f)
-}
-
-// The bytes of a lane that belong at the cells of its errata.
-fn belonging(lane: Lane, e: errata::Errata) -> [u8; 5]
-    requires { ⌜ ErrataFor (lane .len) e × (lane .len ≤ laneMost) ⌝ }
-    ensures { λ b. ⌜ Belonging (lane .bytes) e b ⌝ }
-{
-    let bytes = lane.bytes;
-    let cells = e.cells;
-    let values = e.values;
-    let mut b = [0u8; 5];
-    let mut i: usize = 0;
-    while i < e.count {
-        b[i] = bytes[cells[i]] ^ values[i];
-        i += 1;
-    }
-    b
-}
-
-// Lane l of a strip, which has the remainder r and these marked cells, taken out and mended by value; the strip keeps its cells.
-pub fn mend(
-    tables: &[u8; 1022],
-    strip: &[u8],
-    marks: &[u8],
-    lanes: usize,
-    l: usize,
-    r: u64,
-    marked: marks::Listed,
-) -> LaneErrata
-    requires { ⌜ Tables (now tables) × LaneAsked lanes l (now strip) (now marks) × (marked .count ≤ 5) × ListedIn lanes l (now marks) marked × LaneRemains
-        lanes l (now strip) r ⌝ }
-    ensures { λ e. ⌜ LaneFixedAs gf256 lanes l (now (marks .entry)) (now (strip .entry)) (e .good) e ⌝ }
-{
-    let w = gather(strip, lanes, l, strip.len() / lanes);
-    let erased = marked.cells;
-    let found = search(tables, w.len, r, erased, marked.count);
-    let good = found.good;
-    if !good {
-        return LaneErrata {
-            good: false,
-            mended: 0,
-            count: 0,
-            cells: [0; 5],
-            bytes: [0; 5],
-        };
-    }
-    let e = found.errata;
-    let mended = marks::count(e, marks, lanes, l);
-    let cells = e.cells;
-    let bytes = belonging(w, e);
-    LaneErrata {
-        good: true,
-        mended,
-        count: e.count,
-        cells,
-        bytes,
-    }
 }
 
 // Check byte i of the five that are packed in c.

@@ -1,6 +1,8 @@
+pub mod Patching
 pub mod Marks
 pub mod Repairs
 pub mod Sofar
+pub mod Adding
 pub mod Noting
 pub mod Windows
 pub mod Untouched

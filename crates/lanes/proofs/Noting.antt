@@ -1,95 +1,127 @@
 -- The errata of a lane noted among those of the strip.
-use mathlib.Core.Path.{_≡_, refl, sym, ap, _∙_, subst}
-use mathlib.Core.List.{List}
+use mathlib.Core.Path.{_≡_, refl, sym, ap, ap₂, _∙_, subst}
+use mathlib.Core.Bool.{Bool, not}
+use mathlib.Core.List.{List, [], _∷_, _++_}
 use Prim.Native.Nat.{ℕ, _+_, _*_, _/_, _≤_, _<_}
 use native.Mathlib.Nat.{mul-le-mul, le-of-lt}
+use native.Mathlib.Numerals.{add-one}
 use native.Mathlib.Omega.{arith}
-use lib.ListN.{length, getD, set, length-set}
+use lib.Bits.{bitXor}
+use lib.Dec.{eqb}
+use lib.ListN.{length, getD, take, set, length-set}
+use lib.Seq.{take-suc, getD-take}
 use Rattle.account.specs.Lanes.{lane}
-use Rattle.dealt.specs.Patched.{patched}
-use Rattle.dealt.specs.declared.LaneErrata.{LaneErrata}
-use Rattle.dealt.proofs.Patching.{patched-0, patched-more, patched-pushed, length-patched, lane-set, lane-set-other}
-use Rattle.lanes.specs.Fixes.{AreOf, Noting, Noted}
+use Rattle.account.specs.Reach.{isMarked, oneIf, and}
+use Rattle.account.specs.Errata.{Applied}
+use Rattle.account.proofs.Cells.{one-most}
+use Rattle.account.proofs.Lanes.{length-lane}
+use Rattle.gf256.specs.Gf256.{gf256}
+use Rattle.errata.specs.declared.Errata.{Errata}
+use Rattle.marks.specs.Marks.{countedOf}
+use Rattle.marks.proofs.Counting.{lane-marked, lane-inside, erratum-below}
+use Rattle.code.specs.Lane.{wordOf}
+use Rattle.code.specs.declared.lane.Lane.{Lane}
+use Rattle.lanes.specs.Patched.{patched}
+use Rattle.lanes.specs.Fixes.{Noting, Noted}
+use Rattle.lanes.proofs.Patching.{patched-pushed, length-patched, lane-set, lane-set-other}
+use Rattle.lanes.proofs.Adding.{alike, outside-before, applied-none, applied-last, counted-last}
 
-module _ (R l k : ℕ) (e : LaneErrata) (cells bytes : List ℕ) where
-  -- the first i are noted
-  pub record Halfway (i : ℕ) (cells' bytes' : List ℕ) : Type 0 where
-    pub within : i ≤ e .count
-    pub cells-long : length cells' ≡ 80
-    pub bytes-long : length bytes' ≡ 80
-    pub own : (s : List ℕ) → AreOf R e i s → lane R l (patched cells' bytes' (k + i) s) ≡ patched (e .cells) (e .bytes) i (lane R l (patched cells bytes k s))
-    pub others : (s : List ℕ) → AreOf R e i s → (j : ℕ) → j < R → (j ≡ l → ⊥) → lane R j (patched cells' bytes' (k + i) s) ≡ lane R j (patched cells bytes k s)
+module _ (R l k : ℕ) (w : Lane) (e : Errata) (marks cells bytes : List ℕ) (N : Noting R l k w e marks cells bytes) where
+  some : 0 < R
+  some = omega (arith, N .inside)
 
-module _ (R l k : ℕ) (e : LaneErrata) (cells bytes : List ℕ) (N : Noting R l k e cells bytes) where
-  pub noted-0 : Halfway R l k e cells bytes 0 cells bytes
+  pub noted-0 : Noted R l k w e marks cells bytes 0 cells bytes 0
   noted-0 = record {
-    within = omega arith;
-    cells-long = N .cells-long;
-    bytes-long = N .bytes-long;
-    own = λ s h. ap (λ (n : ℕ). lane R l (patched cells bytes n s)) none ∙ sym (patched-0 (e .cells) (e .bytes) (lane R l (patched cells bytes k s)));
-    others = λ s h j b n. ap (λ (m : ℕ). lane R j (patched cells bytes m s)) none;
+    cells-long = N .room .cells-long;
+    bytes-long = N .room .bytes-long;
+    own = λ s z same.
+        subst (Applied gf256 [] [] (wordOf w)) (sym (ap (λ (n : ℕ). lane R l (patched cells bytes n s)) none ∙ same)) (applied-none (wordOf w));
+    others = λ s z j b n. ap (λ (m : ℕ). lane R j (patched cells bytes m s)) none;
+    count = refl;
   }
     where
       none : k + 0 ≡ k
       none = omega arith
 
-  -- a cell of lane l, as a cell of the strip
-  pub cell-small : (i : ℕ) → i < e .count → R * getD (e .cells) i 0 + l < 65536
-  cell-small i h = omega (arith, mul-le-mul (N .lanes) (le-of-lt (N .below i h)), N .inside, N .lanes)
+  -- the next, as a cell of the lane and of the strip
+  module _ (i : ℕ) (h : i < e .count) where
+    abbrev c : ℕ
+    c = getD (e .cells) i 0
 
-  pub noted-more : (i : ℕ) (cells' bytes' : List ℕ) → i < e .count → Halfway R l k e cells bytes i cells' bytes'
-      → Halfway R l k e cells bytes (i + 1) (set cells' (k + i) (R * getD (e .cells) i 0 + l)) (set bytes' (k + i) (getD (e .bytes) i 0))
-  noted-more i cells' bytes' h H = record {
-    within = omega arith;
-    cells-long = length-set cells' (k + i) p ∙ H .cells-long;
-    bytes-long = length-set bytes' (k + i) b ∙ H .bytes-long;
-    own = λ s f.
-        ap (lane R l) (pushed s)
-        ∙ lane-set R some (old s) l c b (N .inside) (inside s f)
-        ∙ ap (λ (t : List ℕ). set t c b) (H .own s (λ j a. f j (omega arith)))
-        ∙ sym (patched-more (e .cells) (e .bytes) (lane R l (patched cells bytes k s)) i);
-    others = λ s f j a n.
-        ap (lane R j) (pushed s)
-        ∙ lane-set-other R some (old s) l c b (N .inside) (inside s f) j a n
-        ∙ H .others s (λ x y. f x (omega arith)) j a n;
-  }
-    where
-      c : ℕ
-      c = getD (e .cells) i 0
+    abbrev p : ℕ
+    p = R * c + l
 
-      p : ℕ
-      p = R * c + l
+    abbrev v : ℕ
+    v = getD (e .values) i 0
 
-      b : ℕ
-      b = getD (e .bytes) i 0
+    abbrev b : ℕ
+    b = bitXor (getD (w .bytes) c 0) v
 
-      some : 0 < R
-      some = omega (arith, N .inside)
+    pub cell-below : c < w .len
+    cell-below = erratum-below (w .len) e (N .errata) i h
 
-      old : List ℕ → List ℕ
-      old s = patched cells' bytes' (k + i) s
+    pub cell-small : p < 65536
+    cell-small = omega (arith, mul-le-mul (N .lanes) (le-of-lt cell-below), N .short, N .inside, N .lanes)
 
-      inside : (s : List ℕ) → AreOf R e (i + 1) s → c < length (old s) / R
-      inside s f = subst (λ (n : ℕ). c < n / R) (sym (length-patched cells' bytes' s (k + i))) (f i (omega arith))
+    in-columns : c < length marks / R
+    in-columns = omega (arith, cell-below, N .matched)
 
-      next : k + (i + 1) ≡ k + i + 1
-      next = omega arith
+    pub cell-inside : p < length marks
+    cell-inside = lane-inside R marks l c (N .inside) in-columns
 
-      pushed : (s : List ℕ) → patched (set cells' (k + i) p) (set bytes' (k + i) b) (k + (i + 1)) s ≡ set (old s) p b
-      pushed s =
-          ap (λ (n : ℕ). patched (set cells' (k + i) p) (set bytes' (k + i) b) n s) next
-          ∙ patched-pushed cells' bytes' s (k + i) p b (omega (arith, H .cells-long, N .room, N .few)) (omega (arith, H .bytes-long, N .room, N .few))
+    cells-more : take (i + 1) (e .cells) ≡ take i (e .cells) ++ c ∷ []
+    cells-more = ap (λ (n : ℕ). take n (e .cells)) (add-one i) ∙ take-suc (e .cells) i 0 (omega (arith, N .errata .few, N .errata .room))
 
-  pub noted : (i : ℕ) (cells' bytes' : List ℕ) → e .count ≤ i → Halfway R l k e cells bytes i cells' bytes' → Noted R l k e cells bytes cells' bytes' (k + i)
-  noted i cells' bytes' h H = record {
-    count = ap (λ (n : ℕ). k + n) all;
-    cells-long = H .cells-long;
-    bytes-long = H .bytes-long;
-    own = λ s f.
-        H .own s (subst (λ (n : ℕ). AreOf R e n s) (sym all) f)
-        ∙ ap (λ (n : ℕ). patched (e .cells) (e .bytes) n (lane R l (patched cells bytes k s))) all;
-    others = λ s f. H .others s (subst (λ (n : ℕ). AreOf R e n s) (sym all) f);
-  }
-    where
-      all : i ≡ e .count
-      all = omega (arith, H .within)
+    values-more : take (i + 1) (e .values) ≡ take i (e .values) ++ v ∷ []
+    values-more = ap (λ (n : ℕ). take n (e .values)) (add-one i) ∙ take-suc (e .values) i 0 (omega (arith, N .errata .few, N .errata .values-room))
+
+    as-many : length (take i (e .values)) ≡ length (take i (e .cells))
+    as-many = alike (w .len) e (N .errata) i (omega arith)
+
+    module _ (cells' bytes' : List ℕ) (m x : ℕ) (H : Noted R l k w e marks cells bytes i cells' bytes' m)
+        (ex : x ≡ oneIf (and (not (isMarked marks p)) (not (eqb v 0)))) where
+      pub one-small : x ≤ 1
+      one-small = omega (arith, ex, one-most (and (not (isMarked marks p)) (not (eqb v 0))))
+
+      pub noted-more : Noted R l k w e marks cells bytes (i + 1) (set cells' (k + i) p) (set bytes' (k + i) b) (m + x)
+      noted-more = record {
+        cells-long = length-set cells' (k + i) p ∙ H .cells-long;
+        bytes-long = length-set bytes' (k + i) b ∙ H .bytes-long;
+        own = λ s z same.
+            subst (λ (ps : List ℕ). Applied gf256 ps (take (i + 1) (e .values)) (wordOf w) (new s)) (sym cells-more)
+            (subst (λ (vs : List ℕ). Applied gf256 (take i (e .cells) ++ c ∷ []) vs (wordOf w) (new s)) (sym values-more)
+            (subst (Applied gf256 (take i (e .cells) ++ c ∷ []) (take i (e .values) ++ v ∷ []) (wordOf w)) (sym (set-there s z))
+            (applied-last (take i (e .cells)) (take i (e .values)) (wordOf w) (lane R l (old s)) c v as-many
+            (outside-before (e .cells) (e .count) i h (omega (arith, N .errata .few, N .errata .room)) (N .errata .distinct)) (in-word s z same) (H .own s z same))));
+        others = λ s z j a n. ap (lane R j) (pushed s) ∙ lane-set-other R some (old s) l c b (N .inside) (inside s z) j a n ∙ H .others s z j a n;
+        count =
+            ap₂ (λ (a d : ℕ). a + d) (H .count) (ex ∙ ap (λ (t : Bool). oneIf (and (not t) (not (eqb v 0)))) (lane-marked R marks l c (N .inside) in-columns))
+            ∙ sym (ap₂ (countedOf (lane R l marks)) cells-more values-more ∙ counted-last (lane R l marks) (take i (e .cells)) (take i (e .values)) c v as-many);
+      }
+        where
+          old : List ℕ → List ℕ
+          old s = patched cells' bytes' (k + i) s
+
+          new : List ℕ → List ℕ
+          new s = lane R l (patched (set cells' (k + i) p) (set bytes' (k + i) b) (k + (i + 1)) s)
+
+          next : k + (i + 1) ≡ k + i + 1
+          next = omega arith
+
+          pushed : (s : List ℕ) → patched (set cells' (k + i) p) (set bytes' (k + i) b) (k + (i + 1)) s ≡ set (old s) p b
+          pushed s =
+              ap (λ (n : ℕ). patched (set cells' (k + i) p) (set bytes' (k + i) b) n s) next
+              ∙ patched-pushed cells' bytes' s (k + i) p b (omega (arith, H .cells-long, N .room .left, N .errata .few)) (omega (arith, H .bytes-long, N .room .left, N .errata .few))
+
+          inside : (s : List ℕ) → length s / R ≡ w .len → c < length (old s) / R
+          inside s z = subst (λ (n : ℕ). c < n / R) (sym (length-patched cells' bytes' s (k + i))) (omega (arith, cell-below, z))
+
+          -- the word has as many cells as the strip has columns
+          in-word : (s : List ℕ) → length s / R ≡ w .len → lane R l (patched cells bytes k s) ≡ wordOf w → c < length (wordOf w)
+          in-word s z same =
+              omega (arith, cell-below, z, ap length same, length-lane R some l (patched cells bytes k s), ap (λ (n : ℕ). n / R) (length-patched cells bytes s k))
+
+          set-there : (s : List ℕ) → length s / R ≡ w .len → new s ≡ set (lane R l (old s)) c (bitXor (getD (wordOf w) c 0) v)
+          set-there s z =
+              ap (lane R l) (pushed s) ∙ lane-set R some (old s) l c b (N .inside) (inside s z)
+              ∙ ap (λ (y : ℕ). set (lane R l (old s)) c (bitXor y v)) (sym (getD-take (w .len) (w .bytes) c 0 cell-below))

@@ -1,83 +1,118 @@
 -- A lane of a strip mended, from what the lower library promises of it.
 use mathlib.Core.Path.{_≡_, refl, sym, ap, _∙_, subst}
-use mathlib.Core.Bool.{true}
+use mathlib.Core.Bool.{Bool, true, false}
 use mathlib.Core.List.{List}
 use Prim.Native.Nat.{ℕ, _+_, _*_, _/_, _≤_, _<_}
-use native.Mathlib.Nat.{mul-div-right, le-div-iff-mul-le}
+use native.Mathlib.Nat.{mul-div-right, mul-le-mul}
 use native.Mathlib.Omega.{arith}
 use lib.ListN.{length}
 use Rattle.account.specs.Lanes.{lane}
 use Rattle.account.specs.Code.{Cells, Clean}
+use Rattle.account.specs.Errata.{Applied}
 use Rattle.account.specs.Reach.{Reach, countTo, isMarked, differsAt}
 use Rattle.account.proofs.Cells.{count-none, not-differs}
 use Rattle.account.proofs.Lanes.{length-lane, bytes-lane}
 use Rattle.gf256.specs.Gf256.{gf256}
-use Rattle.level.specs.Strip.{columns, Mendable}
+use Rattle.errata.specs.declared.Errata.{Errata}
+use Rattle.errata.specs.declared.Found.{Found}
+use Rattle.errata.specs.Errata.{cellsOf, valuesOf, Listed, Gathered, ErrataFor, Corrects, SearchedAs}
+use Rattle.errata.proofs.Guesses.{listed-marks}
+use Rattle.level.specs.Strip.{Mendable}
 use Rattle.marks.specs.Marks.{ListedIn}
-use Rattle.marks.specs.declared.Listed.{Listed}
-use Rattle.dealt.specs.declared.LaneErrata.{LaneErrata}
-use Rattle.dealt.specs.Lanes.{LaneFixed, LaneAsked}
-use Rattle.dealt.specs.Patched.{patched}
+use Rattle.marks.specs.declared.Listed as declared
+use Rattle.marks.proofs.Counting.{count-is}
+use Rattle.code.specs.Lane.{wordOf}
+use Rattle.code.specs.declared.lane.Lane.{Lane}
+use Rattle.dealt.specs.Lanes.{LaneRemains, SearchedBy}
+use Rattle.dealt.proofs.Searching.{lane-searched}
+use Rattle.lanes.specs.Patched.{patched}
 use Rattle.lanes.specs.Fixes.{Room, Noting, Noted}
 use Rattle.lanes.specs.Lanes.{Entered, OneGood, OneAs}
+use Rattle.lanes.proofs.Adding.{alike}
 
 module _ (R : ℕ) (s marks : List ℕ) (E : Entered R s marks) where
   pub some : 0 < R
   some = omega (arith, E .lanes .from)
 
-  pub columns-are : length s / R ≡ E .legal .k + 5
+  columns-are : length s / R ≡ E .legal .k + 5
   columns-are = ap (λ (n : ℕ). n / R) (E .legal .cells) ∙ mul-div-right (E .legal .k + 5) some
 
-  one-column : 1 ≤ columns R 4
-  one-column = le-div-iff-mul-le some .1 (omega arith)
+  pub few-columns : length s / R ≤ 96
+  few-columns = omega (arith, columns-are, E .legal .to, E .short)
 
-  pub asked : (j : ℕ) → j < R → LaneAsked R j s marks
-  asked j h = record {
-    inside = h;
-    lanes = E .lanes .to;
-    legal = record { from = omega (arith, columns-are, E .legal .from, one-column); to = omega (arith, columns-are, E .legal .to, E .short) };
-    full = E .legal .cells ∙ ap (λ (n : ℕ). R * n) (sym columns-are);
-    matched = E .matched;
-    good = E .good;
-  }
+  pub full : length s ≡ R * (length s / R)
+  full = E .legal .cells ∙ ap (λ (n : ℕ). R * n) (sym columns-are)
 
-  -- ---- one lane
+  pub marks-few : length marks ≤ 4096
+  marks-few = omega (arith, E .matched, full, mul-le-mul (E .lanes .to) few-columns)
+
+  marks-columns : length marks / R ≡ length s / R
+  marks-columns = ap (λ (n : ℕ). n / R) (E .matched)
+
+  module _ (j : ℕ) (h : j < R) where
+    own-columns : length (lane R j s) ≡ length s / R
+    own-columns = length-lane R some j s
+
+    mark-columns : length (lane R j marks) ≡ length s / R
+    mark-columns = length-lane R some j marks ∙ marks-columns
+
+    -- ---- a lane's errata, searched for by its remainder
+
+    pub to-search : (erased : List ℕ) (f : ℕ) → f ≤ 5 → Gathered (lane R j marks) erased f → Listed (length s / R) erased f
+    to-search erased f five G =
+        subst (λ (n : ℕ). Listed n erased f) mark-columns (listed-marks (lane R j marks) erased f (omega (arith, mark-columns, few-columns)) five G)
+
+    module _ (r f : ℕ) (erased : List ℕ) (x : Found) (L : LaneRemains R j s r) (G : Gathered (lane R j marks) erased f) (cs : Cells gf256 s)
+        (S : SearchedBy r (length s / R) erased f x) where
+      found : SearchedAs (x .good) (lane R j marks) (lane R j s) (x .errata)
+      found = lane-searched R j s r L (lane R j marks) erased (length s / R) f x mark-columns G own-columns (bytes-lane R some gf256 j s h cs) S
+
+      pub corrected : x .good ≡ true → Corrects (lane R j marks) (lane R j s) (x .errata)
+      corrected t = subst (λ (b : Bool). SearchedAs b (lane R j marks) (lane R j s) (x .errata)) t found
+
+      pub beyond-reach : x .good ≡ false → Mendable gf256 R marks s j → ⊥
+      beyond-reach t q = subst (λ (b : Bool). SearchedAs b (lane R j marks) (lane R j s) (x .errata)) t found (q .word) (q .cells) (q .clean) (q .reach)
 
   module _ (j k : ℕ) (h : j < R) (cells bytes : List ℕ) where
     abbrev old : List ℕ
     old = patched cells bytes k s
 
-    -- a lane that is not clean: its errata noted
-    module _ (e : LaneErrata) (F : LaneFixed gf256 R j marks s e) (room : Room k cells bytes) where
-      pub to-note : Noting R j k e cells bytes
+    -- ---- the errata of a lane noted; w are its cells
+
+    module _ (w : Lane) (lw : w .len ≡ length s / R) (ew : wordOf w ≡ lane R j s) (e : Errata) (K : Corrects (lane R j marks) (lane R j s) e)
+        (room : Room k cells bytes) where
+      pub to-note : Noting R j k w e marks cells bytes
       to-note = record {
         inside = h;
         lanes = E .lanes .to;
-        few = F .few;
-        below = λ i l. omega (arith, F .below i l, columns-are, E .legal .to, E .short);
-        room = room .left;
-        cells-long = room .cells-long;
-        bytes-long = room .bytes-long;
+        short = omega (arith, lw, few-columns);
+        errata = subst (λ (n : ℕ). ErrataFor n e) (own-columns j h ∙ sym lw) (K .listed);
+        matched = marks-columns ∙ sym lw;
+        room = room;
       }
 
-      pub mended-one : (cells' bytes' : List ℕ) (n : ℕ) → Noted R j k e cells bytes cells' bytes' n
-          → OneAs R s marks j k cells bytes cells' bytes' true (record { good = true; mended = e .mended; noted = n })
-      mended-one cells' bytes' n N = (good, omega (arith, N .count, F .few), N .cells-long, N .bytes-long)
+      pub mended-one : (cells' bytes' : List ℕ) (m : ℕ) → Noted R j k w e marks cells bytes (e .count) cells' bytes' m
+          → OneAs R s marks j k cells bytes cells' bytes' true (record { good = true; mended = m; noted = k + e .count })
+      mended-one cells' bytes' m N = (good, omega (arith, K .listed .few), N .cells-long, N .bytes-long)
         where
           t' : List ℕ
-          t' = patched cells' bytes' n s
+          t' = patched cells' bytes' (k + e .count) s
 
-          good : lane R j old ≡ lane R j s → OneGood R s marks j old t' (e .mended)
+          good : lane R j old ≡ lane R j s → OneGood R s marks j old t' m
           good same = record {
-            mended-lane = record { cells = rw own (F .cells); clean = rw own (F .clean); reach = rw own (F .reach) };
-            count = F .mended
-                ∙ ap (countTo (differsAt (lane R j marks) (lane R j s) (patched (e .cells) (e .bytes) (e .count) (lane R j s)))) (length-lane R some j s)
-                ∙ ap (λ (v : List ℕ). countTo (differsAt (lane R j marks) (lane R j s) v) (length s / R)) (sym own);
-            others = N .others s (F .below);
+            mended-lane = record { cells = right .2; clean = right .0; reach = right .1 };
+            count = N .count
+                ∙ count-is (lane R j marks) (cellsOf e) (valuesOf e) (lane R j s) (lane R j t')
+                (alike (length (lane R j s)) e (K .listed) (e .count) (omega arith)) (K .listed .below) (K .listed .distinct) put
+                ∙ ap (countTo (differsAt (lane R j marks) (lane R j s) (lane R j t'))) (own-columns j h);
+            others = N .others s (sym lw);
           }
             where
-              own : lane R j t' ≡ patched (e .cells) (e .bytes) (e .count) (lane R j s)
-              own = N .own s (F .below) ∙ ap (patched (e .cells) (e .bytes) (e .count)) same
+              put : Applied gf256 (cellsOf e) (valuesOf e) (lane R j s) (lane R j t')
+              put = subst (λ (u : List ℕ). Applied gf256 (cellsOf e) (valuesOf e) u (lane R j t')) ew (N .own s (sym lw) (same ∙ sym ew))
+
+              right : Clean gf256 (lane R j t') × Reach (lane R j marks) (lane R j s) (lane R j t') × Cells gf256 (lane R j t')
+              right = K .corrects (lane R j t') put
 
     -- ---- a lane that is clean is as it is to be
 
@@ -87,7 +122,7 @@ module _ (R : ℕ) (s marks : List ℕ) (E : Entered R s marks) where
     sizes : length (lane R j s) ≡ length (lane R j marks)
     sizes = length-lane R some j s ∙ ap (λ (n : ℕ). n / R) (sym (E .matched)) ∙ sym (length-lane R some j marks)
 
-    module _ (m : Listed) (L : ListedIn R j marks m) where
+    module _ (m : declared.Listed) (L : ListedIn R j marks m) where
       pub kept-one : m .count ≤ 5 → Clean gf256 (lane R j s) → Cells gf256 s → Room k cells bytes
           → OneAs R s marks j k cells bytes cells bytes true (record { good = true; mended = 0; noted = k })
       kept-one few clean cs room = (good, omega arith, room .cells-long, room .bytes-long)

@@ -2,12 +2,12 @@
 use mathlib.Core.Path.{_≡_, refl, sym, ap, ap₂, _∙_, subst}
 use mathlib.Core.Bool.{Bool, true, false}
 use mathlib.Core.List.{List}
-use Prim.Native.Nat.{ℕ, zero, suc, _+_, _*_, _/_, _%_, _≤_, _<_}
+use Prim.Native.Nat.{ℕ, _+_, _*_, _/_, _%_, _≤_, _<_}
 use native.Mathlib.Nat.{mod-lt, div-lt-iff-lt-mul, mul-comm}
 use native.Mathlib.Numerals.{add-one}
 use native.Mathlib.Omega.{arith}
 use borrow.Author.Count.{below-more}
-use lib.ListN.{length, getD}
+use lib.ListN.{length}
 use Rattle.account.specs.Lists.{sumOf}
 use Rattle.account.specs.Lanes.{lane}
 use Rattle.account.specs.Code.{Cells}
@@ -16,8 +16,8 @@ use Rattle.account.proofs.Lanes.{length-lane, cell, columns-of}
 use Rattle.gf256.specs.Gf256.{gf256}
 use Rattle.level.specs.Strip.{wrongIn, mendedOf, Mendable}
 use Rattle.level.proofs.Counts.{sum-cong}
-use Rattle.dealt.specs.Patched.{patched}
-use Rattle.dealt.proofs.Patching.{patched-0, length-patched}
+use Rattle.lanes.specs.Patched.{patched}
+use Rattle.lanes.proofs.Patching.{patched-0, length-patched}
 use Rattle.lanes.specs.declared.One.{One}
 use Rattle.lanes.specs.Fixes.{Room}
 use Rattle.lanes.specs.Lanes.{Entered, LaneMended, OneGood, OneAs, MendedAs}

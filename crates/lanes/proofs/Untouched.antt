@@ -1,8 +1,8 @@
 -- A clean strip with no marks is mended as it is.
-use mathlib.Core.Path.{_≡_, refl, sym, subst}
+use mathlib.Core.Path.{_≡_, refl, subst}
 use mathlib.Core.Bool.{true}
 use mathlib.Core.List.{List, [], _∷_}
-use Prim.Native.Nat.{ℕ, zero, suc, _+_, _≤_, _<_}
+use Prim.Native.Nat.{ℕ, zero, suc, _≤_, _<_}
 use native.Mathlib.Numerals.{add-one}
 use native.Mathlib.Omega.{arith}
 use lib.ListN.{length, getD}
@@ -10,7 +10,7 @@ use Rattle.account.specs.Code.{Cells}
 use Rattle.account.specs.Reach.{countTo, isMarked}
 use Rattle.gf256.specs.Gf256.{gf256}
 use Rattle.dealt.specs.Lanes.{Remaindered}
-use Rattle.dealt.proofs.Mending.{lane-clean}
+use Rattle.dealt.proofs.Searching.{lane-clean}
 use Rattle.lanes.specs.Fixes.{Room}
 use Rattle.lanes.specs.Lanes.{Entered, MendedAs}
 use Rattle.lanes.proofs.Marks.{none-listed-in}

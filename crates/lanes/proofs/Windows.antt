@@ -1,39 +1,41 @@
 -- A window filled from the strip and put right.
 use mathlib.Core.Path.{_≡_, refl, sym, ap, _∙_}
-use mathlib.Core.Bool.{Bool, true, false}
+use mathlib.Core.Bool.{true, false}
+use mathlib.Core.Logic.{⊎-elim}
 use mathlib.Core.List.{List, _++_}
 use Prim.Native.Nat.{ℕ, _+_, _-_, _≤_, _<_}
 use native.Mathlib.Decide.{ℕ-discrete}
 use native.Mathlib.Omega.{arith}
+use borrow.Author.Tests.{lt-ltb, le-ltb}
+use lib.Dec.{ltb}
 use lib.ListN.{length, getD, take, drop, set, length-set, length-drop, List·getD-append}
 use lib.Seq.{getD-set-same, getD-set-other, set-getD, getD-take, getD-drop, length-take-le}
-use Rattle.rules.specs.Says.{Says}
-use Rattle.rules.proofs.Tests.{said, denied}
-use Rattle.dealt.specs.Patched.{patched}
-use Rattle.dealt.proofs.Patching.{patched-0, patched-more, length-patched}
-use Rattle.lanes.specs.Fixes.{Inside, PatchedAt, Shows, WindowPatched, Shown}
+use Rattle.rules.proofs.Numbers.{lt-or-ge}
+use Rattle.lanes.specs.Patched.{patched}
+use Rattle.lanes.proofs.Patching.{patched-0, patched-more, length-patched}
+use Rattle.lanes.specs.Fixes.{Behind, PatchedAt, Shows, WindowPatched, Shown}
 
 -- ---- one cell
 
-module _ (a p b q v : ℕ) (w : List ℕ) (room : 96 ≤ length w) (q-small : q < 96) (place : Inside a p → a + q ≡ p) where
-  in-window : Inside a p → v ≡ b → PatchedAt a p b w (set w q v)
+-- r is how far cell p is behind cell a, and o its place, or some place
+module _ (a p b r o v : ℕ) (w : List ℕ) (room : 96 ≤ length w) (B : Behind a p r) (o-small : o < 96) (place : r < 96 → o ≡ r) where
+  in-window : r < 96 → v ≡ b → PatchedAt a p b w (set w o v)
   in-window i e = record {
-    long = length-set w q v;
-    here = λ n h k. let z : n ≡ q = omega (arith, k, place i) in
-        ap (λ (m : ℕ). getD (set w q v) m 0) z ∙ getD-set-same w q v 0 (omega arith) ∙ e;
-    other = λ n h k. getD-set-other w q n v 0 (λ z. k (omega (arith, z, place i)));
+    long = length-set w o v;
+    here = λ q h k. let z : q ≡ o = omega (arith, B .only q h k, place i) in
+        ap (λ (m : ℕ). getD (set w o v) m 0) z ∙ getD-set-same w o v 0 (omega arith) ∙ e;
+    other = λ q h k. getD-set-other w o q v 0 (λ z. k (omega (arith, z, place i, B .is i)));
   }
 
-  elsewhere : (Inside a p → ⊥) → v ≡ getD w q 0 → PatchedAt a p b w (set w q v)
+  elsewhere : (r < 96 → ⊥) → v ≡ getD w o 0 → PatchedAt a p b w (set w o v)
   elsewhere out e = record {
-    long = length-set w q v;
-    here = λ n h k. absurd (out (record { from = omega (arith, k); to = omega (arith, k) }));
-    other = λ n h k. ap (λ (x : ℕ). getD (set w q x) n 0) e ∙ ap (λ (x : List ℕ). getD x n 0) (set-getD w q 0);
+    long = length-set w o v;
+    here = λ q h k. absurd (out (omega (arith, B .only q h k)));
+    other = λ q h k. ap (λ (x : ℕ). getD (set w o x) q 0) e ∙ ap (λ (x : List ℕ). getD x q 0) (set-getD w o 0);
   }
 
-  pub patched-one : (yes : Bool) → Says yes (Inside a p) → (yes ≡ true → v ≡ b) → (yes ≡ false → v ≡ getD w q 0) → PatchedAt a p b w (set w q v)
-  patched-one true s t f = in-window s (t refl)
-  patched-one false s t f = elsewhere s (f refl)
+  pub patched-one : (ltb r 96 ≡ true → v ≡ b) → (ltb r 96 ≡ false → v ≡ getD w o 0) → PatchedAt a p b w (set w o v)
+  patched-one t f = ⊎-elim (λ h. in-window h (t (lt-ltb r 96 h))) (λ h. elsewhere (λ k. omega arith) (f (le-ltb r 96 h))) (lt-or-ge r 96)
 
 -- ---- all cells
 

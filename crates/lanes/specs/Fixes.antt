@@ -2,10 +2,16 @@
 use mathlib.Core.Path.{_≡_}
 use mathlib.Core.List.{List}
 use Prim.Native.Nat.{ℕ, _+_, _/_, _≤_, _<_}
-use lib.ListN.{length, getD}
+use lib.ListN.{length, getD, take}
 use Rattle.account.specs.Lanes.{lane}
-use Rattle.dealt.specs.Patched.{patched}
-use Rattle.dealt.specs.declared.LaneErrata.{LaneErrata}
+use Rattle.account.specs.Errata.{Applied}
+use Rattle.gf256.specs.Gf256.{gf256}
+use Rattle.errata.specs.declared.Errata.{Errata}
+use Rattle.errata.specs.Errata.{ErrataFor}
+use Rattle.marks.specs.Marks.{countedOf}
+use Rattle.code.specs.Lane.{laneMost, wordOf}
+use Rattle.code.specs.declared.lane.Lane.{Lane}
+use Rattle.lanes.specs.Patched.{patched}
 
 -- ---- noting
 
@@ -15,35 +21,32 @@ pub record Room (k : ℕ) (cells bytes : List ℕ) : Type 0 where
   pub cells-long : length cells ≡ 80
   pub bytes-long : length bytes ≡ 80
 
--- what noting the errata of lane l of R goes by, where k cells are noted
-pub record Noting (R l k : ℕ) (e : LaneErrata) (cells bytes : List ℕ) : Type 0 where
+-- what noting the errata e goes by, where w is lane l of R, the marks are those of the strip, and k cells are noted
+pub record Noting (R l k : ℕ) (w : Lane) (e : Errata) (marks cells bytes : List ℕ) : Type 0 where
   pub inside : l < R
   pub lanes : R ≤ 16
-  pub few : e .count ≤ 5
-  pub below : (i : ℕ) → i < e .count → getD (e .cells) i 0 < 255
-  pub room : k + 5 ≤ 80
-  pub cells-long : length cells ≡ 80
-  pub bytes-long : length bytes ≡ 80
+  pub short : w .len ≤ laneMost
+  pub errata : ErrataFor (w .len) e
+  pub matched : length marks / R ≡ w .len
+  pub room : Room k cells bytes
 
--- the errata are those of a strip s: each at a cell of its lane
-abbrev pub AreOf : ℕ → LaneErrata → ℕ → List ℕ → Type 0
-AreOf R e k s = (i : ℕ) → i < k → getD (e .cells) i 0 < length s / R
-
--- put right by the n cells that are noted now, lane l is what its errata make of it, and the other lanes are as they were
-pub record Noted (R l k : ℕ) (e : LaneErrata) (cells bytes cells' bytes' : List ℕ) (n : ℕ) : Type 0 where
-  pub count : n ≡ k + e .count
+-- the first i of them are noted: with what is noted now put right, lane l of a strip is w with these added, if it was w, and the other lanes are
+-- as they were; so many of them change an unmarked cell
+pub record Noted (R l k : ℕ) (w : Lane) (e : Errata) (marks cells bytes : List ℕ) (i : ℕ) (cells' bytes' : List ℕ) (mended : ℕ) : Type 0 where
   pub cells-long : length cells' ≡ 80
   pub bytes-long : length bytes' ≡ 80
-  pub own : (s : List ℕ) → AreOf R e (e .count) s
-      → lane R l (patched cells' bytes' n s) ≡ patched (e .cells) (e .bytes) (e .count) (lane R l (patched cells bytes k s))
-  pub others : (s : List ℕ) → AreOf R e (e .count) s → (j : ℕ) → j < R → (j ≡ l → ⊥) → lane R j (patched cells' bytes' n s) ≡ lane R j (patched cells bytes k s)
+  pub own : (s : List ℕ) → length s / R ≡ w .len → lane R l (patched cells bytes k s) ≡ wordOf w
+      → Applied gf256 (take i (e .cells)) (take i (e .values)) (wordOf w) (lane R l (patched cells' bytes' (k + i) s))
+  pub others : (s : List ℕ) → length s / R ≡ w .len → (j : ℕ) → j < R → (j ≡ l → ⊥)
+      → lane R j (patched cells' bytes' (k + i) s) ≡ lane R j (patched cells bytes k s)
+  pub count : mended ≡ countedOf (lane R l marks) (take i (e .cells)) (take i (e .values))
 
 -- ---- windows
 
--- cell p is in the window from cell a on
-pub record Inside (a p : ℕ) : Type 0 where
-  pub from : a ≤ p
-  pub to : p < a + 96
+-- cell p is the r-th after cell a, if the window from cell a on has it; and only then is r below 96
+pub record Behind (a p r : ℕ) : Type 0 where
+  pub is : r < 96 → a + r ≡ p
+  pub only : (q : ℕ) → q < 96 → a + q ≡ p → r ≡ q
 
 -- cell p of the strip is b, if the window w from cell a on has it; all else is as it was
 pub record PatchedAt (a p b : ℕ) (w w' : List ℕ) : Type 0 where

@@ -1,29 +1,34 @@
 // What is to be put right in a strip: cells, and beside each the byte that belongs there. There is room for the errata of sixteen lanes.
 ghost use Rattle.lanes.specs.Fixes.{Noting, Noted};
-use dealt::LaneErrata;
+use code::lane::Lane;
 
 // How many cells can be noted: five in each of sixteen lanes.
 pub const FIXES: usize = 80;
 
-// The errata of lane l, after the first k that are noted; how many are then.
+// The errata e of lane l, of which w are the cells, noted after the first k; how many unmarked cells they change.
 pub(crate) fn note(
-    e: LaneErrata,
+    w: Lane,
+    e: errata::Errata,
+    marks: &[u8],
     lanes: usize,
     l: usize,
     k: usize,
     cells: &mut [u16; FIXES],
     bytes: &mut [u8; FIXES],
 ) -> usize
-    requires { ⌜ Noting lanes l k e (now cells) (now bytes) ⌝ }
-    ensures { λ n. ⌜ Noted lanes l k e (now (cells .entry)) (now (bytes .entry)) (now (cells .exit)) (now (bytes .exit)) n ⌝ }
+    requires { ⌜ Noting lanes l k w e (now marks) (now cells) (now bytes) ⌝ }
+    ensures { λ m. ⌜ Noted lanes l k w e (now (marks .entry)) (now (cells .entry)) (now (bytes .entry)) (e .count) (now (cells .exit)) (now (bytes .exit)) m ⌝ }
 {
-    let own = e.cells;
-    let right = e.bytes;
+    let mut mended: usize = 0;
     let mut i: usize = 0;
     while i < e.count {
-        cells[k + i] = (lanes * own[i] + l) as u16;
-        bytes[k + i] = right[i];
+        let p = e.cells[i];
+        let q = lanes * p + l;
+        let v = e.values[i];
+        cells[k + i] = q as u16;
+        bytes[k + i] = w.bytes[p] ^ v;
+        mended += marks::changes(marks, q, v);
         i += 1;
     }
-    k + i
+    mended
 }

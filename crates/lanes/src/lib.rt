@@ -1,10 +1,8 @@
-// The lanes of a strip: which are clean, and of the others the errata, noted for the whole strip. Nothing of the strip is copied.
+// The lanes of a strip: which are clean, and of the others the errata, noted for the whole strip. The strip keeps its cells.
 ghost use mathlib.Core.Path.{_≡_};
-ghost use Prim.Native.Nat.{ℕ, _*_, _≤_, _<_};
+ghost use Prim.Native.Nat.{ℕ, _≤_, _<_};
 ghost use lib.ListN.{length, getD};
-ghost use Rattle.account.specs.Lanes.{lane};
 ghost use Rattle.rules.specs.Says.{Says};
-ghost use Rattle.rules.specs.Refusal.{Within};
 ghost use Rattle.gf256.specs.Tables.{Tables};
 ghost use Rattle.marks.specs.Marks.{ListedIn};
 ghost use Rattle.dealt.specs.Lanes.{Remaindered};
@@ -45,7 +43,7 @@ fn marked_in(marks: &[u8], f: usize, lanes: usize, l: usize) -> Listed
     marks::list(marks, lanes, l)
 }
 
-// Lane l, which is not clean: its errata noted after the first k.
+// Lane l, which is not clean: its errata, found by its remainder, noted after the first k.
 fn repair_one(
     tables: &[u8; 1022],
     strip: &[u8],
@@ -61,8 +59,10 @@ fn repair_one(
     requires { ⌜ Tables (now tables) × Ready lanes l (now strip) (now marks) r × (marked .count ≤ 5) × ListedIn lanes l (now marks) marked × Room k (now cells) (now bytes) ⌝ }
     ensures { λ o. ⌜ OneAs lanes (now (strip .entry)) (now (marks .entry)) l k (now (cells .entry)) (now (bytes .entry)) (now (cells .exit)) (now (bytes .exit)) (o .good) o ⌝ }
 {
-    let e = dealt::mend(tables, strip, marks, lanes, l, r, marked);
-    let good = e.good;
+    let n = strip.len() / lanes;
+    let erased = marked.cells;
+    let found = dealt::search(tables, n, r, erased, marked.count);
+    let good = found.good;
     if !good {
         return One {
             good: false,
@@ -70,8 +70,10 @@ fn repair_one(
             noted: k,
         };
     }
-    let mended = e.mended;
-    let noted = fixes::note(e, lanes, l, k, cells, bytes);
+    let w = dealt::gather(strip, lanes, l, n);
+    let e = found.errata;
+    let noted = k + e.count;
+    let mended = fixes::note(w, e, marks, lanes, l, k, cells, bytes);
     One {
         good: true,
         mended,

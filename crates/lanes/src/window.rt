@@ -1,10 +1,9 @@
 // A window on the mended strip: some of its cells, copied from the strip and put right. The mended strip itself is never made.
 ghost use mathlib.Core.Path.{_≡_};
 ghost use mathlib.Core.Bool.{true, false};
-ghost use Prim.Native.Nat.{_+_, _≤_, _<_};
+ghost use Prim.Native.Nat.{_+_, _≤_, _<_, _^_};
 ghost use lib.ListN.{length};
-ghost use Rattle.rules.specs.Says.{Says};
-ghost use Rattle.lanes.specs.Fixes.{Inside, PatchedAt, WindowPatched, Shown};
+ghost use Rattle.lanes.specs.Fixes.{Behind, PatchedAt, WindowPatched, Shown};
 use super::fixes::FIXES;
 
 // How many cells a window has at most.
@@ -16,17 +15,15 @@ fn wide(x: u16) -> usize
     x as usize
 }
 
-// Whether cell p is in the window that begins at a cell.
-fn inside(p: usize, from: usize) -> bool
-    ensures { λ r. ⌜ Says r (Inside from p) ⌝ }
+// How far cell p is behind the first of the window, modulo 2^64: below 96 just where it is in the window. One subtraction, and one test then.
+fn distance(p: usize, from: usize) -> usize
+    requires { ⌜ from < 2 ^ 63 ⌝ }
+    ensures { λ r. ⌜ Behind from p r ⌝ }
 {
     if p < from {
-        return false;
+        return p + (usize::MAX - from) + 1;
     }
-    if WINDOW <= p - from {
-        return false;
-    }
-    true
+    p - from
 }
 
 fn pick(yes: bool, a: u8, b: u8) -> u8
@@ -38,33 +35,30 @@ fn pick(yes: bool, a: u8, b: u8) -> u8
     b
 }
 
-// Where cell p is in the window; if it is not there, some place in it, not the same for all, so that stores do not wait for each other.
-fn offset(p: usize, from: usize) -> usize
-    ensures { λ r. ⌜ (r < 96) × (Inside from p → from + r ≡ p) ⌝ }
+// The place in the window of what is so far behind its first cell; past the window some place in it, not the same for all, so that stores
+// do not wait for each other.
+fn offset(q: usize) -> usize
+    ensures { λ r. ⌜ (r < 96) × (q < 96 → r ≡ q) ⌝ }
 {
-    if p < from {
-        return p % 64;
+    if q < WINDOW {
+        return q;
     }
-    let q = p - from;
-    if WINDOW <= q {
-        return p % 64;
-    }
-    q
+    q % 64
 }
 
 // Cell p put right, if it is in the window. If not, another gets what it has: that costs less than a branch.
 fn patch_one(p: usize, b: u8, from: usize, window: &mut [u8])
-    requires { ⌜ 96 ≤ length (now window) ⌝ }
+    requires { ⌜ (from < 2 ^ 63) × (96 ≤ length (now window)) ⌝ }
     ensures { λ _. ⌜ PatchedAt from p b (now (window .entry)) (now (window .exit)) ⌝ }
 {
-    let yes = inside(p, from);
-    let q = offset(p, from);
-    window[q] = pick(yes, b, window[q]);
+    let q = distance(p, from);
+    let o = offset(q);
+    window[o] = pick(q < WINDOW, b, window[o]);
 }
 
 // The window that begins at a cell, with what is to be put right in it.
 fn patch(cells: &[u16; FIXES], bytes: &[u8; FIXES], count: usize, from: usize, window: &mut [u8])
-    requires { ⌜ (count ≤ 80) × (96 ≤ length (now window)) ⌝ }
+    requires { ⌜ (count ≤ 80) × (from < 2 ^ 63) × (96 ≤ length (now window)) ⌝ }
     ensures { λ _. ⌜ WindowPatched (now (cells .entry)) (now (bytes .entry)) count from (now (window .entry)) (now (window .exit)) ⌝ }
 {
     let mut i: usize = 0;

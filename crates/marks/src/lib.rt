@@ -110,7 +110,7 @@ pub fn list(marks: &[u8], lanes: usize, l: usize) -> Listed
 }
 
 // 1 where an erratum is at an unmarked cell and changes it.
-fn changes(marks: &[u8], p: usize, v: u8) -> usize
+pub fn changes(marks: &[u8], p: usize, v: u8) -> usize
     requires { ⌜ p < length (now marks) ⌝ }
     ensures { λ r. ⌜ r ≡ oneIf (and (not (isMarked (now (marks .entry)) p)) (not (eqb v 0))) ⌝ }
 {

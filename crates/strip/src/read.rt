@@ -6,7 +6,7 @@ ghost use Rattle.rules.specs.Refusal.{Within};
 ghost use Rattle.rules.specs.Says.{Says};
 ghost use Rattle.level.specs.Strip.{Legal, wearOf};
 ghost use Rattle.level.specs.Reading.{dataOf};
-ghost use Rattle.dealt.specs.Patched.{patched};
+ghost use Rattle.lanes.specs.Patched.{patched};
 ghost use Rattle.record.specs.Reading.{AcceptedAs};
 ghost use Rattle.strip.specs.Reading.{stripNumbers, StripEntersAs, FinishesAs, StripReadsAs};
 ghost use Rattle.level.specs.Sizes.{tilesMost, scratchLeast, stripLeast, stripMost};

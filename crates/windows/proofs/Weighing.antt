@@ -13,8 +13,8 @@ use Rattle.account.specs.Lists.{sumOf}
 use Rattle.level.specs.Record.{bitAt, fieldAt}
 use Rattle.level.specs.Reading.{tilesIn}
 use Rattle.level.proofs.Windows.{field-part}
-use Rattle.dealt.specs.Patched.{patched}
-use Rattle.dealt.proofs.Patching.{length-patched}
+use Rattle.lanes.specs.Patched.{patched}
+use Rattle.lanes.proofs.Patching.{length-patched}
 use Rattle.lanes.specs.Fixes.{Shown}
 use Rattle.record.specs.Reading.{Heads}
 use Rattle.record.specs.declared.read.Head.{Head}

@@ -7,7 +7,7 @@ ghost use lib.ListN.{length, take, drop};
 ghost use Rattle.rules.specs.Refusal.{Within};
 ghost use Rattle.level.specs.Sizes.{tilesMost};
 ghost use Rattle.level.specs.Reading.{tilesIn};
-ghost use Rattle.dealt.specs.Patched.{patched};
+ghost use Rattle.lanes.specs.Patched.{patched};
 ghost use Rattle.record.specs.Reading.{Heads, JudgedAs, AcceptedAs};
 ghost use Rattle.windows.specs.Windows.{Lent, WeighedAs};
 use lanes::fixes::FIXES;

@@ -1,6 +1,6 @@
 use native.Mathlib.Omega.{arith}
-use Rattle.dealt.proofs.Mending.{lane-clean, marks-few}
-use Rattle.lanes.proofs.Repairs.{asked, six-marked, kept-one}
+use Rattle.dealt.proofs.Searching.{lane-clean}
+use Rattle.lanes.proofs.Repairs.{marks-few, six-marked, kept-one}
 use borrow.Author.Needs.{needs}
 use Rattle.lanes.proofs.mend_one.Statement.{statement}
 use Rattle.lanes.proofs.mend_one.Tie as tie
@@ -9,7 +9,7 @@ marked-in-requires : tie.Need-marked-in-requires
 marked-in-requires c κs =
     let a = c .before .before .args in
     let p = c .before .before .pre in
-    (p .1 .inside, p .1 .entered .lanes .to, marks-few (a .lanes) (a .l) (a .strip .now) (a .marks .now) (asked (a .lanes) (a .strip .now) (a .marks .now) (p .1 .entered) (a .l) (p .1 .inside)), p .2)
+    (p .1 .inside, p .1 .entered .lanes .to, marks-few (a .lanes) (a .strip .now) (a .marks .now) (p .1 .entered), p .2)
 
 returns : tie.Need-returns
 returns c =

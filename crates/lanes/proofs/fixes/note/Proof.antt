@@ -1,59 +1,83 @@
-use Prim.Native.Nat.{_-_, _≤_}
+use mathlib.Core.Path.{_≡_, subst}
+use Prim.Native.Nat.{ℕ, _-_, _≤_}
 use native.Mathlib.Omega.{arith}
-use Rattle.lanes.proofs.Noting.{Halfway, noted-0, noted-more, noted, cell-small}
 use borrow.Author.Needs.{needs}
+use Rattle.lanes.specs.Fixes.{Noted}
+use Rattle.lanes.proofs.Noting.{noted-0, noted-more, one-small, cell-below, cell-small, cell-inside}
 use Rattle.lanes.proofs.fixes.note.Statement.{statement}
 use Rattle.lanes.proofs.fixes.note.Tie as tie
 
 abbrev Inv-loop : tie.InvT-loop
-Inv-loop e lanes l k cells₀ bytes₀ own right i₀ cells bytes i = Halfway lanes l k e cells₀ bytes₀ i cells bytes
+Inv-loop marks lanes l k cells₀ bytes₀ w e mended₀ i₀ cells bytes mended i =
+    (i ≤ e .count) × (mended ≤ i) × Noted lanes l k w e marks cells₀ bytes₀ i cells bytes mended
 
 abbrev μ-loop : tie.MeasureT-loop
-μ-loop e lanes l k cells₀ bytes₀ own right i₀ cells bytes i = e .count - i
+μ-loop marks lanes l k cells₀ bytes₀ w e mended₀ i₀ cells bytes mended i = e .count - i
 
 loop-holds : tie.Need-loop-holds Inv-loop μ-loop
 loop-holds c =
-    let a = c .before .before .args in
-    noted-0 (a .lanes) (a .l) (a .k) (a .e) (a .cells .now) (a .bytes .now) (c .before .before .pre)
+    let a = c .before .args in
+    (omega arith, omega arith, noted-0 (a .lanes) (a .l) (a .k) (a .t1) (a .t2) (a .marks .now) (a .cells .now) (a .bytes .now) (c .before .pre))
 
-mul-cells : tie.Need-mul-cells Inv-loop μ-loop
-mul-cells c = search needs
+mul-p : tie.Need-mul-p Inv-loop μ-loop
+mul-p c = search needs
 
-array-read-cells : tie.Need-array-read-cells Inv-loop μ-loop
-array-read-cells c = search needs
+element-copy-out-p : tie.Need-element-copy-out-p Inv-loop μ-loop
+element-copy-out-p c = search needs
 
-mul-cells-2 : tie.Need-mul-cells-2 Inv-loop μ-loop
-mul-cells-2 c =
-    let a = c .before .before .before .before .before .args in
-    omega (arith, cell-small (a .lanes) (a .l) (a .k) (a .e) (a .cells .now) (a .bytes .now) (c .before .before .before .before .before .pre) (c .before .before .loop .i) (omega arith))
+mul-q : tie.Need-mul-q Inv-loop μ-loop
+mul-q c =
+    let a = c .before .before .before .before .args in
+    let l = c .before .before .loop in
+    omega (arith, cell-small (a .lanes) (a .l) (a .k) (a .t1) (a .t2) (a .marks .now) (a .cells .now) (a .bytes .now) (c .before .before .before .before .pre) (l .i) (omega arith))
 
-add-cells : tie.Need-add-cells Inv-loop μ-loop
-add-cells c =
-    let a = c .before .before .before .before .before .args in
-    omega (arith, cell-small (a .lanes) (a .l) (a .k) (a .e) (a .cells .now) (a .bytes .now) (c .before .before .before .before .before .pre) (c .before .before .loop .i) (omega arith))
+add-q : tie.Need-add-q Inv-loop μ-loop
+add-q c =
+    let a = c .before .before .before .before .args in
+    let l = c .before .before .loop in
+    omega (arith, cell-small (a .lanes) (a .l) (a .k) (a .t1) (a .t2) (a .marks .now) (a .cells .now) (a .bytes .now) (c .before .before .before .before .pre) (l .i) (omega arith))
+
+element-copy-out-v : tie.Need-element-copy-out-v Inv-loop μ-loop
+element-copy-out-v c = search needs
 
 cast-cells : tie.Need-cast-cells Inv-loop μ-loop
 cast-cells c =
     let a = c .before .before .before .before .before .args in
-    omega (arith, cell-small (a .lanes) (a .l) (a .k) (a .e) (a .cells .now) (a .bytes .now) (c .before .before .before .before .before .pre) (c .before .before .loop .i) (omega arith))
+    let l = c .before .before .before .loop in
+    omega (arith, cell-small (a .lanes) (a .l) (a .k) (a .t1) (a .t2) (a .marks .now) (a .cells .now) (a .bytes .now) (c .before .before .before .before .before .pre) (l .i) (omega arith))
 
-add-cells-2 : tie.Need-add-cells-2 Inv-loop μ-loop
-add-cells-2 c = search needs
+add-cells : tie.Need-add-cells Inv-loop μ-loop
+add-cells c = search needs
 
-mul-cells-3 : tie.Need-mul-cells-3 Inv-loop μ-loop
-mul-cells-3 c = search needs
+mul-cells : tie.Need-mul-cells Inv-loop μ-loop
+mul-cells c = search needs
 
 element-write-cells : tie.Need-element-write-cells Inv-loop μ-loop
 element-write-cells c = search needs
 
-array-read-bytes : tie.Need-array-read-bytes Inv-loop μ-loop
-array-read-bytes c = search needs
+element-copy-out-bytes : tie.Need-element-copy-out-bytes Inv-loop μ-loop
+element-copy-out-bytes c =
+    let a = c .before .before .before .before .before .args in
+    let l = c .before .before .before .loop in
+    omega (arith, cell-below (a .lanes) (a .l) (a .k) (a .t1) (a .t2) (a .marks .now) (a .cells .now) (a .bytes .now) (c .before .before .before .before .before .pre) (l .i) (omega arith), c .before .before .before .before .before .pre .short)
 
 add-bytes : tie.Need-add-bytes Inv-loop μ-loop
 add-bytes c = search needs
 
 element-write-bytes : tie.Need-element-write-bytes Inv-loop μ-loop
 element-write-bytes c = search needs
+
+changes-requires : tie.Need-changes-requires Inv-loop μ-loop
+changes-requires c κs =
+    let a = c .before .before .before .before .before .before .args in
+    let l = c .before .before .before .before .loop in
+    cell-inside (a .lanes) (a .l) (a .k) (a .t1) (a .t2) (a .marks .now) (a .cells .now) (a .bytes .now) (c .before .before .before .before .before .before .pre) (l .i) (omega arith)
+
+add-mended : tie.Need-add-mended Inv-loop μ-loop
+add-mended c =
+    let a = c .before .before .before .before .before .before .before .args in
+    let l = c .before .before .before .before .before .loop in
+    omega (arith, c .before .before .before .before .before .before .before .pre .errata .few, one-small (a .lanes) (a .l) (a .k) (a .t1) (a .t2) (a .marks .now) (a .cells .now) (a .bytes .now) (c .before .before .before .before .before .before .before .pre) (l .i) (omega arith) (l .cells) (l .bytes) (l .mended) (c .changes .result) (l .inv .2) (c .changes .ensures))
 
 add-i : tie.Need-add-i Inv-loop μ-loop
 add-i c = search needs
@@ -63,18 +87,20 @@ loop-less c = search needs
 
 loop-again : tie.Need-loop-again Inv-loop μ-loop
 loop-again c =
-    let a = c .before .before .before .before .before .args in
-    let l = c .before .before .loop in
-    noted-more (a .lanes) (a .l) (a .k) (a .e) (a .cells .now) (a .bytes .now) (c .before .before .before .before .before .pre) (l .i) (l .cells) (l .bytes) (omega arith) (l .inv)
-
-add-result : tie.Need-add-result Inv-loop μ-loop
-add-result c = search needs
+    let a = c .before .before .before .before .before .before .before .args in
+    let l = c .before .before .before .before .before .loop in
+    let t = one-small (a .lanes) (a .l) (a .k) (a .t1) (a .t2) (a .marks .now) (a .cells .now) (a .bytes .now) (c .before .before .before .before .before .before .before .pre) (l .i) (omega arith) (l .cells) (l .bytes) (l .mended) (c .changes .result) (l .inv .2) (c .changes .ensures) in (
+      omega arith,
+      omega (arith, t),
+      noted-more (a .lanes) (a .l) (a .k) (a .t1) (a .t2) (a .marks .now) (a .cells .now) (a .bytes .now) (c .before .before .before .before .before .before .before .pre) (l .i) (omega arith) (l .cells) (l .bytes) (l .mended) (c .changes .result) (l .inv .2) (c .changes .ensures),
+    )
 
 returns : tie.Need-returns Inv-loop μ-loop
 returns c =
-    let a = c .before .before .before .before .before .args in
-    let l = c .before .before .loop in
-    noted (a .lanes) (a .l) (a .k) (a .e) (a .cells .now) (a .bytes .now) (c .before .before .before .before .before .pre) (l .i) (l .cells) (l .bytes) (omega arith) (l .inv)
+    let a = c .before .before .before .args in
+    let l = c .before .loop in
+    let z : l .i ≡ a .t2 .count = omega (arith, l .inv .0) in
+    subst (λ (n : ℕ). Noted (a .lanes) (a .l) (a .k) (a .t1) (a .t2) (a .marks .now) (a .cells .now) (a .bytes .now) n (l .cells) (l .bytes) (l .mended)) z (l .inv .2)
 
 pub note-spec : {M : Type 1} → statement M
 note-spec =
@@ -83,19 +109,21 @@ note-spec =
     Inv-loop
     μ-loop
     loop-holds
-    mul-cells
-    array-read-cells
-    mul-cells-2
-    add-cells
+    mul-p
+    element-copy-out-p
+    mul-q
+    add-q
+    element-copy-out-v
     cast-cells
-    add-cells-2
-    mul-cells-3
+    add-cells
+    mul-cells
     element-write-cells
-    array-read-bytes
+    element-copy-out-bytes
     add-bytes
     element-write-bytes
+    changes-requires
+    add-mended
     add-i
     loop-less
     loop-again
-    add-result
     returns)

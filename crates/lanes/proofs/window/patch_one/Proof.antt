@@ -3,8 +3,8 @@ use borrow.Author.Needs.{needs}
 use Rattle.lanes.proofs.window.patch_one.Statement.{statement}
 use Rattle.lanes.proofs.window.patch_one.Tie as tie
 
-inside-requires : tie.Need-inside-requires
-inside-requires c κs = search needs
+distance-requires : tie.Need-distance-requires
+distance-requires c κs = search needs
 
 offset-requires : tie.Need-offset-requires
 offset-requires c κs = search needs
@@ -24,17 +24,17 @@ same-length c = search needs
 returns : tie.Need-returns
 returns c =
     let s = c .before .before .before .before .before in
-    let i = c .before .before .before .inside in
+    let d = c .before .before .before .distance in
     let o = c .before .before .offset in
     let v = c .pick in
-    patched-one (s .args .from) (s .args .p) (s .args .b) (o .result) (v .result) (s .args .window .now) (s .pre) (o .ensures .0) (o .ensures .1)
-    (i .result) (i .ensures) (v .ensures .0) (v .ensures .1)
+    patched-one (s .args .from) (s .args .p) (s .args .b) (d .result) (o .result) (v .result) (s .args .window .now) (s .pre .1) (d .ensures)
+    (o .ensures .0) (o .ensures .1) (v .ensures .0) (v .ensures .1)
 
 pub patch-one-spec : {M : Type 1} → statement M
 patch-one-spec =
     tie.close
     (tie.spec
-    inside-requires
+    distance-requires
     offset-requires
     slice-read-pick
     pick-requires

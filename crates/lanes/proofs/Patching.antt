@@ -9,7 +9,7 @@ use lib.ListN.{length, getD, set, length-set}
 use lib.Seq.{ext-getD, getD-set-same, getD-set-other}
 use Rattle.account.specs.Lanes.{lane}
 use Rattle.account.proofs.Lanes.{length-lane, getD-lane, cell-below, place-of}
-use Rattle.dealt.specs.Patched.{patched}
+use Rattle.lanes.specs.Patched.{patched}
 
 pub patched-0 : (cs bs w : List ℕ) → patched cs bs 0 w ≡ w
 unfolding patched

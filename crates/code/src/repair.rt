@@ -8,7 +8,7 @@ ghost use Rattle.account.specs.Reach.{countTo, isMarked};
 ghost use Rattle.account.specs.Errata.{Applied};
 ghost use Rattle.gf256.specs.Gf256.{gf256};
 ghost use Rattle.remainder.specs.Remainder.{packedEnd, Remains};
-ghost use Rattle.errata.specs.Errata.{Gathered, cellsOf, valuesOf, ErrataFor, SearchedAs};
+ghost use Rattle.errata.specs.Errata.{cellsOf, valuesOf, ErrataFor, SearchedAs};
 ghost use Rattle.code.specs.Word.{wordMost};
 ghost use Rattle.code.specs.Repair.{WordEntersAs, Searchable, RepairsAs};
 use super::word::WORD_MOST;
@@ -46,23 +46,12 @@ fn enter(n: usize, marks: &[u8]) -> Entered
     Entered { code: 0, marked }
 }
 
-// The f marked cells, the last first. Most words have none.
-fn erased(marks: &[u8], f: usize) -> [usize; 5]
-    requires { ⌜ (length (now marks) ≤ 255) × (f ≡ countTo (isMarked (now marks)) (length (now marks))) × (f ≤ 5) ⌝ }
-    ensures { λ r. ⌜ Gathered (now (marks .entry)) r f ⌝ }
-{
-    if f == 0 {
-        return [0; 5];
-    }
-    marks::list(marks, 1, 0).cells
-}
-
 // The errata of a word with the remainder r, with the table made here.
 fn errata_of(r: u64, marks: &[u8], f: usize) -> errata::Found
     requires { ⌜ (r < packedEnd) × (length (now marks) ≤ 255) × (f ≡ countTo (isMarked (now marks)) (length (now marks))) × (f ≤ 5) ⌝ }
     ensures { λ x. ⌜ ((w : List ℕ) → length w ≡ length (now (marks .entry)) → Cells gf256 w → Remains w r → SearchedAs (x .good) (now (marks .entry)) w (x .errata)) ⌝ }
 {
-    let cells = erased(marks, f);
+    let cells = marks::all(marks, f);
     let s = remainder::syndrome_of(r);
     let tables = gf256::tables::TABLES;
     errata::find(&tables, s, marks.len(), cells, f)

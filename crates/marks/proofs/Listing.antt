@@ -144,13 +144,56 @@ list-ends R l marks p k i z L = record {
     all =
         sym (append-nil (take k p)) ∙ ap (λ (j : ℕ). take k p ++ places (isMarked (lane R l marks)) j) (sym z) ∙ L .list
 
+empty : (l : List ℕ) → length l ≡ 0 → l ≡ []
+empty [] q = refl
+empty (x ∷ l) q = absurd (omega arith)
+
 -- where none is marked, nothing is to be listed
 pub none-listed : (marks p : List ℕ) (f : ℕ) → f ≡ countTo (isMarked marks) (length marks) → f ≡ 0 → length p ≡ 5 → Gathered marks p f
 none-listed marks p f e z h = record {
   room = h;
   list = ap (λ (k : ℕ). take k p) z ∙ sym (empty (erasures marks) (count-places (isMarked marks) (length marks) ∙ sym e ∙ z));
 }
-  where
-    empty : (l : List ℕ) → length l ≡ 0 → l ≡ []
-    empty [] q = refl
-    empty (x ∷ l) q = absurd (omega arith)
+
+-- ---- all f of a word
+
+module _ (marks p : List ℕ) (k i f : ℕ) (L : Listing marks p k i) (is : f ≡ countTo (isMarked marks) (length marks)) where
+  counted : k + length (places (isMarked marks) i) ≡ f
+  counted =
+      omega (
+        arith,
+        is,
+        count-places (isMarked marks) (length marks),
+        ap length (L .list),
+        length-append (take k p) (places (isMarked marks) i),
+        length-take-le k p (omega (arith, L .room, L .few)),
+      )
+
+  pub some-left : k < f → 0 < i
+  some-left h = go i counted
+    where
+      go : (j : ℕ) → k + length (places (isMarked marks) j) ≡ f → 0 < j
+      go zero e = absurd (omega arith)
+      go (suc j) e = omega arith
+
+  pub all-gathered : k ≡ f → Gathered marks (five p) f
+  all-gathered e = record { room = refl; list = ap (λ (j : ℕ). take j (five p)) (sym e) ∙ five-front p (L .room) k (L .few) ∙ all }
+    where
+      all : take k p ≡ erasures marks
+      all =
+          sym (append-nil (take k p)) ∙ ap (λ (l : List ℕ). take k p ++ l) (sym (empty (places (isMarked marks) i) (omega (arith, counted, e)))) ∙ L .list
+
+  -- one cell more
+  module _ (q : List ℕ) (r : ℕ) (h : 0 < i) (u : Pushed (getD marks (i - 1) 0) (i - 1) p k q r) where
+    pub one-more : r ≤ k + 1
+    one-more = go (ℕ-discrete (getD marks (i - 1) 0) 0)
+      where
+        go : Dec (getD marks (i - 1) 0 ≡ 0) → r ≤ k + 1
+        go (yes z) = omega (arith, u .none z)
+        go (no n) = omega (arith, u .some n)
+
+    pub word-goes : r ≤ 5 → Listing marks q r (i - 1)
+    word-goes = list-goes marks p q k r (i - 1) (subst (Listing marks p k) back L) u
+      where
+        back : i ≡ suc (i - 1)
+        back = omega arith

@@ -6,9 +6,9 @@ ghost use mathlib.Core.Logic.{_≢_};
 ghost use Prim.Native.Nat.{_/_, _≤_, _<_};
 ghost use lib.Dec.{eqb};
 ghost use lib.ListN.{length};
-ghost use Rattle.account.specs.Reach.{isMarked, oneIf, and};
+ghost use Rattle.account.specs.Reach.{countTo, isMarked, oneIf, and};
 ghost use Rattle.account.specs.Lanes.{lane};
-ghost use Rattle.errata.specs.Errata.{cellsOf, valuesOf, ErrataFor};
+ghost use Rattle.errata.specs.Errata.{Gathered, cellsOf, valuesOf, ErrataFor};
 ghost use Rattle.marks.specs.Marks.{Tallied, AnyOf, SumOf, Pushed, ListedIn, countedOf};
 
 // All marks or-ed together, and their sum.
@@ -107,6 +107,21 @@ pub fn list(marks: &[u8], lanes: usize, l: usize) -> Listed
         count: k,
         cells: [cells[0], cells[1], cells[2], cells[3], cells[4]],
     }
+}
+
+// The f marked cells of a word, the last first.
+pub fn all(marks: &[u8], f: usize) -> [usize; 5]
+    requires { ⌜ (f ≡ countTo (isMarked (now marks)) (length (now marks))) × (f ≤ 5) ⌝ }
+    ensures { λ r. ⌜ Gathered (now (marks .entry)) r f ⌝ }
+{
+    let mut cells = [0usize; 6];
+    let mut k: usize = 0;
+    let mut i = marks.len();
+    while k < f {
+        i -= 1;
+        k = push(&mut cells, k, marks[i], i);
+    }
+    [cells[0], cells[1], cells[2], cells[3], cells[4]]
 }
 
 // 1 where an erratum is at an unmarked cell and changes it.

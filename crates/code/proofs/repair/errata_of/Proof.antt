@@ -8,8 +8,8 @@ use Rattle.code.proofs.Repairing.{syndrome-bytes}
 use Rattle.code.proofs.repair.errata_of.Statement.{statement}
 use Rattle.code.proofs.repair.errata_of.Tie as tie
 
-erased-requires : tie.Need-erased-requires
-erased-requires c κs = search needs
+all-requires : tie.Need-all-requires
+all-requires c κs = search needs
 
 syndrome-of-requires : tie.Need-syndrome-of-requires
 syndrome-of-requires c κs = search needs
@@ -20,7 +20,7 @@ find-requires c κs =
     let c2 = c .before .before in
     let s = c2 .before .before in (
       tables,
-      listed-marks (s .args .marks .now) (c2 .erased .result) (s .args .f) (s .pre .1) (s .pre .3) (c2 .erased .ensures),
+      listed-marks (s .args .marks .now) (c2 .all .result) (s .args .f) (s .pre .1) (s .pre .3) (c2 .all .ensures),
       syndrome-bytes (unpacked (s .args .r)) (y .result) (y .ensures),
     )
 
@@ -29,7 +29,7 @@ returns c =
     let c3 = c .before .before .before in
     let s = c3 .before .before in
     λ w ew cw R.
-    c .find .ensures (s .args .marks .now) refl (c3 .erased .ensures) w ew cw (c .before .before .syndrome-of .ensures ∙ syndrome-same w (s .args .r) R)
+    c .find .ensures (s .args .marks .now) refl (c3 .all .ensures) w ew cw (c .before .before .syndrome-of .ensures ∙ syndrome-same w (s .args .r) R)
 
 pub errata-of-spec : {M : Type 1} → statement M
-errata-of-spec = tie.close (tie.spec erased-requires syndrome-of-requires find-requires returns)
+errata-of-spec = tie.close (tie.spec all-requires syndrome-of-requires find-requires returns)

@@ -15,7 +15,7 @@ use Rattle.level.proofs.Written.{digit, recordBit, recordByte, recordOf}
 use Rattle.rules.proofs.Numbers.{lt-or-ge}
 use Rattle.level.proofs.RecordOf.{bit-1, bit-2, bit-3, bit-4, bit-5, record-of}
 use Rattle.level.proofs.Windows.{run, run-append, window}
-use Rattle.tiles.specs.Pack.{threeOf, tileByte, PackedIn}
+use Rattle.boards.specs.Pack.{threeOf, tileByte, PackedIn}
 use Rattle.tiles.proofs.Putting.{sets-at, sets-past, filled}
 use Rattle.record.specs.Writing.{headBytes, RecordPut}
 

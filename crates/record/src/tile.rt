@@ -31,5 +31,5 @@ pub(crate) fn board_code(tiles: &[u8]) -> u8
     requires { ⌜ length (now tiles) ≤ tilesMost ⌝ }
     ensures { λ r. ⌜ BoardCode 1 (now (tiles .entry)) r ⌝ }
 {
-    sum_code(tiles::board::tally(tiles))
+    sum_code(boards::board::tally(tiles))
 }

@@ -59,7 +59,7 @@ pub fn put_record(w: usize, h: usize, par: usize, tiles: &[u8], out: &mut [u8]) 
 {
     let n = record_length(w, h);
     put_head(w, h, par, out);
-    tiles::pack::pack(tiles, out);
+    boards::pack::pack(tiles, out);
     n
 }
 

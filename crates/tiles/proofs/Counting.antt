@@ -13,7 +13,7 @@ use Rattle.account.proofs.Lanes.{getD-past}
 use Rattle.level.specs.Record.{bitAt, fieldAt}
 use Rattle.tiles.specs.Part.{tilesFrom, threeAt}
 use Rattle.tiles.specs.Sum.{weighed, weight, PartSummed, addsAt, Counted, pairsOf, triplesOf}
-use Rattle.tiles.specs.Pack.{wordAt}
+use Rattle.tiles.specs.Word.{wordAt}
 use Rattle.tiles.proofs.Digits.{three-groups}
 use Rattle.tiles.proofs.Eight.{eight, eight-at, six-1, last-1, first-1, six-2, last-2, first-2, six-3, last-3, first-3, first-4, last-4}
 

@@ -4,6 +4,4 @@ pub mod Part
 pub mod Digits
 pub mod Counting
 pub mod Putting
-pub mod Packing
-pub mod Codes
 pub mod Word

@@ -2,4 +2,4 @@ pub mod Part
 pub mod Sum
 pub mod Rows
 pub mod Put
-pub mod Pack
+pub mod Word

@@ -1,9 +1,7 @@
 -- FORMAT 5.1, 5.2: what tiles add, as one number; rows are packed, and summed over a board.
 use mathlib.Core.Path.{_≡_}
-use mathlib.Core.Bool.{cond}
 use mathlib.Core.List.{List, [], _∷_}
 use Prim.Native.Nat.{ℕ, zero, suc, _+_, _*_, _-_, _/_, _%_, _≤_, _<_}
-use lib.Dec.{ltb}
 use lib.ListN.{length}
 use Rattle.account.specs.Lists.{sumOf}
 use Rattle.level.specs.Record.{bitAt, fieldAt}
@@ -44,7 +42,3 @@ triplesOf w (suc n) v = w (v % 512 / 64) + w (v % 512 / 8 % 8) + w (v % 512 % 8)
 unfoldable pub pairsOf : (ℕ → ℕ) → ℕ → ℕ → ℕ
 pairsOf w zero v = 0
 pairsOf w (suc n) v = w (v % 64 / 8) + w (v % 64 % 8) + pairsOf w n (v / 64)
-
--- 1 if tile t has code c, else 0
-abbrev pub same : ℕ → ℕ → ℕ
-same c t = cond (ltb t c) 0 (cond (ltb c t) 0 1)

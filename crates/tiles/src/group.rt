@@ -3,16 +3,16 @@ ghost use mathlib.Core.Path.{_≡_};
 ghost use Prim.Native.Nat.{_+_, _*_, _≤_};
 ghost use lib.ListN.{length, getD};
 ghost use Rattle.tiles.specs.Part.{threeAt};
-ghost use Rattle.tiles.specs.Pack.{wordAt};
+ghost use Rattle.tiles.specs.Word.{wordAt};
 
-pub(crate) fn wide(x: u8) -> u64
+pub fn wide(x: u8) -> u64
     ensures { λ r. ⌜ r ≡ x ⌝ }
 {
     x as u64
 }
 
 // Eight bytes as one number, the first highest. It becomes one load.
-pub(crate) fn word(bytes: &[u8], k: usize) -> u64
+pub fn word(bytes: &[u8], k: usize) -> u64
     requires { ⌜ k + 8 ≤ length (now bytes) ⌝ }
     ensures { λ r. ⌜ r ≡ wordAt (now (bytes .entry)) k ⌝ }
 {
@@ -34,7 +34,7 @@ fn three(x: u8, y: u8, z: u8) -> u64
 }
 
 // Byte q, and 0 past the end.
-pub(crate) fn cell(bs: &[u8], q: usize) -> u8
+pub fn cell(bs: &[u8], q: usize) -> u8
     ensures { λ r. ⌜ r ≡ getD (now (bs .entry)) q 0 ⌝ }
 {
     if q < bs.len() {

@@ -53,7 +53,7 @@ fn put_word(out: &mut [u8], k: usize, w: u64)
 }
 
 // The bytes that there is room for before m.
-pub(crate) fn put_rest(out: &mut [u8], k: usize, m: usize, w: u64)
+pub fn put_rest(out: &mut [u8], k: usize, m: usize, w: u64)
     requires { ⌜ (k ≤ m) × (m ≤ length (now out)) ⌝ }
     ensures { λ _. ⌜ Puts (now (out .entry)) (now (out .exit)) k m w ⌝ }
 {

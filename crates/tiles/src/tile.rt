@@ -68,7 +68,7 @@ fn pack(t: usize) -> u64
 }
 
 // The rows packed, made once a call and lent; last what is added for what is no tile code.
-pub(crate) fn rows() -> [u64; 8]
+pub fn rows() -> [u64; 8]
     ensures { λ r. ⌜ Packs r ⌝ }
 {
     [
@@ -84,7 +84,7 @@ pub(crate) fn rows() -> [u64; 8]
 }
 
 // What a tile adds, by the rows that are lent.
-pub(crate) fn weigh(rows: &[u64; 8], t: u8) -> u64
+pub fn weigh(rows: &[u64; 8], t: u8) -> u64
     requires { ⌜ Packs (now rows) ⌝ }
     ensures { λ r. ⌜ r ≡ weighed t ⌝ }
 {

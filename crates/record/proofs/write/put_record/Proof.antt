@@ -1,6 +1,6 @@
 use Rattle.record.proofs.Writing.{codes-all, record-put}
 use Rattle.record.proofs.Tiles.{area-small}
-use Rattle.tiles.specs.Pack.{PackedIn}
+use Rattle.boards.specs.Pack.{PackedIn}
 use Rattle.level.specs.Writing.{lent}
 use borrow.Author.Needs.{needs}
 use native.Mathlib.Omega.{arith}

@@ -5,7 +5,7 @@ use borrow.Author.Needs.{needs}
 use lib.ListN.{length, getD}
 use Rattle.account.specs.Lists.{sumOf}
 use Rattle.tiles.specs.Sum.{weighed, addsAt, triplesOf}
-use Rattle.tiles.specs.Pack.{wordAt}
+use Rattle.tiles.specs.Word.{wordAt}
 use Rattle.tiles.proofs.Counting.{nine-next}
 use Rattle.tiles.proofs.count.tally.Statement.{statement}
 use Rattle.tiles.proofs.count.tally.Tie as tie

@@ -1,13 +1,13 @@
-use Rattle.tiles.proofs.Codes.{weight-next, weight-end}
+use Rattle.boards.proofs.Codes.{weight-next, weight-end}
 use Rattle.tiles.proofs.Rows.{weighed-small}
 use Rattle.tiles.specs.Sum.{weight}
 use borrow.Author.Needs.{needs}
 use lib.ListN.{length, getD, drop}
 use native.Mathlib.Omega.{arith}
 use Prim.Native.Nat.{_+_, _*_, _-_, _≤_}
 use mathlib.Core.Path.{_≡_}
-use Rattle.tiles.proofs.board.rest.Statement.{statement}
-use Rattle.tiles.proofs.board.rest.Tie as tie
+use Rattle.boards.proofs.board.rest.Statement.{statement}
+use Rattle.boards.proofs.board.rest.Tie as tie
 
 abbrev Inv-loop : tie.InvT-loop
 Inv-loop rows tiles k x₀ i₀ x i =

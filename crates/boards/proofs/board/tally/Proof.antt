@@ -3,10 +3,10 @@ use Prim.Native.Nat.{ℕ, _+_, _*_, _-_, _/_, _≤_}
 use native.Mathlib.Omega.{arith}
 use borrow.Author.Needs.{needs}
 use lib.ListN.{length, drop}
 use Rattle.tiles.specs.Sum.{weight}
-use Rattle.tiles.proofs.Codes.{tilesAt, sum-small, weight-run}
-use Rattle.tiles.proofs.board.tally.Statement.{statement}
-use Rattle.tiles.proofs.board.tally.Tie as tie
+use Rattle.boards.proofs.Codes.{tilesAt, sum-small, weight-run}
+use Rattle.boards.proofs.board.tally.Statement.{statement}
+use Rattle.boards.proofs.board.tally.Tie as tie
 
 abbrev Inv-loop : tie.InvT-loop
 Inv-loop tiles rows n x₀ g₀ x g = (g ≤ n) × (x ≤ 18014398509481984 * g) × (x + weight (drop (64 * g) tiles) ≡ weight tiles)

@@ -3,9 +3,9 @@ use Prim.Native.Nat.{ℕ, _+_, _-_, _≤_}
 use native.Mathlib.Omega.{arith}
 use borrow.Author.Needs.{needs}
 use Rattle.account.specs.Lists.{sumOf}
-use Rattle.tiles.proofs.Codes.{tilesAt, countOf, count-next, few}
-use Rattle.tiles.proofs.board.count.Statement.{statement}
-use Rattle.tiles.proofs.board.count.Tie as tie
+use Rattle.boards.proofs.Codes.{tilesAt, countOf, count-next, few}
+use Rattle.boards.proofs.board.count.Statement.{statement}
+use Rattle.boards.proofs.board.count.Tie as tie
 
 abbrev Inv-loop : tie.InvT-loop
 Inv-loop tiles k c n₀ i₀ n i = (i ≤ 64) × (n ≡ countOf (tilesAt tiles k) i c)

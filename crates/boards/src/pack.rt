@@ -3,8 +3,8 @@ ghost use mathlib.Core.Path.{_≡_};
 ghost use Prim.Native.Nat.{ℕ, _+_, _*_, _/_, _≤_, _<_};
 ghost use lib.ListN.{length, getD};
 ghost use Rattle.level.specs.Sizes.{tilesMost};
-ghost use Rattle.tiles.specs.Pack.{joinedAt, turnedOf, PackedIn};
-use super::group::wide;
+ghost use Rattle.boards.specs.Pack.{joinedAt, turnedOf, PackedIn};
+use tiles::group::wide;
 
 // One tile more in the lowest bits.
 fn push(v: u64, t: u8) -> u64
@@ -19,7 +19,7 @@ fn full(tiles: &[u8], g: usize) -> u64
     requires { ⌜ (g ≤ 1000) × (8 * g + 8 ≤ length (now tiles)) × ((q : ℕ) → getD (now tiles) q 0 ≤ 7) ⌝ }
     ensures { λ r. ⌜ r ≡ joinedAt (now (tiles .entry)) g ⌝ }
 {
-    let w = super::group::word(tiles, 8 * g);
+    let w = tiles::group::word(tiles, 8 * g);
     let a = (w + w / 32) & 0x003F003F003F003F;
     let b = (a + a / 1024) & 0x00000FFF00000FFF;
     (b + b / 1048576) % 16777216
@@ -33,7 +33,7 @@ fn last(tiles: &[u8], g: usize) -> u64
     let mut v: u64 = 0;
     let mut j: usize = 0;
     while j < 8 {
-        v = push(v, super::group::cell(tiles, 8 * g + j));
+        v = push(v, tiles::group::cell(tiles, 8 * g + j));
         j += 1;
     }
     v
@@ -55,10 +55,10 @@ pub fn pack(tiles: &[u8], out: &mut [u8])
     let n = tiles.len() / 8;
     let mut g: usize = 0;
     while g < n {
-        super::put::put_rest(out, 3 + 3 * g, 6 + 3 * g, turned(full(tiles, g)));
+        tiles::put::put_rest(out, 3 + 3 * g, 6 + 3 * g, turned(full(tiles, g)));
         g += 1;
     }
-    super::put::put_rest(
+    tiles::put::put_rest(
         out,
         3 + 3 * n,
         3 + (3 * tiles.len() + 7) / 8,

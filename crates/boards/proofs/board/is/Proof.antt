@@ -1,7 +1,7 @@
-use Rattle.tiles.proofs.Codes.{same-is, same-not}
+use Rattle.boards.proofs.Codes.{same-is, same-not}
 use native.Mathlib.Omega.{arith}
-use Rattle.tiles.proofs.board.is.Statement.{statement}
-use Rattle.tiles.proofs.board.is.Tie as tie
+use Rattle.boards.proofs.board.is.Statement.{statement}
+use Rattle.boards.proofs.board.is.Tie as tie
 
 returns : tie.Need-returns
 returns c = same-is (c .before .args .c) (c .before .args .t) (omega arith)

@@ -3,10 +3,10 @@ use Prim.Native.Nat.{ℕ, _+_, _*_, _-_, _≤_}
 use native.Mathlib.Omega.{arith}
 use borrow.Author.Needs.{needs}
 use lib.ListN.{getD}
-use Rattle.tiles.specs.Pack.{joined}
-use Rattle.tiles.proofs.Packing.{joined-next, joined-none, room}
-use Rattle.tiles.proofs.pack.last.Statement.{statement}
-use Rattle.tiles.proofs.pack.last.Tie as tie
+use Rattle.boards.specs.Pack.{joined}
+use Rattle.boards.proofs.Packing.{joined-next, joined-none, room}
+use Rattle.boards.proofs.pack.last.Statement.{statement}
+use Rattle.boards.proofs.pack.last.Tie as tie
 
 abbrev Inv-loop : tie.InvT-loop
 Inv-loop tiles g v₀ j₀ v j = (j ≤ 8) × (v ≡ joined j (λ i. getD tiles (8 * g + i) 0))

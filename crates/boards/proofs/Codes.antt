@@ -13,9 +13,10 @@ use lib.Seq.{drop-cons, drop-length}
 use borrow.Author.Tests.{lt-ltb, le-ltb}
 use Rattle.rules.proofs.Numbers.{lt-or-ge}
 use Rattle.account.specs.Lists.{sumOf}
-use Rattle.tiles.specs.Sum.{weighed, weight, same}
+use Rattle.tiles.specs.Sum.{weighed, weight}
+use Rattle.boards.specs.Codes.{same}
 use Rattle.tiles.specs.Rows.{Packs}
 use Rattle.tiles.proofs.Rows.{weighed-in, weighed-small}
 
 -- ---- a tile and a code
 

@@ -3,10 +3,10 @@ use Prim.Native.Nat.{ℕ, _+_, _*_, _-_, _/_, _≤_, _<_}
 use native.Mathlib.Omega.{arith}
 use borrow.Author.Needs.{needs}
 use lib.ListN.{length, getD}
-use Rattle.tiles.specs.Pack.{tileByte, turnedOf}
-use Rattle.tiles.proofs.Packing.{joined-small, bytes-next}
-use Rattle.tiles.proofs.pack.pack.Statement.{statement}
-use Rattle.tiles.proofs.pack.pack.Tie as tie
+use Rattle.boards.specs.Pack.{tileByte, turnedOf}
+use Rattle.boards.proofs.Packing.{joined-small, bytes-next}
+use Rattle.boards.proofs.pack.pack.Statement.{statement}
+use Rattle.boards.proofs.pack.pack.Tie as tie
 
 abbrev Inv-loop : tie.InvT-loop
 Inv-loop tiles out₀ n g₀ out g =

@@ -27,15 +27,6 @@ unfoldable pub joined : ℕ → (ℕ → ℕ) → ℕ
 joined zero t = 0
 joined (suc n) t = joined n t * 8 + t n
 
--- eight bytes as one number, the first highest
-abbrev pub wordOf : ℕ → ℕ → ℕ → ℕ → ℕ → ℕ → ℕ → ℕ → ℕ
-wordOf a b c d e f g h = ((((((a * 256 + b) * 256 + c) * 256 + d) * 256 + e) * 256 + f) * 256 + g) * 256 + h
-
-abbrev pub wordAt : List ℕ → ℕ → ℕ
-wordAt bs k =
-    wordOf (getD bs k 0) (getD bs (k + 1) 0) (getD bs (k + 2) 0) (getD bs (k + 3) 0)
-    (getD bs (k + 4) 0) (getD bs (k + 5) 0) (getD bs (k + 6) 0) (getD bs (k + 7) 0)
-
 -- the eight of a group
 abbrev pub joinedAt : List ℕ → ℕ → ℕ
 joinedAt tiles g = joined 8 (λ j. getD tiles (8 * g + j) 0)

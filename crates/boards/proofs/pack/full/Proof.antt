@@ -4,10 +4,10 @@ use native.Mathlib.Omega.{arith}
 use borrow.Author.Needs.{needs}
 use lib.Bits.{bitAnd, and-le-r}
 use lib.ListN.{getD}
-use Rattle.tiles.proofs.Word.{word-small, squeeze, squeezed}
-use Rattle.tiles.proofs.Packing.{joined-eight}
-use Rattle.tiles.proofs.pack.full.Statement.{statement}
-use Rattle.tiles.proofs.pack.full.Tie as tie
+use Rattle.boards.proofs.Squeezing.{word-small, squeeze, squeezed}
+use Rattle.boards.proofs.Packing.{joined-eight}
+use Rattle.boards.proofs.pack.full.Statement.{statement}
+use Rattle.boards.proofs.pack.full.Tie as tie
 
 mul-word : tie.Need-mul-word
 mul-word c = search needs

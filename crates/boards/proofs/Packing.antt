@@ -7,8 +7,8 @@ use native.Mathlib.Numerals.{add-one}
 use native.Mathlib.Omega.{arith}
 use lib.ListN.{length, getD}
 use Rattle.rules.proofs.Numbers.{lt-or-ge}
-use Rattle.tiles.specs.Pack.{threeOf, tileByte, PackedIn, joined, joinedAt, turnedOf}
+use Rattle.boards.specs.Pack.{threeOf, tileByte, PackedIn, joined, joinedAt, turnedOf}
 use Rattle.tiles.specs.Put.{byteOf, Puts}
 
 middle : (a b c : ℕ) → a < 256 → b < 256 → (a + b * 256 + c * 65536) / 256 % 256 ≡ b
 middle a b c ha hb = omega arith

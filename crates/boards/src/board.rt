@@ -4,9 +4,10 @@ ghost use Prim.Native.Nat.{_+_, _*_, _≤_};
 ghost use lib.ListN.{length, getD, drop};
 ghost use Rattle.account.specs.Lists.{sumOf};
 ghost use Rattle.level.specs.Sizes.{tilesMost};
-ghost use Rattle.tiles.specs.Sum.{weighed, weight, same};
+ghost use Rattle.tiles.specs.Sum.{weighed, weight};
+ghost use Rattle.boards.specs.Codes.{same};
 ghost use Rattle.tiles.specs.Rows.{Packs};
-use super::group::wide;
+use tiles::group::wide;
 
 // 1 if tile t has code c, else 0.
 fn is(t: u8, c: u8) -> u8
@@ -57,7 +58,7 @@ fn rest(rows: &[u64; 8], tiles: &[u8], k: usize) -> u64
     let mut x: u64 = 0;
     let mut i = k;
     while i < tiles.len() {
-        x += super::tile::weigh(rows, tiles[i]);
+        x += tiles::tile::weigh(rows, tiles[i]);
         i += 1;
     }
     x
@@ -68,7 +69,7 @@ pub fn tally(tiles: &[u8]) -> u64
     requires { ⌜ length (now tiles) ≤ tilesMost ⌝ }
     ensures { λ r. ⌜ r ≡ weight (now (tiles .entry)) ⌝ }
 {
-    let rows = super::tile::rows();
+    let rows = tiles::tile::rows();
     let n = tiles.len() / 64;
     let mut x: u64 = 0;
     let mut g: usize = 0;

@@ -2,9 +2,9 @@ use mathlib.Core.Path.{_≡_, sym, ap, _∙_}
 use Prim.Native.Nat.{ℕ, _+_, _*_, _-_, _≤_, _<_}
 use native.Mathlib.Omega.{arith}
 use borrow.Author.Needs.{needs}
-use Rattle.tiles.proofs.Codes.{tilesAt, leftOf, addedBy, left-next, left-all, added-none, added-small, sum-small, row-next, row-last}
-use Rattle.tiles.proofs.board.block.Statement.{statement}
-use Rattle.tiles.proofs.board.block.Tie as tie
+use Rattle.boards.proofs.Codes.{tilesAt, leftOf, addedBy, left-next, left-all, added-none, added-small, sum-small, row-next, row-last}
+use Rattle.boards.proofs.board.block.Statement.{statement}
+use Rattle.boards.proofs.board.block.Tie as tie
 
 abbrev Inv-loop : tie.InvT-loop
 Inv-loop rows tiles k x₀ others₀ c₀ x others c = (c ≤ 7) × (x ≡ addedBy (tilesAt tiles k) 64 c) × (others ≡ leftOf (tilesAt tiles k) 64 c)

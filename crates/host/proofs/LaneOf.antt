@@ -14,7 +14,8 @@ use Rattle.code.specs.declared.repair.Repaired.{Repaired}
 use Rattle.code.specs.declared.repair.Repaired.the-variants as repaired
 use Rattle.code.specs.declared.lane.Lane.{Lane}
 use Rattle.code.specs.declared.lane.LaneRepair.{LaneRepair}
-use Rattle.host.specs.Packed.{packedMended, RepairExport}
+use Rattle.packing.specs.Packed.{packedMended}
+use Rattle.host.specs.Export.{RepairExport}
 
 -- ---- copies
 

@@ -1,3 +1,2 @@
 pub mod LaneOf
-pub mod Rooms
 pub mod Theorems

@@ -27,8 +27,9 @@ use Rattle.strip.specs.declared.read.Reading.{Reading}
 use Rattle.strip.proofs.Laid.{record-fits}
 use Rattle.strip.proofs.Reader.{zeros}
 use Rattle.strip.proofs.Theorems.{written-strip-level, mended-most, wear-most}
-use Rattle.host.specs.Packed.{unpackedLength, unpackedMended, unpackedRead, WriteExport, TestExport, RepairExport, RecordExport, RecordReadExport, StripExport, StripReadExport}
-use Rattle.host.proofs.Rooms.{ReadRoom, back-length, back-mended, back-read}
+use Rattle.packing.specs.Packed.{unpackedLength, unpackedMended, unpackedRead}
+use Rattle.packing.proofs.Rooms.{ReadRoom, back-length, back-mended, back-read}
+use Rattle.host.specs.Export.{WriteExport, TestExport, RepairExport, RecordExport, RecordReadExport, StripExport, StripReadExport}
 
 -- a refusal has room
 few : (rs : List Rule) (c : ℕ) → T (between 1 10 rs) → First rs c → c < 32

@@ -4,69 +4,21 @@ ghost use Prim.Native.Nat.{_<_, _≤_};
 ghost use lib.ListN.{length};
 ghost use Rattle.account.specs.Code.{alphaTo, syndrome};
 ghost use Rattle.gf256.specs.Gf256.{gf256, times};
-ghost use Rattle.code.specs.Word.{wordMost, writtenNumbers, testedNumbers};
-ghost use Rattle.code.specs.Repair.{repairedNumbers};
+ghost use Rattle.code.specs.Word.{wordMost};
 ghost use Rattle.code.specs.Lane.{laneMost, wordOf};
 ghost use Rattle.level.specs.Writing.{lent};
-ghost use Rattle.record.specs.Reading.{recordNumbers};
-ghost use Rattle.strip.specs.Reading.{stripNumbers};
-ghost use Rattle.host.specs.Packed.{packedAt, packedLength, packedMended, packedRead, packedSums, WriteExport, TestExport, RepairExport, RecordExport, RecordReadExport, StripExport, StripReadExport};
+ghost use Rattle.packing.specs.Packed.{packedSums};
+ghost use Rattle.host.specs.Export.{WriteExport, TestExport, RepairExport, RecordExport, RecordReadExport, StripExport, StripReadExport};
 use code::lane::LANE_MOST;
 use code::lane::Lane;
 use code::repair::Repaired;
-use code::word::Tested;
-use code::word::Written;
-use record::read::RecordRead;
-use strip::read::Reading;
-
-// A code in the lowest five bits, and a value from bit 55 on.
-fn pack_length(code: u8, value: usize) -> u64
-    ensures { λ r. ⌜ r ≡ packedAt 55 512 code value ⌝ }
-{
-    (code % 32) as u64 + ((value % 512) as u64) * 36028797018963968
-}
-
-// A code in the lowest five bits, and the mended count from bit 31 on.
-fn pack_mended(code: u8, value: usize) -> u64
-    ensures { λ r. ⌜ r ≡ packedAt 31 64 code value ⌝ }
-{
-    (code % 32) as u64 + ((value % 64) as u64) * 2147483648
-}
-
-fn pack_written(a: Written) -> u64
-    ensures { λ r. ⌜ r ≡ packedLength (writtenNumbers a) ⌝ }
-{
-    match a {
-        Written::Length(n) => pack_length(0, n),
-        Written::Refused(c) => pack_length(c, 0),
-    }
-}
-
-fn pack_tested(a: Tested) -> u64
-    ensures { λ r. ⌜ r ≡ packedLength (testedNumbers a) ⌝ }
-{
-    match a {
-        Tested::Clean => pack_length(0, 1),
-        Tested::Damaged => pack_length(0, 0),
-        Tested::Refused(c) => pack_length(c, 0),
-    }
-}
-
-fn pack_repaired(a: Repaired) -> u64
-    ensures { λ r. ⌜ r ≡ packedMended (repairedNumbers a) ⌝ }
-{
-    match a {
-        Repaired::Mended(e) => pack_mended(0, e),
-        Repaired::Refused(c) => pack_mended(c, 0),
-    }
-}
 
 // Writes the clean word with the data in front.
 #[no_mangle]
 pub extern "C" fn zav_word_write(data: &[u8], word: &mut [u8]) -> u64
     ensures { λ r. ⌜ WriteExport (now («data» .entry)) (now (word .entry)) (now (word .exit)) r ⌝ }
 {
-    pack_written(code::word::write(data, word))
+    packing::pack_written(code::word::write(data, word))
 }
 
 // Tests a word: 1 for clean.
@@ -74,7 +26,7 @@ pub extern "C" fn zav_word_write(data: &[u8], word: &mut [u8]) -> u64
 pub extern "C" fn zav_word_test(word: &[u8]) -> u64
     ensures { λ r. ⌜ TestExport (now (word .entry)) r ⌝ }
 {
-    pack_tested(code::word::test(word))
+    packing::pack_tested(code::word::test(word))
 }
 
 // Repairs a word in place.
@@ -82,7 +34,7 @@ pub extern "C" fn zav_word_test(word: &[u8]) -> u64
 pub extern "C" fn zav_word_repair(word: &mut [u8], marks: &[u8]) -> u64
     ensures { λ r. ⌜ RepairExport wordMost (now (marks .entry)) (now (word .entry)) (now (word .exit)) r ⌝ }
 {
-    pack_repaired(code::repair::repair(word, marks))
+    packing::pack_repaired(code::repair::repair(word, marks))
 }
 
 // A slice as a lane by value.
@@ -115,13 +67,13 @@ pub extern "C" fn zav_lane_repair(lane: &mut [u8], marks: &[u8]) -> u64
 {
     let n = lane.len();
     if LANE_MOST < n {
-        return pack_repaired(Repaired::Refused(1));
+        return packing::pack_repaired(Repaired::Refused(1));
     }
     if n < 6 {
-        return pack_repaired(Repaired::Refused(1));
+        return packing::pack_repaired(Repaired::Refused(1));
     }
     if marks.len() != n {
-        return pack_repaired(Repaired::Refused(2));
+        return packing::pack_repaired(Repaired::Refused(2));
     }
     let r = code::lane::repair_lane(lane_of(lane), lane_of(marks));
     let answer = r.answer;
@@ -129,9 +81,9 @@ pub extern "C" fn zav_lane_repair(lane: &mut [u8], marks: &[u8]) -> u64
     match answer {
         Repaired::Mended(e) => {
             put_back(mended, lane);
-            pack_mended(0, e)
+            packing::pack_mended(0, e)
         }
-        Repaired::Refused(c) => pack_mended(c, 0),
+        Repaired::Refused(c) => packing::pack_mended(c, 0),
     }
 }
 
@@ -181,52 +133,7 @@ pub extern "C" fn zav_record_write(
 ) -> u64
     ensures { λ r. ⌜ RecordExport (lent width height par (now (tiles .entry))) (now («record» .entry)) (now («record» .exit)) r ⌝ }
 {
-    pack_written(record::write::write(width, height, par, tiles, record))
-}
-
-// The numbers of a reader, each at its place.
-fn pack_numbers(
-    code: u8,
-    lane: usize,
-    width: usize,
-    height: usize,
-    par: usize,
-    mended: usize,
-    wear: usize,
-) -> u64
-    ensures { λ r. ⌜ r ≡ packedRead record { code = code; lane = lane; width = width; height = height; par = par; mended = mended; wear = wear } ⌝ }
-{
-    (code % 32) as u64
-        + ((lane % 16) as u64) * 32
-        + ((width % 32) as u64) * 2048
-        + ((height % 32) as u64) * 65536
-        + ((par % 1024) as u64) * 2097152
-        + ((mended % 64) as u64) * 2147483648
-        + ((wear % 64) as u64) * 17592186044416
-}
-
-fn pack_level(a: RecordRead) -> u64
-    ensures { λ r. ⌜ r ≡ packedRead (recordNumbers a) ⌝ }
-{
-    match a {
-        RecordRead::Level { width, height, par } => pack_numbers(0, 0, width, height, par, 0, 0),
-        RecordRead::Refused(c) => pack_numbers(c, 0, 0, 0, 0, 0, 0),
-    }
-}
-
-fn pack_reading(a: Reading) -> u64
-    ensures { λ r. ⌜ r ≡ packedRead (stripNumbers a) ⌝ }
-{
-    match a {
-        Reading::Read {
-            width,
-            height,
-            par,
-            mended,
-            wear,
-        } => pack_numbers(0, 0, width, height, par, mended, wear),
-        Reading::Refused { code, lane } => pack_numbers(code, lane, 0, 0, 0, 0, 0),
-    }
+    packing::pack_written(record::write::write(width, height, par, tiles, record))
 }
 
 // Reads a record.
@@ -234,7 +141,7 @@ fn pack_reading(a: Reading) -> u64
 pub extern "C" fn zav_record_read(record: &[u8], tiles: &mut [u8]) -> u64
     ensures { λ r. ⌜ RecordReadExport (now («record» .entry)) (now (tiles .entry)) (now (tiles .exit)) r ⌝ }
 {
-    pack_level(record::read::read(record, tiles))
+    packing::pack_level(record::read::read(record, tiles))
 }
 
 // Writes the strip of a level.
@@ -248,7 +155,7 @@ pub extern "C" fn zav_strip_write(
 ) -> u64
     ensures { λ r. ⌜ StripExport 4 (lent width height par (now (tiles .entry))) (now (strip .entry)) (now (strip .exit)) r ⌝ }
 {
-    pack_written(strip::write::write(width, height, par, tiles, strip))
+    packing::pack_written(strip::write::write(width, height, par, tiles, strip))
 }
 
 // Reads a strip.
@@ -261,5 +168,5 @@ pub extern "C" fn zav_strip_read(
 ) -> u64
     ensures { λ r. ⌜ StripReadExport 4 (now (strip .entry)) (now (marks .entry)) (now (tiles .entry)) (now (tiles .exit)) (now (scratch .entry)) (now (scratch .exit)) r ⌝ }
 {
-    pack_reading(strip::read::read(strip, marks, tiles, scratch))
+    packing::pack_reading(strip::read::read(strip, marks, tiles, scratch))
 }

@@ -1,5 +1,5 @@
 use mathlib.Core.Path.{ap}
-use Rattle.host.specs.Packed.{packedSums}
+use Rattle.packing.specs.Packed.{packedSums}
 use borrow.Author.Needs.{needs}
 use Rattle.host.proofs.zav_syndrome.Statement.{statement}
 use Rattle.host.proofs.zav_syndrome.Tie as tie

@@ -1,10 +1,10 @@
 use mathlib.Core.Path.{sym, ap, _∙_}
 use Rattle.code.specs.Repair.{repairedNumbers}
 use Rattle.code.specs.declared.repair.Repaired.{Repaired}
-use Rattle.host.specs.Packed.{packedMended}
+use Rattle.packing.specs.Packed.{packedMended}
 use borrow.Author.Needs.{needs}
-use Rattle.host.proofs.pack_repaired.Statement.{statement}
-use Rattle.host.proofs.pack_repaired.Tie as tie
+use Rattle.packing.proofs.pack_repaired.Statement.{statement}
+use Rattle.packing.proofs.pack_repaired.Tie as tie
 
 enum-known-a : tie.Need-enum-known-a
 enum-known-a c = search needs

@@ -1,10 +1,10 @@
 use mathlib.Core.Path.{sym, ap, _∙_}
 use Rattle.code.specs.Word.{writtenNumbers}
 use Rattle.code.specs.declared.word.Written.{Written}
-use Rattle.host.specs.Packed.{packedLength}
+use Rattle.packing.specs.Packed.{packedLength}
 use borrow.Author.Needs.{needs}
-use Rattle.host.proofs.pack_written.Statement.{statement}
-use Rattle.host.proofs.pack_written.Tie as tie
+use Rattle.packing.proofs.pack_written.Statement.{statement}
+use Rattle.packing.proofs.pack_written.Tie as tie
 
 enum-known-a : tie.Need-enum-known-a
 enum-known-a c = search needs

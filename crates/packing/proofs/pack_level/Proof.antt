@@ -1,10 +1,10 @@
 use mathlib.Core.Path.{sym, ap, _∙_}
 use Rattle.record.specs.declared.read.RecordRead.{RecordRead}
 use Rattle.record.specs.Reading.{recordNumbers}
-use Rattle.host.specs.Packed.{packedRead}
+use Rattle.packing.specs.Packed.{packedRead}
 use borrow.Author.Needs.{needs}
-use Rattle.host.proofs.pack_level.Statement.{statement}
-use Rattle.host.proofs.pack_level.Tie as tie
+use Rattle.packing.proofs.pack_level.Statement.{statement}
+use Rattle.packing.proofs.pack_level.Tie as tie
 
 enum-known-a : tie.Need-enum-known-a
 enum-known-a c = search needs

@@ -5,7 +5,7 @@ use native.Mathlib.Omega.{arith}
 use Rattle.rules.specs.Refusal.{Numbers}
 use Rattle.code.specs.Repair.{RepairNumbers}
 use Rattle.level.specs.Reading.{ReadNumbers}
-use Rattle.host.specs.Packed.{packedLength, packedMended, packedRead, unpackedLength, unpackedMended, unpackedRead}
+use Rattle.packing.specs.Packed.{packedLength, packedMended, packedRead, unpackedLength, unpackedMended, unpackedRead}
 
 -- ---- packing and unpacking lose nothing
 

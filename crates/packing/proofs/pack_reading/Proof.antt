@@ -1,10 +1,10 @@
 use mathlib.Core.Path.{sym, ap, _∙_}
 use Rattle.strip.specs.declared.read.Reading.{Reading}
 use Rattle.strip.specs.Reading.{stripNumbers}
-use Rattle.host.specs.Packed.{packedRead}
+use Rattle.packing.specs.Packed.{packedRead}
 use borrow.Author.Needs.{needs}
-use Rattle.host.proofs.pack_reading.Statement.{statement}
-use Rattle.host.proofs.pack_reading.Tie as tie
+use Rattle.packing.proofs.pack_reading.Statement.{statement}
+use Rattle.packing.proofs.pack_reading.Tie as tie
 
 enum-known-a : tie.Need-enum-known-a
 enum-known-a c = search needs

@@ -1,10 +1,10 @@
 use mathlib.Core.Path.{sym, ap, _∙_}
 use Rattle.code.specs.Word.{testedNumbers}
 use Rattle.code.specs.declared.word.Tested.{Tested}
-use Rattle.host.specs.Packed.{packedLength}
+use Rattle.packing.specs.Packed.{packedLength}
 use borrow.Author.Needs.{needs}
-use Rattle.host.proofs.pack_tested.Statement.{statement}
-use Rattle.host.proofs.pack_tested.Tie as tie
+use Rattle.packing.proofs.pack_tested.Statement.{statement}
+use Rattle.packing.proofs.pack_tested.Tie as tie
 
 enum-told : tie.Need-enum-told
 enum-told c = search needs

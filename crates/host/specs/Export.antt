@@ -1,0 +1,41 @@
+-- What an export promises: the number it returns is the packing of an answer that keeps the entry's promise.
+use mathlib.Core.Path.{_≡_}
+use mathlib.Core.List.{List}
+use Prim.Native.Nat.{ℕ}
+use Rattle.gf256.specs.Gf256.{gf256}
+use Rattle.code.specs.Word.{writtenNumbers, testedNumbers, WritesAs, TestsAs}
+use Rattle.code.specs.Repair.{repairedNumbers, RepairsAs}
+use Rattle.level.specs.Level.{Level}
+use Rattle.record.specs.Writing.{RecordWritesAs}
+use Rattle.record.specs.Reading.{recordNumbers, RecordReadsAs}
+use Rattle.strip.specs.Writing.{StripWritesAs}
+use Rattle.strip.specs.Reading.{stripNumbers, StripReadsAs}
+use Rattle.packing.specs.Packed.{packedLength, packedMended, packedRead}
+
+-- r is the packing of an answer that keeps the entry's promise
+pub record Export {A : Type 0} (keeps : A → Type 0) (packed : A → ℕ) (r : ℕ) : Type 0 where
+  pub answer : A
+  pub kept : keeps answer
+  pub is : r ≡ packed answer
+
+abbrev pub WriteExport : List ℕ → List ℕ → List ℕ → ℕ → Type 0
+WriteExport d old new = Export (WritesAs d old new) (λ a. packedLength (writtenNumbers a))
+
+abbrev pub TestExport : List ℕ → ℕ → Type 0
+TestExport w = Export (TestsAs w) (λ a. packedLength (testedNumbers a))
+
+-- a word of at most so many bytes
+abbrev pub RepairExport : ℕ → List ℕ → List ℕ → List ℕ → ℕ → Type 0
+RepairExport most marks old new = Export (RepairsAs gf256 most marks old new) (λ a. packedMended (repairedNumbers a))
+
+abbrev pub RecordExport : Level → List ℕ → List ℕ → ℕ → Type 0
+RecordExport l old new = Export (RecordWritesAs l old new) (λ a. packedLength (writtenNumbers a))
+
+abbrev pub RecordReadExport : List ℕ → List ℕ → List ℕ → ℕ → Type 0
+RecordReadExport bs old new = Export (RecordReadsAs bs old new) (λ a. packedRead (recordNumbers a))
+
+abbrev pub StripExport : ℕ → Level → List ℕ → List ℕ → ℕ → Type 0
+StripExport R l old new = Export (StripWritesAs R l old new) (λ a. packedLength (writtenNumbers a))
+
+abbrev pub StripReadExport : ℕ → List ℕ → List ℕ → List ℕ → List ℕ → List ℕ → List ℕ → ℕ → Type 0
+StripReadExport R s marks tiles tiles' scratch scratch' = Export (StripReadsAs R s marks tiles tiles' scratch scratch') (λ a. packedRead (stripNumbers a))

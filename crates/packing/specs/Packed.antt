@@ -1,0 +1,47 @@
+-- The numbers of an answer, packed in one as docs/C-INTERFACE.md has it.
+use mathlib.Core.List.{List}
+use Prim.Native.Nat.{ℕ, _+_, _*_, _/_, _%_, _^_}
+use lib.ListN.{getD}
+use Rattle.rules.specs.Refusal.{Numbers}
+use Rattle.code.specs.Repair.{RepairNumbers}
+use Rattle.level.specs.Reading.{ReadNumbers}
+
+-- the code in bits 0 to 4, and a value below m from bit k on
+abbrev pub packedAt : ℕ → ℕ → ℕ → ℕ → ℕ
+packedAt k m code value = code % 32 + value % m * 2 ^ k
+
+-- a length, or whether a word is clean: bits 55 to 63
+abbrev pub packedLength : Numbers → ℕ
+packedLength a = packedAt 55 512 (a .code) (a .value)
+
+-- mended: bits 31 to 36
+abbrev pub packedMended : RepairNumbers → ℕ
+packedMended a = packedAt 31 64 (a .code) (a .mended)
+
+-- a reader's numbers: code in bits 0 to 4, lane from 5, width from 11, height from 16, par from 21, mended from 31, wear from 44
+abbrev pub packedRead : ReadNumbers → ℕ
+packedRead n =
+    n .code % 32 + n .lane % 16 * 2 ^ 5 + n .width % 32 * 2 ^ 11 + n .height % 32 * 2 ^ 16 + n .par % 1024 * 2 ^ 21
+    + n .mended % 64 * 2 ^ 31 + n .wear % 64 * 2 ^ 44
+
+-- the numbers taken out again, as the header does
+abbrev pub unpackedLength : ℕ → Numbers
+unpackedLength r = record { code = r % 32; value = r / 2 ^ 55 % 512 }
+
+abbrev pub unpackedMended : ℕ → RepairNumbers
+unpackedMended r = record { code = r % 32; mended = r / 2 ^ 31 % 64 }
+
+abbrev pub unpackedRead : ℕ → ReadNumbers
+unpackedRead r = record {
+  code = r % 32;
+  lane = r / 2 ^ 5 % 16;
+  width = r / 2 ^ 11 % 32;
+  height = r / 2 ^ 16 % 32;
+  par = r / 2 ^ 21 % 1024;
+  mended = r / 2 ^ 31 % 64;
+  wear = r / 2 ^ 44 % 64;
+}
+
+-- five bytes, the first in the lowest place
+abbrev pub packedSums : List ℕ → ℕ
+packedSums s = getD s 0 0 + getD s 1 0 * 256 + getD s 2 0 * 65536 + getD s 3 0 * 16777216 + getD s 4 0 * 4294967296

@@ -1,0 +1,99 @@
+// The numbers of an answer, packed in one. docs/C-INTERFACE.md has the layout.
+ghost use mathlib.Core.Path.{_≡_};
+ghost use Rattle.code.specs.Word.{writtenNumbers, testedNumbers};
+ghost use Rattle.code.specs.Repair.{repairedNumbers};
+ghost use Rattle.record.specs.Reading.{recordNumbers};
+ghost use Rattle.strip.specs.Reading.{stripNumbers};
+ghost use Rattle.packing.specs.Packed.{packedAt, packedLength, packedMended, packedRead};
+use code::repair::Repaired;
+use code::word::Tested;
+use code::word::Written;
+use record::read::RecordRead;
+use strip::read::Reading;
+
+// A code in the lowest five bits, and a value from bit 55 on.
+fn pack_length(code: u8, value: usize) -> u64
+    ensures { λ r. ⌜ r ≡ packedAt 55 512 code value ⌝ }
+{
+    (code % 32) as u64 + ((value % 512) as u64) * 36028797018963968
+}
+
+// A code in the lowest five bits, and the mended count from bit 31 on.
+pub fn pack_mended(code: u8, value: usize) -> u64
+    ensures { λ r. ⌜ r ≡ packedAt 31 64 code value ⌝ }
+{
+    (code % 32) as u64 + ((value % 64) as u64) * 2147483648
+}
+
+pub fn pack_written(a: Written) -> u64
+    ensures { λ r. ⌜ r ≡ packedLength (writtenNumbers a) ⌝ }
+{
+    match a {
+        Written::Length(n) => pack_length(0, n),
+        Written::Refused(c) => pack_length(c, 0),
+    }
+}
+
+pub fn pack_tested(a: Tested) -> u64
+    ensures { λ r. ⌜ r ≡ packedLength (testedNumbers a) ⌝ }
+{
+    match a {
+        Tested::Clean => pack_length(0, 1),
+        Tested::Damaged => pack_length(0, 0),
+        Tested::Refused(c) => pack_length(c, 0),
+    }
+}
+
+pub fn pack_repaired(a: Repaired) -> u64
+    ensures { λ r. ⌜ r ≡ packedMended (repairedNumbers a) ⌝ }
+{
+    match a {
+        Repaired::Mended(e) => pack_mended(0, e),
+        Repaired::Refused(c) => pack_mended(c, 0),
+    }
+}
+
+// The numbers of a reader, each at its place.
+fn pack_numbers(
+    code: u8,
+    lane: usize,
+    width: usize,
+    height: usize,
+    par: usize,
+    mended: usize,
+    wear: usize,
+) -> u64
+    ensures { λ r. ⌜ r ≡ packedRead record { code = code; lane = lane; width = width; height = height; par = par; mended = mended; wear = wear } ⌝ }
+{
+    (code % 32) as u64
+        + ((lane % 16) as u64) * 32
+        + ((width % 32) as u64) * 2048
+        + ((height % 32) as u64) * 65536
+        + ((par % 1024) as u64) * 2097152
+        + ((mended % 64) as u64) * 2147483648
+        + ((wear % 64) as u64) * 17592186044416
+}
+
+pub fn pack_level(a: RecordRead) -> u64
+    ensures { λ r. ⌜ r ≡ packedRead (recordNumbers a) ⌝ }
+{
+    match a {
+        RecordRead::Level { width, height, par } => pack_numbers(0, 0, width, height, par, 0, 0),
+        RecordRead::Refused(c) => pack_numbers(c, 0, 0, 0, 0, 0, 0),
+    }
+}
+
+pub fn pack_reading(a: Reading) -> u64
+    ensures { λ r. ⌜ r ≡ packedRead (stripNumbers a) ⌝ }
+{
+    match a {
+        Reading::Read {
+            width,
+            height,
+            par,
+            mended,
+            wear,
+        } => pack_numbers(0, 0, width, height, par, mended, wear),
+        Reading::Refused { code, lane } => pack_numbers(code, lane, 0, 0, 0, 0, 0),
+    }
+}

@@ -15,7 +15,7 @@ use Rattle.account.proofs.Words as words
 use Rattle.account.specs.Errata.{Applied}
 use Rattle.gf256.specs.Gf256.{gf256}
 use Rattle.gf256.proofs.Field256.{field256}
-use Rattle.errata.specs.declared.Errata.{Errata}
+use Rattle.values.specs.declared.Errata.{Errata}
 use Rattle.errata.specs.Errata.{at, Bytes5, cellsOf, valuesOf, Corrects, Beyond, SearchedAs}
 use Rattle.code.specs.declared.repair.Repaired.{Repaired}
 use Rattle.code.specs.declared.repair.Repaired.the-variants as repaired

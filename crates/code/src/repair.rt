@@ -66,7 +66,7 @@ fn search(word: &[u8], marks: &[u8], f: usize) -> errata::Found
     if r == 0 {
         return errata::Found {
             good: true,
-            errata: errata::Errata {
+            errata: values::Errata {
                 count: 0,
                 cells: [0; 5],
                 values: [0; 5],
@@ -77,7 +77,7 @@ fn search(word: &[u8], marks: &[u8], f: usize) -> errata::Found
 }
 
 // The errata, added to the word.
-fn apply(e: errata::Errata, word: &mut [u8])
+fn apply(e: values::Errata, word: &mut [u8])
     requires { ⌜ ErrataFor (length (now word)) e ⌝ }
     ensures { λ _. ⌜ Applied gf256 (cellsOf e) (valuesOf e) (now (word .entry)) (now (word .exit)) ⌝ }
 {

@@ -27,7 +27,7 @@ use Rattle.gf256.specs.Tables.{placeOf, inverseOf}
 use Rattle.gf256.proofs.Lookups.{same-quotient}
 use Rattle.gf256.proofs.Field256.{field256, inv-is}
 use Rattle.errata.proofs.Sums.{drain-starts}
-use Rattle.errata.specs.declared.Errata.{Errata}
+use Rattle.values.specs.declared.Errata.{Errata}
 use Rattle.errata.specs.Errata.{at, Left, Listed, Drained, Gathered, Guess, NoGuess}
 use Rattle.errata.specs.Errata.{GuessedAs, Bytes5, Couple, Valued, cellsOf, valuesOf, Corrects, Beyond}
 

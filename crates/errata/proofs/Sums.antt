@@ -11,13 +11,13 @@ use lib.Seq.{take-suc, getD-take, length-take-le}
 use Rattle.account.specs.Field.{power}
 use Rattle.account.specs.Errata.{Outside, filt}
 use Rattle.account.specs.Search.{Zeros}
-use Rattle.account.proofs.Cells.{below-at, outside-append}
+use Rattle.account.proofs.Cells.{outside-append}
 use Rattle.account.proofs.Filter as filter
 use Rattle.account.proofs.Locate as locate
 use Rattle.gf256.specs.Gf256.{gf256, times}
 use Rattle.gf256.specs.Tables.{placeOf}
 use Rattle.gf256.proofs.Field256.{field256}
-use Rattle.errata.specs.Errata.{at, Filtered, Ratio, Climbs, Bytes5, Listed, Drained}
+use Rattle.errata.specs.Errata.{at, Filtered, Ratio, Climbs, Bytes5, Drained}
 
 pub filtered : (x a b c d : ℕ) (s : List ℕ) → a ≡ bitXor (at s 1) (times x (at s 0)) → b ≡ bitXor (at s 2) (times x (at s 1))
     → c ≡ bitXor (at s 3) (times x (at s 2)) → d ≡ bitXor (at s 4) (times x (at s 3)) → Filtered x s (a ∷ b ∷ c ∷ d ∷ 0 ∷ [])
@@ -71,11 +71,6 @@ module _ (s : List ℕ) (i m : ℕ) (b : Bytes5 s) (some : 0 < at s m) (l : m < 
 
 pub drain-starts : (n : ℕ) (cells s : List ℕ) → Drained n (take 0 cells) s s
 drain-starts n cells s = record { sum = λ m l. refl }
-
-pub cell-below : (n : ℕ) (cells : List ℕ) (k : ℕ) → Listed n cells k → (i : ℕ) → i < k → getD cells i 0 < n
-cell-below n cells k L i h =
-    subst (λ (x : ℕ). x < n) (getD-take k cells i 0 h)
-    (below-at (take k cells) n i (L .below) (omega (arith, length-take-le k cells (omega (arith, L .few, L .room)))))
 
 -- p is none of the first i cells, and not the next
 pub free-more : (cells : List ℕ) (i p : ℕ) → i < length cells → Outside (take i cells) p → (getD cells i 0 ≡ p → ⊥) → Outside (take (i + 1) cells) p

@@ -5,34 +5,23 @@ use mathlib.Core.Bool.{Bool, true, false}
 use mathlib.Core.List.{List, [], _∷_, _++_, map}
 use Prim.Native.Nat.{ℕ, suc, _+_, _*_, _-_, _<_, _≤_}
 use lib.Bits.{bitXor}
-use lib.ListN.{length, getD, take, set}
-use lib.Seq.{slice}
+use lib.ListN.{length, take}
 use Rattle.account.specs.Field.{power}
 use Rattle.account.specs.Code.{Cells, Clean, syndrome}
 use Rattle.account.specs.Reach.{Reach}
-use Rattle.account.specs.Errata.{Below, Distinct, filt, total, divided, solve, unweighed, Applied}
+use Rattle.account.specs.Errata.{Below, Distinct, filt, Applied}
 use Rattle.account.specs.Search.{erasures, Zeros, Fits, CellOf, Found1, Found2, Joined, Splits, Quadratic}
 use Rattle.gf256.specs.Gf256.{gf256, times}
-use Rattle.gf256.specs.Tables.{placeOf, inverseOf}
-use Rattle.errata.specs.declared.Errata.{Errata}
+use Rattle.gf256.specs.Tables.{placeOf}
+use Rattle.values.specs.declared.Errata.{Errata}
 use Rattle.errata.specs.declared.Pair.{Pair}
-
--- the sums that a syndrome holds, counted from 0
-abbrev pub at : List ℕ → ℕ → ℕ
-at s m = getD s m 0
+-- the sums of a syndrome, cells that are listed, and errata at them
+pub use Rattle.values.specs.Values.{at, Listed, Valued}
 
 -- ---- the filter
 
 pub record Filtered (x : ℕ) (s r : List ℕ) : Type 0 where
   pub sum : (m : ℕ) → m < 4 → at r m ≡ bitXor (at s (suc m)) (times x (at s m))
-
--- the first k of five are cells of a word of n, no two alike
-pub record Listed (n : ℕ) (cells : List ℕ) (k : ℕ) : Type 0 where
-  pub short : n ≤ 255
-  pub room : length cells ≡ 5
-  pub few : k ≤ 5
-  pub below : Below (take k cells) n
-  pub distinct : Distinct (take k cells)
 
 -- the cells ps of a word of n filtered out of s
 pub record Drained (n : ℕ) (ps s r : List ℕ) : Type 0 where
@@ -114,38 +103,11 @@ abbrev pub GuessedAs : Bool → ℕ → List ℕ → List ℕ → ℕ → ℕ �
 GuessedAs true n ps t f count cells = Guess n ps t f count cells
 GuessedAs false n ps t f count cells = NoGuess n ps t f
 
--- ---- values
-
--- x filtered out of the sums s at i .. k - 1, all but the first of them
-pub record Sieved (x i k : ℕ) (s r : List ℕ) : Type 0 where
-  pub room : length r ≡ 5
-  pub sum : (m : ℕ) → i ≤ m → suc m < k → at r (suc m) ≡ bitXor (at s (suc m)) (times x (at s m))
-
--- the values at the cells after i, divided, and before them what is left of the first sum
-abbrev pub Divided : ℕ → List ℕ → ℕ → ℕ → List ℕ → ℕ → List ℕ → Type 0
-Divided n cells i k v s0 r =
-    slice i k r ≡ bitXor s0 (total gf256 (divided gf256 inverseOf (placeOf n (getD cells i 0)) (map (placeOf n) (slice (i + 1) k cells)) (slice (i + 1) k v)))
-    ∷ divided gf256 inverseOf (placeOf n (getD cells i 0)) (map (placeOf n) (slice (i + 1) k cells)) (slice (i + 1) k v)
-
--- the values at the cells from i on that give the sums s from i on
-abbrev pub Solved : ℕ → List ℕ → ℕ → ℕ → List ℕ → List ℕ → Type 0
-Solved n cells i k s r = slice i k r ≡ solve gf256 inverseOf (map (placeOf n) (slice i k cells)) (λ m. at s (i + m))
-
-abbrev pub Unweighed : ℕ → List ℕ → ℕ → List ℕ → List ℕ → Type 0
-Unweighed n cells k u r = take k r ≡ unweighed gf256 (map (placeOf n) (take k cells)) (take k u)
-
 -- ---- errata
 
 -- all five are bytes
 abbrev pub Bytes5 : List ℕ → Type 0
 Bytes5 s = (m : ℕ) → at s m < 256
-
--- the first k cells, with the values that give the sums s
-pub record Valued (n : ℕ) (cells : List ℕ) (k : ℕ) (s : List ℕ) (e : Errata) : Type 0 where
-  pub count : e .count ≡ k
-  pub same-cells : e .cells ≡ cells
-  pub room : length (e .values) ≡ 5
-  pub values : take k (e .values) ≡ unweighed gf256 (map (placeOf n) (take k cells)) (solve gf256 inverseOf (map (placeOf n) (take k cells)) (at s))
 
 -- p and q are the wrong cells of a word of n with no marks
 pub record Couple (s : List ℕ) (n p q : ℕ) : Type 0 where

@@ -16,7 +16,7 @@ use Rattle.account.specs.Errata.{Applied}
 use Rattle.account.proofs.Cells.{one-most}
 use Rattle.account.proofs.Lanes.{length-lane}
 use Rattle.gf256.specs.Gf256.{gf256}
-use Rattle.errata.specs.declared.Errata.{Errata}
+use Rattle.values.specs.declared.Errata.{Errata}
 use Rattle.marks.specs.Marks.{countedOf}
 use Rattle.marks.proofs.Counting.{lane-marked, lane-inside, erratum-below}
 use Rattle.code.specs.Lane.{wordOf}

@@ -13,7 +13,7 @@ use Rattle.account.specs.Reach.{Reach, countTo, isMarked, differsAt}
 use Rattle.account.proofs.Cells.{count-none, not-differs}
 use Rattle.account.proofs.Lanes.{length-lane, bytes-lane}
 use Rattle.gf256.specs.Gf256.{gf256}
-use Rattle.errata.specs.declared.Errata.{Errata}
+use Rattle.values.specs.declared.Errata.{Errata}
 use Rattle.errata.specs.declared.Found.{Found}
 use Rattle.errata.specs.Errata.{cellsOf, valuesOf, Listed, Gathered, ErrataFor, Corrects, SearchedAs}
 use Rattle.errata.proofs.Guesses.{listed-marks}

@@ -6,7 +6,7 @@ use lib.ListN.{length, getD, take}
 use Rattle.account.specs.Lanes.{lane}
 use Rattle.account.specs.Errata.{Applied}
 use Rattle.gf256.specs.Gf256.{gf256}
-use Rattle.errata.specs.declared.Errata.{Errata}
+use Rattle.values.specs.declared.Errata.{Errata}
 use Rattle.errata.specs.Errata.{ErrataFor}
 use Rattle.marks.specs.Marks.{countedOf}
 use Rattle.code.specs.Lane.{laneMost, wordOf}

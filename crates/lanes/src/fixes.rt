@@ -8,7 +8,7 @@ pub const FIXES: usize = 80;
 // The errata e of lane l, of which w are the cells, noted after the first k; how many unmarked cells they change.
 pub(crate) fn note(
     w: Lane,
-    e: errata::Errata,
+    e: values::Errata,
     marks: &[u8],
     lanes: usize,
     l: usize,

@@ -20,9 +20,9 @@ use Rattle.account.proofs.Solve as solve
 use Rattle.account.proofs.Solve.{only-here, only-off}
 use Rattle.gf256.specs.Gf256.{gf256}
 use Rattle.gf256.proofs.Field256.{field256}
-use Rattle.errata.specs.declared.Errata.{Errata}
+use Rattle.values.specs.declared.Errata.{Errata}
 use Rattle.errata.specs.Errata.{cellsOf, ErrataFor}
-use Rattle.errata.proofs.Values.{from}
+use Rattle.values.proofs.Values.{from}
 use Rattle.marks.specs.Marks.{countedOf}
 
 -- ---- counting

@@ -139,7 +139,7 @@ pub fn changes(marks: &[u8], p: usize, v: u8) -> usize
 }
 
 // How many unmarked cells of lane l the errata change.
-pub fn count(e: errata::Errata, marks: &[u8], lanes: usize, l: usize) -> usize
+pub fn count(e: values::Errata, marks: &[u8], lanes: usize, l: usize) -> usize
     requires { ⌜ ErrataFor (length (now marks) / lanes) e × (l < lanes) × (length (now marks) ≤ 4096) ⌝ }
     ensures { λ r. ⌜ r ≡ countedOf (lane lanes l (now (marks .entry))) (cellsOf e) (valuesOf e) ⌝ }
 {

@@ -4,7 +4,8 @@ use native.Mathlib.Omega.{arith}
 use borrow.Author.Needs.{needs}
 use lib.ListN.{take}
 use Rattle.errata.specs.Errata.{Drained}
-use Rattle.errata.proofs.Sums.{cell-below, drain-starts, drain-goes}
+use Rattle.values.proofs.Values.{cell-below}
+use Rattle.errata.proofs.Sums.{drain-starts, drain-goes}
 use Rattle.errata.proofs.drain.Statement.{statement}
 use Rattle.errata.proofs.drain.Tie as tie
 

@@ -1,19 +1,18 @@
 use Prim.Native.Nat.{_-_}
 use native.Mathlib.Omega.{arith}
 use borrow.Author.Needs.{needs}
-use Rattle.errata.proofs.Sums.{cell-below}
-use Rattle.errata.proofs.Values.{solve-last, solve-step}
+use Rattle.values.proofs.Values.{cell-below, solve-last, solve-step}
 use Prim.Native.Nat.{ℕ, _<_}
 use borrow.Fn.Kinds.{In}
 use borrow.Fn.PlainCycle.{Measures, is, falls, and}
-use Rattle.errata.proofs.solve.Reads as solve
-use Rattle.errata.proofs.solve.Kinds as solve-kinds
-use Rattle.errata.proofs.+solve.Lts-solve as solve-lts
-use Rattle.errata.proofs.divide.Reads as divide-reads
-use Rattle.errata.proofs.sieve.Reads as sieve-reads
+use Rattle.values.proofs.solve.Reads as solve
+use Rattle.values.proofs.solve.Kinds as solve-kinds
+use Rattle.values.proofs.+solve.Lts-solve as solve-lts
+use Rattle.values.proofs.divide.Reads as divide-reads
+use Rattle.values.proofs.sieve.Reads as sieve-reads
 use Rattle.gf256.proofs.place.Reads as place-reads
-use Rattle.errata.proofs.+solve.{statement}
-use Rattle.errata.proofs.+solve.Tie.{close}
+use Rattle.values.proofs.+solve.{statement}
+use Rattle.values.proofs.+solve.Tie.{close}
 
 abbrev μ-solve : Measures 3 solve-kinds.ps ℕ
 μ-solve κs a = a .1 .1 .1 .1 .0 - a .1 .1 .1 .0

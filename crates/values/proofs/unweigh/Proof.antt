@@ -1,10 +1,9 @@
 use Prim.Native.Nat.{_-_}
 use native.Mathlib.Omega.{arith}
 use borrow.Author.Needs.{needs}
-use Rattle.errata.proofs.Sums.{cell-below}
-use Rattle.errata.proofs.Values.{Unweighing, unweigh-starts, unweigh-goes, unweigh-ends}
-use Rattle.errata.proofs.unweigh.Statement.{statement}
-use Rattle.errata.proofs.unweigh.Tie as tie
+use Rattle.values.proofs.Values.{cell-below, Unweighing, unweigh-starts, unweigh-goes, unweigh-ends}
+use Rattle.values.proofs.unweigh.Statement.{statement}
+use Rattle.values.proofs.unweigh.Tie as tie
 
 abbrev Inv-loop : tie.InvT-loop
 Inv-loop tables cells n k v₀ j₀ v j = Unweighing n cells k v₀ v j

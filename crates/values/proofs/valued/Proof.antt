@@ -4,10 +4,10 @@ use lib.ListN.{take}
 use Rattle.account.specs.Errata.{unweighed}
 use Rattle.gf256.specs.Gf256.{gf256}
 use Rattle.gf256.specs.Tables.{placeOf}
-use Rattle.errata.proofs.Values.{solve-all}
+use Rattle.values.proofs.Values.{solve-all}
 use borrow.Author.Needs.{needs}
-use Rattle.errata.proofs.valued.Statement.{statement}
-use Rattle.errata.proofs.valued.Tie as tie
+use Rattle.values.proofs.valued.Statement.{statement}
+use Rattle.values.proofs.valued.Tie as tie
 
 solve-requires : tie.Need-solve-requires
 solve-requires c κs = search needs

@@ -3,10 +3,9 @@ use lib.ListN.{length-set}
 use Prim.Native.Nat.{_-_}
 use native.Mathlib.Omega.{arith}
 use borrow.Author.Needs.{needs}
-use Rattle.errata.proofs.Sums.{cell-below}
-use Rattle.errata.proofs.Values.{Dividing, apart-by, divide-starts, divide-goes, divide-ends}
-use Rattle.errata.proofs.divide.Statement.{statement}
-use Rattle.errata.proofs.divide.Tie as tie
+use Rattle.values.proofs.Values.{cell-below, Dividing, apart-by, divide-starts, divide-goes, divide-ends}
+use Rattle.values.proofs.divide.Statement.{statement}
+use Rattle.values.proofs.divide.Tie as tie
 use lib.Bits.{bitXor}
 use Rattle.gf256.specs.Tables.{inverseOf}
 

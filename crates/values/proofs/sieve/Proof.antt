@@ -1,9 +1,9 @@
 use Prim.Native.Nat.{_-_}
 use native.Mathlib.Omega.{arith}
 use borrow.Author.Needs.{needs}
-use Rattle.errata.proofs.Values.{Sieving, sieve-starts, sieve-goes, sieve-ends}
-use Rattle.errata.proofs.sieve.Statement.{statement}
-use Rattle.errata.proofs.sieve.Tie as tie
+use Rattle.values.proofs.Values.{Sieving, sieve-starts, sieve-goes, sieve-ends}
+use Rattle.values.proofs.sieve.Statement.{statement}
+use Rattle.values.proofs.sieve.Tie as tie
 
 abbrev Inv-loop : tie.InvT-loop
 Inv-loop tables x i k v₀ m₀ v m = Sieving x i k v₀ v m

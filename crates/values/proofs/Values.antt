@@ -1,5 +1,5 @@
 -- The values at listed cells, by loops and by recursion.
-use mathlib.Core.Path.{_≡_, refl, sym, ap, ap₂, _∙_}
+use mathlib.Core.Path.{_≡_, refl, sym, ap, ap₂, _∙_, subst}
 use mathlib.Core.Logic.{_≢_}
 use mathlib.Core.List.{List, [], _∷_, _++_, map, append-assoc, append-nil}
 use Prim.Native.Nat.{ℕ, zero, suc, _+_, _-_, _<_, _≤_}
@@ -9,6 +9,7 @@ use lib.Bits.{bitXor}
 use lib.ListN.{length, getD, take, drop, set, length-set}
 use lib.Seq.{slice, slice-empty, slice-cons, length-slice, take-suc-set, take-set-lt, drop-set-lt, drop-append-le, getD-set-same, getD-set-other, length-take-le, getD-take}
 use Rattle.account.specs.Errata.{Outside, Distinct, total, divided, solve, unweighed}
+use Rattle.account.proofs.Cells.{below-at}
 use Rattle.account.proofs.Powers as powers
 use Rattle.account.proofs.Filter as filter
 use Rattle.account.proofs.Solve.{solve-near}
@@ -17,8 +18,7 @@ use Rattle.gf256.specs.Tables.{placeOf, inverseOf}
 use Rattle.gf256.proofs.Field256.{field256}
 use Rattle.gf256.proofs.Lookups.{same-quotient}
 use Rattle.rules.proofs.Laws.{either}
-use Rattle.errata.specs.Errata.{at, Sieved, Listed, Divided, Solved, Unweighed}
-use Rattle.errata.proofs.Sums.{cell-below}
+use Rattle.values.specs.Values.{at, Sieved, Listed, Divided, Solved, Unweighed}
 
 abbrev div : ℕ → List ℕ → List ℕ → List ℕ
 div = divided gf256 inverseOf
@@ -26,6 +26,11 @@ div = divided gf256 inverseOf
 positive : (a : ℕ) → a ≢ 0 → 0 < a
 positive zero ne = absurd (ne refl)
 positive (suc a) ne = omega arith
+
+pub cell-below : (n : ℕ) (cells : List ℕ) (k : ℕ) → Listed n cells k → (i : ℕ) → i < k → getD cells i 0 < n
+cell-below n cells k L i h =
+    subst (λ (x : ℕ). x < n) (getD-take k cells i 0 h)
+    (below-at (take k cells) n i (L .below) (omega (arith, length-take-le k cells (omega (arith, L .few, L .room)))))
 
 -- ---- parts of a list that is written to
 

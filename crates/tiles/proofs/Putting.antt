@@ -11,7 +11,7 @@ use Rattle.rules.proofs.Numbers.{lt-or-ge}
 use Rattle.account.specs.Lists.{listOf}
 use Rattle.account.proofs.Lists.{length-listOf, getD-listOf}
 use Rattle.level.specs.Record.{fieldAt}
-use Rattle.lookups.specs.Spread.{firstOf, secondOf, thirdOf}
+use Rattle.spreads.specs.Spread.{firstOf, secondOf, thirdOf}
 use Rattle.tiles.specs.Part.{tilesFrom, threeAt}
 use Rattle.tiles.specs.Put.{spreadOf, byteOf, Puts}
 use Rattle.tiles.proofs.Eight.{eight, eight-at, six-1, last-1, first-1, six-2, last-2, first-2, six-3, last-3, first-3, first-4, last-4}

@@ -7,7 +7,7 @@ use Rattle.account.specs.Lists.{sumOf}
 use Rattle.level.specs.Record.{bitAt, fieldAt}
 use Rattle.tiles.specs.Part.{tilesFrom}
 -- a row as one number, and what a tile adds
-pub use Rattle.lookups.specs.Weights.{packed, weighed}
+pub use Rattle.triples.specs.Weights.{packed, weighed}
 
 unfoldable pub weight : List ℕ → ℕ
 weight [] = 0

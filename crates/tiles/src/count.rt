@@ -15,7 +15,7 @@ fn nine(v: u64, z: u8) -> u64
     let mut s: u64 = 0;
     let mut n: usize = 8;
     while 0 < n {
-        s += lookups::three((t % 512) as usize);
+        s += triples::three((t % 512) as usize);
         t = u;
         u = u / 512;
         n -= 1;

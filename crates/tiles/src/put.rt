@@ -11,7 +11,7 @@ ghost use Rattle.level.specs.Sizes.{tilesMost};
 fn spread(x: u8, y: u8, z: u8) -> u64
     ensures { λ r. ⌜ r ≡ spreadOf 4 (x * 65536 + y * 256 + z) 0 ⌝ }
 {
-    lookups::first(x as usize) + lookups::second(y as usize) + lookups::third(z as usize)
+    spreads::first(x as usize) + spreads::second(y as usize) + spreads::third(z as usize)
 }
 
 // Two tiles, the first in the lower byte.

@@ -1,9 +1,9 @@
 use mathlib.Core.Path.{refl}
 use borrow.Author.Needs.{needs}
-use Rattle.lookups.specs.Weights.{tripled}
-use Rattle.lookups.proofs.Arms.{arm, no-other}
-use Rattle.lookups.proofs.three.Statement.{statement}
-use Rattle.lookups.proofs.three.Tie as tie
+use Rattle.triples.specs.Weights.{tripled}
+use Rattle.rules.proofs.Arms.{arm, no-other}
+use Rattle.triples.proofs.three.Statement.{statement}
+use Rattle.triples.proofs.three.Tie as tie
 
 add-match : tie.Need-add-match
 add-match c = search needs

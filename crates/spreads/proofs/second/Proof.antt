@@ -1,9 +1,9 @@
 use mathlib.Core.Path.{refl}
 use borrow.Author.Needs.{needs}
-use Rattle.lookups.specs.Spread.{secondOf}
-use Rattle.lookups.proofs.Arms.{arm, no-other}
-use Rattle.lookups.proofs.second.Statement.{statement}
-use Rattle.lookups.proofs.second.Tie as tie
+use Rattle.spreads.specs.Spread.{secondOf}
+use Rattle.rules.proofs.Arms.{arm, no-other}
+use Rattle.spreads.proofs.second.Statement.{statement}
+use Rattle.spreads.proofs.second.Tie as tie
 
 add-match : tie.Need-add-match
 add-match c = search needs

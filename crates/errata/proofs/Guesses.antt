@@ -26,7 +26,7 @@ use Rattle.gf256.specs.Gf256.{gf256, times}
 use Rattle.gf256.specs.Tables.{placeOf, inverseOf}
 use Rattle.gf256.proofs.Lookups.{same-quotient}
 use Rattle.gf256.proofs.Field256.{field256, inv-is}
-use Rattle.errata.proofs.Sums.{drain-starts}
+use Rattle.locate.proofs.Sums.{drain-starts}
 use Rattle.values.specs.declared.Errata.{Errata}
 use Rattle.errata.specs.Errata.{at, Left, Listed, Drained, Gathered, Guess, NoGuess}
 use Rattle.errata.specs.Errata.{GuessedAs, Bytes5, Couple, Valued, cellsOf, valuesOf, Corrects, Beyond}
@@ -305,3 +305,15 @@ module _ (n : ℕ) (s : List ℕ) (short : n ≤ 255) where
       second =
           ap (bitXor (at s 2)) ev ∙ sym (locate.pair-second gf256 field256 (at s) X Y i ei b (C .fits .none))
           ∙ ap (λ (a : ℕ). times (times a Y) Y) (sym quotient)
+
+-- ---- five sums
+
+-- five are all there are
+pub same-five : (l : List ℕ) → length l ≡ 5 → at l 0 ∷ at l 1 ∷ at l 2 ∷ at l 3 ∷ at l 4 ∷ [] ≡ l
+same-five [] h = absurd (omega arith)
+same-five (a ∷ []) h = absurd (omega arith)
+same-five (a ∷ b ∷ []) h = absurd (omega arith)
+same-five (a ∷ b ∷ c ∷ []) h = absurd (omega arith)
+same-five (a ∷ b ∷ c ∷ d ∷ []) h = absurd (omega arith)
+same-five (a ∷ b ∷ c ∷ d ∷ e ∷ []) h = refl
+same-five (a ∷ b ∷ c ∷ d ∷ e ∷ f ∷ l) h = absurd (omega arith)

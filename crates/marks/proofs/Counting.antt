@@ -21,7 +21,7 @@ use Rattle.account.proofs.Solve.{only-here, only-off}
 use Rattle.gf256.specs.Gf256.{gf256}
 use Rattle.gf256.proofs.Field256.{field256}
 use Rattle.values.specs.declared.Errata.{Errata}
-use Rattle.errata.specs.Errata.{cellsOf, ErrataFor}
+use Rattle.values.specs.Values.{cellsOf, ErrataFor}
 use Rattle.values.proofs.Values.{from}
 use Rattle.marks.specs.Marks.{countedOf}
 

@@ -15,7 +15,7 @@ use Rattle.account.specs.Reach.{countTo, isMarked}
 use Rattle.account.specs.Search.{addIf, places, erasures}
 use Rattle.account.proofs.Cells.{count-places}
 use Rattle.account.proofs.Lanes.{length-lane, getD-lane, cell-below}
-use Rattle.errata.specs.Errata.{Gathered}
+use Rattle.values.specs.Values.{Gathered}
 use Rattle.marks.specs.Marks.{Pushed, ListedIn}
 
 -- the first k are listed, those below i are still to come

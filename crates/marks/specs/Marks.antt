@@ -8,7 +8,7 @@ use lib.Dec.{eqb}
 use lib.ListN.{length, set}
 use Rattle.account.specs.Lanes.{lane}
 use Rattle.account.specs.Reach.{countTo, isMarked, oneIf, and, GoodMarks}
-use Rattle.errata.specs.Errata.{Gathered}
+use Rattle.values.specs.Values.{Gathered}
 use Rattle.marks.specs.declared.Marked.{Marked}
 use Rattle.marks.specs.declared.Listed.{Listed}
 

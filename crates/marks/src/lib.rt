@@ -8,7 +8,7 @@ ghost use lib.Dec.{eqb};
 ghost use lib.ListN.{length};
 ghost use Rattle.account.specs.Reach.{countTo, isMarked, oneIf, and};
 ghost use Rattle.account.specs.Lanes.{lane};
-ghost use Rattle.errata.specs.Errata.{Gathered, cellsOf, valuesOf, ErrataFor};
+ghost use Rattle.values.specs.Values.{Gathered, cellsOf, valuesOf, ErrataFor};
 ghost use Rattle.marks.specs.Marks.{Tallied, AnyOf, SumOf, Pushed, ListedIn, countedOf};
 
 // All marks or-ed together, and their sum.

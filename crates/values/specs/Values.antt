@@ -6,6 +6,7 @@ use lib.Bits.{bitXor}
 use lib.ListN.{length, getD, take}
 use lib.Seq.{slice}
 use Rattle.account.specs.Errata.{Below, Distinct, total, divided, solve, unweighed}
+use Rattle.account.specs.Search.{erasures}
 use Rattle.gf256.specs.Gf256.{gf256, times}
 use Rattle.gf256.specs.Tables.{placeOf, inverseOf}
 use Rattle.values.specs.declared.Errata.{Errata}
@@ -28,6 +29,25 @@ pub record Valued (n : ℕ) (cells : List ℕ) (k : ℕ) (s : List ℕ) (e : Err
   pub same-cells : e .cells ≡ cells
   pub room : length (e .values) ≡ 5
   pub values : take k (e .values) ≡ unweighed gf256 (map (placeOf n) (take k cells)) (solve gf256 inverseOf (map (placeOf n) (take k cells)) (at s))
+
+-- the first f cells are the marked ones, the last first
+pub record Gathered (marks cells : List ℕ) (f : ℕ) : Type 0 where
+  pub room : length cells ≡ 5
+  pub list : take f cells ≡ erasures marks
+
+abbrev pub cellsOf : Errata → List ℕ
+cellsOf e = take (e .count) (e .cells)
+
+abbrev pub valuesOf : Errata → List ℕ
+valuesOf e = take (e .count) (e .values)
+
+-- e is for a word of n: at most five cells of it, no two alike
+pub record ErrataFor (n : ℕ) (e : Errata) : Type 0 where
+  pub few : e .count ≤ 5
+  pub room : length (e .cells) ≡ 5
+  pub values-room : length (e .values) ≡ 5
+  pub below : Below (cellsOf e) n
+  pub distinct : Distinct (cellsOf e)
 
 -- ---- parts
 

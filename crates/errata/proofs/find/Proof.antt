@@ -3,8 +3,7 @@ use mathlib.Core.List.{List, [], _∷_}
 use Prim.Native.Nat.{ℕ}
 use lib.ListN.{take}
 use Rattle.errata.specs.Errata.{at, Bytes5}
-use Rattle.errata.proofs.Sums.{same-five}
-use Rattle.errata.proofs.Guesses.{corrects, five-drained, five-guess}
+use Rattle.errata.proofs.Guesses.{corrects, five-drained, five-guess, same-five}
 use borrow.Author.Needs.{needs}
 use Rattle.errata.proofs.find.Statement.{statement}
 use Rattle.errata.proofs.find.Tie as tie

@@ -2,8 +2,8 @@ use Rattle.account.proofs.Locate.{splits}
 use Rattle.gf256.specs.Gf256.{gf256}
 use Rattle.gf256.proofs.Field256.{field256}
 use borrow.Author.Needs.{needs}
-use Rattle.errata.proofs.split.Statement.{statement}
-use Rattle.errata.proofs.split.Tie as tie
+use Rattle.locate.proofs.split.Statement.{statement}
+use Rattle.locate.proofs.split.Tie as tie
 use Rattle.gf256.specs.Tables.{inverseOf}
 
 quotient-requires : tie.Need-quotient-requires

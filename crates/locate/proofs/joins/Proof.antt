@@ -4,10 +4,10 @@ use lib.Bits.{bitXor}
 use Rattle.account.proofs.Locate.{not-product, does-join, not-fourth}
 use Rattle.gf256.specs.Gf256.{gf256}
 use Rattle.gf256.proofs.Field256.{field256}
-use Rattle.errata.specs.Errata.{at}
+use Rattle.values.specs.Values.{at}
 use borrow.Author.Needs.{needs}
-use Rattle.errata.proofs.joins.Statement.{statement}
-use Rattle.errata.proofs.joins.Tie as tie
+use Rattle.locate.proofs.joins.Statement.{statement}
+use Rattle.locate.proofs.joins.Tie as tie
 
 product-requires : tie.Need-product-requires
 product-requires c κs = search needs

@@ -7,11 +7,11 @@ use Rattle.account.proofs.Laws.{gone}
 use Rattle.account.proofs.Locate.{not-first, not-second, do-fit, do-not-fit}
 use Rattle.gf256.specs.Gf256.{gf256}
 use Rattle.gf256.proofs.Field256.{field256}
-use Rattle.errata.specs.Errata.{at}
+use Rattle.values.specs.Values.{at}
 use Rattle.rules.proofs.Tests.{said, denied}
 use borrow.Author.Needs.{needs}
-use Rattle.errata.proofs.both.Statement.{statement}
-use Rattle.errata.proofs.both.Tie as tie
+use Rattle.locate.proofs.both.Statement.{statement}
+use Rattle.locate.proofs.both.Tie as tie
 
 cell-requires : tie.Need-cell-requires
 cell-requires c κs = search needs

@@ -1,10 +1,10 @@
 use mathlib.Core.Path.{ap}
 use lib.Bits.{bitXor}
-use Rattle.errata.specs.Errata.{at}
-use Rattle.errata.proofs.Sums.{filtered}
+use Rattle.values.specs.Values.{at}
+use Rattle.locate.proofs.Sums.{filtered}
 use borrow.Author.Needs.{needs}
-use Rattle.errata.proofs.filter.Statement.{statement}
-use Rattle.errata.proofs.filter.Tie as tie
+use Rattle.locate.proofs.filter.Statement.{statement}
+use Rattle.locate.proofs.filter.Tie as tie
 
 array-read-a : tie.Need-array-read-a
 array-read-a c = search needs

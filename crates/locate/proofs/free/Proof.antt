@@ -4,9 +4,9 @@ use lib.ListN.{take}
 use native.Mathlib.Omega.{arith}
 use borrow.Author.Needs.{needs}
 use Rattle.account.specs.Errata.{Outside}
-use Rattle.errata.proofs.Sums.{free-more, not-free}
-use Rattle.errata.proofs.free.Statement.{statement}
-use Rattle.errata.proofs.free.Tie as tie
+use Rattle.locate.proofs.Sums.{free-more, not-free}
+use Rattle.locate.proofs.free.Statement.{statement}
+use Rattle.locate.proofs.free.Tie as tie
 
 abbrev Inv-loop : tie.InvT-loop
 Inv-loop f p cells i₀ i = (i ≤ f) × Outside (take i cells) p

@@ -17,7 +17,8 @@ use Rattle.account.proofs.Locate as locate
 use Rattle.gf256.specs.Gf256.{gf256, times}
 use Rattle.gf256.specs.Tables.{placeOf}
 use Rattle.gf256.proofs.Field256.{field256}
-use Rattle.errata.specs.Errata.{at, Filtered, Ratio, Climbs, Bytes5, Drained}
+use Rattle.values.specs.Values.{at}
+use Rattle.locate.specs.Places.{Filtered, Ratio, Climbs, Bytes5, Drained}
 
 pub filtered : (x a b c d : ℕ) (s : List ℕ) → a ≡ bitXor (at s 1) (times x (at s 0)) → b ≡ bitXor (at s 2) (times x (at s 1))
     → c ≡ bitXor (at s 3) (times x (at s 2)) → d ≡ bitXor (at s 4) (times x (at s 3)) → Filtered x s (a ∷ b ∷ c ∷ d ∷ 0 ∷ [])
@@ -108,13 +109,3 @@ drain-goes n cells s r u i x l D ex f = subst (λ (ps : List ℕ). Drained n ps 
         ∙ ap (λ (z : ℕ). bitXor (filt gf256 (map (placeOf n) ps) (at s) (suc m)) (times z (filt gf256 (map (placeOf n) ps) (at s) m))) ex
         ∙ sym (filter.filt-append gf256 (map (placeOf n) ps) (placeOf n p ∷ []) (at s) m)
         ∙ ap (λ (l : List ℕ). filt gf256 l (at s) m) (sym (filter.map-append (placeOf n) ps (p ∷ [])))
-
--- five are all there are
-pub same-five : (l : List ℕ) → length l ≡ 5 → at l 0 ∷ at l 1 ∷ at l 2 ∷ at l 3 ∷ at l 4 ∷ [] ≡ l
-same-five [] h = absurd (omega arith)
-same-five (a ∷ []) h = absurd (omega arith)
-same-five (a ∷ b ∷ []) h = absurd (omega arith)
-same-five (a ∷ b ∷ c ∷ []) h = absurd (omega arith)
-same-five (a ∷ b ∷ c ∷ d ∷ []) h = absurd (omega arith)
-same-five (a ∷ b ∷ c ∷ d ∷ e ∷ []) h = refl
-same-five (a ∷ b ∷ c ∷ d ∷ e ∷ f ∷ l) h = absurd (omega arith)

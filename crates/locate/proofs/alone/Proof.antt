@@ -2,11 +2,12 @@ use native.Mathlib.Omega.{arith}
 use Rattle.account.proofs.Locate.{first-none, second-none, alone-far, alone-fits, alone-fails}
 use Rattle.gf256.specs.Gf256.{gf256}
 use Rattle.gf256.proofs.Field256.{field256}
-use Rattle.errata.specs.Errata.{at, Climbs}
+use Rattle.values.specs.Values.{at}
+use Rattle.locate.specs.Places.{Climbs}
 use Rattle.rules.proofs.Tests.{said, denied}
 use borrow.Author.Needs.{needs}
-use Rattle.errata.proofs.alone.Statement.{statement}
-use Rattle.errata.proofs.alone.Tie as tie
+use Rattle.locate.proofs.alone.Statement.{statement}
+use Rattle.locate.proofs.alone.Tie as tie
 
 array-read-if1 : tie.Need-array-read-if1
 array-read-if1 c = search needs

@@ -3,11 +3,11 @@ use mathlib.Core.Path.{_≡_, subst}
 use native.Mathlib.Omega.{arith}
 use borrow.Author.Needs.{needs}
 use lib.ListN.{take}
-use Rattle.errata.specs.Errata.{Drained}
+use Rattle.locate.specs.Places.{Drained}
 use Rattle.values.proofs.Values.{cell-below}
-use Rattle.errata.proofs.Sums.{drain-starts, drain-goes}
-use Rattle.errata.proofs.drain.Statement.{statement}
-use Rattle.errata.proofs.drain.Tie as tie
+use Rattle.locate.proofs.Sums.{drain-starts, drain-goes}
+use Rattle.locate.proofs.drain.Statement.{statement}
+use Rattle.locate.proofs.drain.Tie as tie
 
 abbrev Inv-loop : tie.InvT-loop
 Inv-loop tables k n cells t₀ i₀ t i = (i ≤ k) × Drained n (take i cells) t₀ t

@@ -6,8 +6,8 @@ use Rattle.rules.proofs.Tests.{said, denied}
 use Prim.Native.Nat.{_+_, _-_}
 use lib.ListN.{take}
 use borrow.Author.Needs.{needs}
-use Rattle.errata.proofs.cell.Statement.{statement}
-use Rattle.errata.proofs.cell.Tie as tie
+use Rattle.locate.proofs.cell.Statement.{statement}
+use Rattle.locate.proofs.cell.Tie as tie
 
 returns : tie.Need-returns
 returns c =

@@ -6,10 +6,10 @@ use lib.ListN.{take}
 use Rattle.account.proofs.Locate.{quadratic, det-some, sum-some, nowhere, proposed, found}
 use Rattle.gf256.specs.Gf256.{gf256, times}
 use Rattle.gf256.proofs.Field256.{field256}
-use Rattle.errata.specs.Errata.{at}
+use Rattle.values.specs.Values.{at}
 use borrow.Author.Needs.{needs}
-use Rattle.errata.proofs.two.Statement.{statement}
-use Rattle.errata.proofs.two.Tie as tie
+use Rattle.locate.proofs.two.Statement.{statement}
+use Rattle.locate.proofs.two.Tie as tie
 use Rattle.gf256.specs.Tables.{inverseOf}
 
 array-read-product : tie.Need-array-read-product

@@ -2,10 +2,10 @@ use Prim.Native.Nat.{_-_, _≤_}
 use native.Mathlib.Omega.{arith}
 use borrow.Author.Needs.{needs}
 use Rattle.account.specs.Search.{Zeros}
-use Rattle.errata.specs.Errata.{at}
-use Rattle.errata.proofs.Sums.{zeros-more}
-use Rattle.errata.proofs.zeros.Statement.{statement}
-use Rattle.errata.proofs.zeros.Tie as tie
+use Rattle.values.specs.Values.{at}
+use Rattle.locate.proofs.Sums.{zeros-more}
+use Rattle.locate.proofs.zeros.Statement.{statement}
+use Rattle.locate.proofs.zeros.Tie as tie
 
 abbrev Inv-loop : tie.InvT-loop
 Inv-loop k s i₀ i = (i ≤ k) × Zeros i (at s)

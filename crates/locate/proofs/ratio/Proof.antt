@@ -3,8 +3,8 @@ use Rattle.account.proofs.Locate.{log-less, log-around}
 use Rattle.gf256.specs.Gf256.{gf256}
 use Rattle.gf256.proofs.Field256.{field256}
 use borrow.Author.Needs.{needs}
-use Rattle.errata.proofs.ratio.Statement.{statement}
-use Rattle.errata.proofs.ratio.Tie as tie
+use Rattle.locate.proofs.ratio.Statement.{statement}
+use Rattle.locate.proofs.ratio.Tie as tie
 
 log-requires : tie.Need-log-requires
 log-requires c κs = search needs

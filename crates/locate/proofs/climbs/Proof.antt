@@ -5,11 +5,11 @@ use Rattle.account.specs.Field.{power}
 use Rattle.account.specs.Errata.{filt}
 use Rattle.account.specs.Search.{Zeros}
 use Rattle.gf256.specs.Gf256.{gf256}
-use Rattle.errata.specs.Errata.{at}
-use Rattle.errata.proofs.Sums.{climb-stops, climb-wrong, climb-more}
+use Rattle.values.specs.Values.{at}
+use Rattle.locate.proofs.Sums.{climb-stops, climb-wrong, climb-more}
 use borrow.Author.Needs.{needs}
-use Rattle.errata.proofs.climbs.Statement.{statement}
-use Rattle.errata.proofs.climbs.Tie as tie
+use Rattle.locate.proofs.climbs.Statement.{statement}
+use Rattle.locate.proofs.climbs.Tie as tie
 
 abbrev Inv-loop : tie.InvT-loop
 Inv-loop tables i s m₀ m = (m ≤ 4) × (0 < at s m) × Zeros m (filt gf256 (power gf256 2 i ∷ []) (at s))

@@ -1,59 +1,34 @@
 -- The answers of the writer.
 use mathlib.Core.Path.{_≡_, refl, subst}
-use mathlib.Core.Logic.{inl, inr}
+use mathlib.Core.Logic.{inr}
 use mathlib.Core.List.{List}
 use Prim.Native.Nat.{ℕ, _≤_}
 use native.Mathlib.Omega.{arith}
 use lib.ListN.{length}
-use Rattle.rules.specs.Refusal.{First, Hold, asked}
-use Rattle.rules.proofs.Laws.{all-hold, hold-first, stops}
-use Rattle.level.specs.Level.{Level, IsLevel, Ranged, lending}
-use Rattle.level.specs.Writing.{lent, writingLevel}
+use Rattle.rules.specs.Refusal.{First, asked}
+use Rattle.rules.proofs.Laws.{stops}
+use Rattle.level.specs.Level.{Level, lending}
+use Rattle.level.specs.Writing.{writingLevel}
 use Rattle.code.specs.declared.word.Written.the-variants as written
-use Rattle.record.specs.Writing.{RecordWritesAs, RecordPut, InRange}
+use Rattle.lending.specs.Lending.{RecordPut}
+use Rattle.record.specs.Writing.{RecordWritesAs}
 
--- the ranges, of numbers and of the level that has them
-module _ (w h par : ℕ) (tiles : List ℕ) where
-  pub ranged-is : InRange w h par → Ranged (lent w h par tiles)
-  ranged-is r = record { known = refl; sized = r .sized; par-small = r .par-small }
+module _ (l : Level) (old : List ℕ) where
+  none : (c : ℕ) → (c ≡ 0 → ⊥) → First (writingLevel 364 l (length old)) c → RecordWritesAs l old old (written.Refused c)
+  none c n f = record { code = f; value = λ z. absurd (n z); is-record = λ z. absurd (n z); past = λ z. absurd (n z); kept = λ _. refl }
 
-  pub ranged-has : Ranged (lent w h par tiles) → InRange w h par
-  ranged-has r = record { sized = r .sized; par-small = r .par-small }
+  pub refused-4 : (364 ≤ length old → ⊥) → RecordWritesAs l old old (written.Refused 4)
+  refused-4 n = none 4 (λ z. omega arith) (stops 0 (writingLevel 364 l (length old)) 4 (n, refl))
 
-module _ (l : Level) where
-  -- a level passes, and what passes is one
-  pub level-passes : IsLevel l → Hold (asked (λ ask. ask l) lending)
-  level-passes il = (il .ranged, (il .count, (il .codes, (il .playable, tt))))
+  pub refused-later : (c : ℕ) → 364 ≤ length old → (c ≡ 0 → ⊥) → First (asked (λ ask. ask l) lending) c → RecordWritesAs l old old (written.Refused c)
+  refused-later c a n f = none c n (inr (a, f))
 
-  pub level-passed : Hold (asked (λ ask. ask l) lending) → IsLevel l
-  level-passed (r, (c, (k, (p, none)))) = record { ranged = r; count = c; codes = k; playable = p }
-
-  pub lent-level : (c : ℕ) → c ≡ 0 → First (asked (λ ask. ask l) lending) c → IsLevel l
-  lent-level c z f = level-passed (all-hold 10 (asked (λ ask. ask l) lending) c tt f z)
-
-  -- the same of a writer's whole list
-  pub written-level : (least room c : ℕ) → c ≡ 0 → First (writingLevel least l room) c → (least ≤ room) × IsLevel l
-  written-level least room c z f = let h = all-hold 10 (writingLevel least l room) c tt f z in (h .0, level-passed (h .1))
-
-  pub level-written : (least room : ℕ) → least ≤ room → IsLevel l → First (writingLevel least l room) 0
-  level-written least room k il = hold-first (writingLevel least l room) (k, level-passes il)
-
-  module _ (old : List ℕ) where
-    none : (c : ℕ) → (c ≡ 0 → ⊥) → First (writingLevel 364 l (length old)) c → RecordWritesAs l old old (written.Refused c)
-    none c n f = record { code = f; value = λ z. absurd (n z); is-record = λ z. absurd (n z); past = λ z. absurd (n z); kept = λ _. refl }
-
-    pub refused-4 : (364 ≤ length old → ⊥) → RecordWritesAs l old old (written.Refused 4)
-    refused-4 n = none 4 (λ z. omega arith) (stops 0 (writingLevel 364 l (length old)) 4 (n, refl))
-
-    pub refused-later : (c : ℕ) → 364 ≤ length old → (c ≡ 0 → ⊥) → First (asked (λ ask. ask l) lending) c → RecordWritesAs l old old (written.Refused c)
-    refused-later c a n f = none c n (inr (a, f))
-
-    pub wrote : (new : List ℕ) (c n : ℕ) → 364 ≤ length old → c ≡ 0 → First (asked (λ ask. ask l) lending) c → RecordPut l old new n
-        → RecordWritesAs l old new (written.Length n)
-    wrote new c n a z f P = record {
-      code = inr (a, subst (First (asked (λ ask. ask l) lending)) z f);
-      value = λ _. P .size;
-      is-record = λ _. rw (P .size) at (P .is-record);
-      past = λ _. rw (P .size) at (P .past);
-      kept = λ k. absurd (k refl);
-    }
+  pub wrote : (new : List ℕ) (c n : ℕ) → 364 ≤ length old → c ≡ 0 → First (asked (λ ask. ask l) lending) c → RecordPut l old new n
+      → RecordWritesAs l old new (written.Length n)
+  wrote new c n a z f P = record {
+    code = inr (a, subst (First (asked (λ ask. ask l) lending)) z f);
+    value = λ _. P .size;
+    is-record = λ _. rw (P .size) at (P .is-record);
+    past = λ _. rw (P .size) at (P .past);
+    kept = λ k. absurd (k refl);
+  }

@@ -1,5 +1,5 @@
 -- What is promised of records (FORMAT 8.10, 8.11).
-use mathlib.Core.Path.{_≡_, refl, sym, ap, ap₂, _∙_, subst}
+use mathlib.Core.Path.{_≡_, refl, sym, ap, ap₂, _∙_}
 use mathlib.Core.Logic.{_≢_}
 use mathlib.Core.List.{List, _++_}
 use Prim.Native.Nat.{ℕ, _+_, _*_, _-_, _/_, _≤_}
@@ -22,8 +22,8 @@ use Rattle.record.specs.declared.read.RecordRead.the-variants as read
 use Rattle.level.specs.Writing.{writingLevel}
 use Rattle.record.specs.Writing.{RecordWritesAs}
 use Rattle.record.specs.Reading.{recordNumbers, RecordReadsAs}
-use Rattle.record.proofs.Tiles.{area-small}
-use Rattle.record.proofs.Answers.{written-level, level-written}
+use Rattle.fields.proofs.Tiles.{area-small}
+use Rattle.lending.proofs.Lent.{written-level, level-written}
 
 -- The promise of the writer fixes every number and byte.
 pub record-writes-fixed : (l : Level) (old u v : List ℕ) (a b : Written) → RecordWritesAs l old u a → RecordWritesAs l old v b

@@ -1,80 +1,8 @@
 // Writing a record: a level, bit-packed.
-ghost use mathlib.Core.Path.{_≡_};
-ghost use Prim.Native.Nat.{_≤_};
-ghost use lib.ListN.{length};
-ghost use lib.Seq.{sets};
-ghost use Rattle.rules.specs.Says.{Says};
-ghost use Rattle.rules.specs.Refusal.{First, asked};
-ghost use Rattle.level.specs.Level.{Sized, IsLevel, lending};
-ghost use Rattle.level.specs.Record.{recordLength};
 ghost use Rattle.level.specs.Writing.{lent};
-ghost use Rattle.record.specs.Writing.{RecordWritesAs, RecordPut, InRange, headBytes};
-ghost use Rattle.level.specs.Sizes.{recordMost};
+ghost use Rattle.record.specs.Writing.{RecordWritesAs};
 use code::word::Written;
 use level::RECORD_MOST;
-
-fn ranged(w: usize, h: usize, par: usize) -> bool
-    ensures { λ r. ⌜ Says r (InRange w h par) ⌝ }
-{
-    if w < 1 {
-        return false;
-    }
-    if 31 < w {
-        return false;
-    }
-    if h < 1 {
-        return false;
-    }
-    if 31 < h {
-        return false;
-    }
-    if 1023 < par {
-        return false;
-    }
-    true
-}
-
-// The bytes of a record.
-fn record_length(w: usize, h: usize) -> usize
-    requires { ⌜ Sized w h ⌝ }
-    ensures { λ r. ⌜ (r ≡ recordLength w h) × (r ≤ recordMost) ⌝ }
-{
-    3 + (3 * (w * h) + 7) / 8
-}
-
-// Version, width, height and par.
-fn put_head(w: usize, h: usize, par: usize, out: &mut [u8])
-    requires { ⌜ (w ≤ 31) × (h ≤ 31) × (par ≤ 1023) × (3 ≤ length (now out)) ⌝ }
-    ensures { λ _. ⌜ now (out .exit) ≡ sets (now (out .entry)) 0 (headBytes w h par) ⌝ }
-{
-    out[0] = (16 + w / 2) as u8;
-    out[1] = (w % 2 * 128 + h * 4 + par / 256) as u8;
-    out[2] = (par % 256) as u8;
-}
-
-// The record of a level, in the first bytes of a buffer; its length is returned.
-pub fn put_record(w: usize, h: usize, par: usize, tiles: &[u8], out: &mut [u8]) -> usize
-    requires { ⌜ IsLevel (lent w h par (now tiles)) × (recordLength w h ≤ length (now out)) ⌝ }
-    ensures { λ r. ⌜ RecordPut (lent w h par (now (tiles .entry))) (now (out .entry)) (now (out .exit)) r ⌝ }
-{
-    let n = record_length(w, h);
-    put_head(w, h, par, out);
-    boards::pack::pack(tiles, out);
-    n
-}
-
-// Refusals 7 to 10 of a writer.
-pub fn check(w: usize, h: usize, par: usize, tiles: &[u8]) -> u8
-    ensures { λ r. ⌜ First (asked (λ ask. ask (lent w h par (now (tiles .entry)))) lending) r ⌝ }
-{
-    if !ranged(w, h, par) {
-        return 7;
-    }
-    if tiles.len() != w * h {
-        return 8;
-    }
-    super::tile::board_code(tiles)
-}
 
 // Writes the record of a level.
 pub fn write(w: usize, h: usize, par: usize, tiles: &[u8], out: &mut [u8]) -> Written
@@ -83,10 +11,10 @@ pub fn write(w: usize, h: usize, par: usize, tiles: &[u8], out: &mut [u8]) -> Wr
     if out.len() < RECORD_MOST {
         return Written::Refused(4);
     }
-    let code = check(w, h, par, tiles);
+    let code = lending::check(w, h, par, tiles);
     if code != 0 {
         return Written::Refused(code);
     }
-    let n = put_record(w, h, par, tiles, out);
+    let n = lending::put_record(w, h, par, tiles, out);
     Written::Length(n)
 }

@@ -21,8 +21,8 @@ use Rattle.level.specs.Strip.{columns, IsStrip}
 use Rattle.level.specs.Writing.{writingLevel}
 use Rattle.rules.proofs.Numbers.{lt-or-ge}
 use Rattle.level.proofs.Dealing.{within}
-use Rattle.record.specs.Writing.{RecordPut}
-use Rattle.record.proofs.Tiles.{area-small}
+use Rattle.lending.specs.Lending.{RecordPut}
+use Rattle.fields.proofs.Tiles.{area-small}
 use Rattle.strip.specs.Writing.{stripLength, LaidAs, StripWritesAs}
 
 -- how far a record reaches

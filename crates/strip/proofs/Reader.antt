@@ -16,9 +16,9 @@ use Rattle.level.proofs.Strips.{mendable, reached-mends}
 use Rattle.level.proofs.Mended.{level-reached, passing, found, none-reached}
 use Rattle.lanes.specs.Patched.{patched}
 use Rattle.lanes.proofs.Patching.{patched-0, length-patched}
-use Rattle.record.specs.declared.read.Judged.{Judged}
-use Rattle.record.specs.Reading.{AcceptedAs}
-use Rattle.record.proofs.Reader.{passed, level-is, tiles-past}
+use Rattle.fields.specs.declared.judged.Judged.{Judged}
+use Rattle.fields.specs.Judged.{AcceptedAs}
+use Rattle.fields.proofs.Accepting.{passed, level-is, tiles-past}
 use Rattle.strip.specs.declared.read.Reading.{Reading}
 use Rattle.strip.specs.declared.read.Reading.the-variants as reading
 use Rattle.strip.specs.Reading.{stripNumbers, LevelRead, StripReadsAs, FinishedAs}

@@ -21,7 +21,7 @@ use Rattle.level.specs.Writing.{writingLevel}
 use Rattle.level.proofs.Dealing.{columns-more, lanes-short}
 use Rattle.level.proofs.Strips.{same-strip}
 use Rattle.level.proofs.Theorems as levels
-use Rattle.record.proofs.Answers.{written-level, level-written}
+use Rattle.lending.proofs.Lent.{written-level, level-written}
 use Rattle.strip.specs.declared.read.Reading.{Reading}
 use Rattle.strip.specs.Writing.{stripLength, StripWritesAs}
 use Rattle.strip.specs.Reading.{stripNumbers, LevelRead, StripReadsAs}

@@ -13,8 +13,8 @@ use Rattle.level.specs.Strip.{Reached, Lowest, mendedOf, wearOf}
 use Rattle.level.specs.Reading.{ReadNumbers, refusedAt, returned, entering, mending, judging, tilesOf}
 use Rattle.strip.specs.declared.read.Reading.{Reading}
 use Rattle.strip.specs.declared.read.Reading.the-variants as reading
-use Rattle.record.specs.Reading.{AcceptedAs}
-use Rattle.record.specs.declared.read.Judged.{Judged}
+use Rattle.fields.specs.Judged.{AcceptedAs}
+use Rattle.fields.specs.declared.judged.Judged.{Judged}
 use Rattle.strip.specs.declared.read.Entered.{Entered}
 
 -- the numbers of an answer

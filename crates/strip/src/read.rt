@@ -7,15 +7,15 @@ ghost use Rattle.rules.specs.Says.{Says};
 ghost use Rattle.level.specs.Strip.{Legal, wearOf};
 ghost use Rattle.level.specs.Reading.{dataOf};
 ghost use Rattle.lanes.specs.Patched.{patched};
-ghost use Rattle.record.specs.Reading.{AcceptedAs};
+ghost use Rattle.fields.specs.Judged.{AcceptedAs};
 ghost use Rattle.strip.specs.Reading.{stripNumbers, StripEntersAs, FinishesAs, StripReadsAs};
 ghost use Rattle.level.specs.Sizes.{tilesMost, scratchLeast, stripLeast, stripMost};
+use fields::judged::Judged;
 use lanes::fixes::FIXES;
 use level::SCRATCH_LEAST;
 use level::STRIP_LEAST;
 use level::STRIP_MOST;
 use level::TILES_MOST;
-use record::read::Judged;
 
 // The lanes of a strip, and the cells that check them.
 const LANES: usize = 4;

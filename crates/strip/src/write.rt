@@ -26,7 +26,7 @@ fn lay(w: usize, h: usize, par: usize, tiles: &[u8], out: &mut [u8]) -> usize
     requires { ⌜ IsLevel (lent w h par (now tiles)) × (stripMost ≤ length (now out)) ⌝ }
     ensures { λ r. ⌜ LaidAs 4 (lent w h par (now (tiles .entry))) (now (out .entry)) (now (out .exit)) r ⌝ }
 {
-    let b = record::write::put_record(w, h, par, tiles, out);
+    let b = lending::put_record(w, h, par, tiles, out);
     let k = (b + 3) / 4;
     fill(out, b, 4 * k);
     dealt::put_checks(out, k);
@@ -40,7 +40,7 @@ pub fn write(w: usize, h: usize, par: usize, tiles: &[u8], out: &mut [u8]) -> Wr
     if out.len() < STRIP_MOST {
         return Written::Refused(4);
     }
-    let code = record::write::check(w, h, par, tiles);
+    let code = lending::check(w, h, par, tiles);
     if code != 0 {
         return Written::Refused(code);
     }

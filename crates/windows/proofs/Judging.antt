@@ -11,12 +11,13 @@ use Rattle.rules.specs.Refusal.{First, asked}
 use Rattle.rules.proofs.Tests.{said, denied}
 use Rattle.level.specs.Strip.{columns}
 use Rattle.level.specs.Reading.{Shaped, judging}
-use Rattle.record.specs.declared.read.Head.{Head}
-use Rattle.record.specs.declared.read.Judged.{Judged}
-use Rattle.record.specs.Sum.{SumCode}
-use Rattle.record.specs.Reading.{Heads, without, JudgedAs}
-use Rattle.record.proofs.Reading.{blank-is, misfits}
-use Rattle.record.proofs.Judging.{Opens, judged-none, judged-7, judged-8, judged-0, area-is, headed, head-of-level, judged-by-tiles}
+use Rattle.fields.specs.declared.head.Head.{Head}
+use Rattle.fields.specs.declared.judged.Judged.{Judged}
+use Rattle.fields.specs.Sum.{SumCode}
+use Rattle.fields.specs.Head.{Heads}
+use Rattle.fields.specs.Judged.{without, JudgedAs}
+use Rattle.fields.proofs.Reading.{blank-is, misfits}
+use Rattle.fields.proofs.Judging.{Opens, judged-none, judged-7, judged-8, judged-0, area-is, headed, head-of-level, judged-by-tiles}
 use Rattle.windows.specs.declared.Weighed.{Weighed}
 use Rattle.windows.specs.Windows.{WeighedAs}
 

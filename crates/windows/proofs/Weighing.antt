@@ -16,8 +16,8 @@ use Rattle.level.proofs.Windows.{field-part}
 use Rattle.lanes.specs.Patched.{patched}
 use Rattle.lanes.proofs.Patching.{length-patched}
 use Rattle.lanes.specs.Fixes.{Shown}
-use Rattle.record.specs.Reading.{Heads}
-use Rattle.record.specs.declared.read.Head.{Head}
+use Rattle.fields.specs.Head.{Heads}
+use Rattle.fields.specs.declared.head.Head.{Head}
 use Rattle.tiles.specs.Part.{tilesFrom}
 use Rattle.tiles.specs.Sum.{addsAt, Counted}
 use Rattle.tiles.proofs.Part.{partOf, length-part, part-same, tilesFrom-part, length-tilesFrom, getD-tilesFrom}

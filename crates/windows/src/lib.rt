@@ -8,11 +8,12 @@ ghost use Rattle.rules.specs.Refusal.{Within};
 ghost use Rattle.level.specs.Sizes.{tilesMost};
 ghost use Rattle.level.specs.Reading.{tilesIn};
 ghost use Rattle.lanes.specs.Patched.{patched};
-ghost use Rattle.record.specs.Reading.{Heads, JudgedAs, AcceptedAs};
+ghost use Rattle.fields.specs.Head.{Heads};
+ghost use Rattle.fields.specs.Judged.{JudgedAs, AcceptedAs};
 ghost use Rattle.windows.specs.Windows.{Lent, WeighedAs};
+use fields::head::Head;
+use fields::judged::Judged;
 use lanes::fixes::FIXES;
-use record::read::Head;
-use record::read::Judged;
 
 // The bytes in front of the tiles.
 const HEAD: usize = 3;
@@ -33,7 +34,7 @@ fn head(
     ensures { λ r. ⌜ Heads (take to (patched (now (cells .entry)) (now (bytes .entry)) count (now (strip .entry)))) r ⌝ }
 {
     lanes::window::show(strip, cells, bytes, count, 0, HEAD, scratch);
-    record::read::head_of(scratch)
+    fields::head::head_of(scratch)
 }
 
 // a - b, and 0 where b is more.
@@ -69,7 +70,7 @@ fn weigh(
     let mut from = HEAD;
     while from < to {
         let n = lanes::window::show(strip, cells, bytes, count, from, to, scratch);
-        if !record::read::blank(&scratch[0..n], less(bits, 8 * from)) {
+        if !fields::shape::blank(&scratch[0..n], less(bits, 8 * from)) {
             return Weighed {
                 blank: false,
                 sum: 0,
@@ -95,21 +96,21 @@ fn judge(
     ensures { λ r. ⌜ JudgedAs lanes (take to (patched (now (cells .entry)) (now (bytes .entry)) count (now (strip .entry)))) r ⌝ }
 {
     let f = head(strip, cells, bytes, count, to, scratch);
-    if !record::read::head_ranged(f.version, f.width, f.height) {
-        return record::read::refused(7);
+    if !fields::head::head_ranged(f.version, f.width, f.height) {
+        return fields::judged::refused(7);
     }
     let m = f.width * f.height;
-    if !record::read::fits(to, lanes, m) {
-        return record::read::refused(8);
+    if !fields::shape::fits(to, lanes, m) {
+        return fields::judged::refused(8);
     }
     let w = weigh(strip, cells, bytes, count, to, 24 + 3 * m, scratch);
     let blank = w.blank;
     if !blank {
-        return record::read::refused(8);
+        return fields::judged::refused(8);
     }
-    let code = record::tile::sum_code(w.sum);
+    let code = fields::tile::sum_code(w.sum);
     if code != 0 {
-        return record::read::refused(code);
+        return fields::judged::refused(code);
     }
     Judged {
         code: 0,

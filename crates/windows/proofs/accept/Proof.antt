@@ -4,7 +4,7 @@ use Prim.Native.Nat.{ℕ, _*_}
 use native.Mathlib.Omega.{arith}
 use lib.ListN.{drop}
 use Rattle.tiles.proofs.Part.{length-part, tilesFrom-part}
-use Rattle.record.proofs.Reader.{rejected, room-for, accepted}
+use Rattle.fields.proofs.Accepting.{rejected, room-for, accepted}
 use Rattle.windows.proofs.Weighing.{recordIn, length-record}
 use borrow.Author.Needs.{needs}
 use Rattle.windows.proofs.accept.Statement.{statement}

@@ -1,5 +1,5 @@
 use native.Mathlib.Omega.{arith}
-use Rattle.record.proofs.Judging.{area-few}
+use Rattle.fields.proofs.Judging.{area-few}
 use Rattle.windows.proofs.Weighing.{recordIn, length-record}
 use Rattle.windows.proofs.Judging.{not-ranged, not-fitting, not-blank-after, tiles-refused, tiles-good}
 use borrow.Author.Needs.{needs}

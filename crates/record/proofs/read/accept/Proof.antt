@@ -1,7 +1,7 @@
 use mathlib.Core.Path.{_≡_}
 use native.Mathlib.Omega.{arith}
 use borrow.Author.Needs.{needs}
-use Rattle.record.proofs.Reader.{rejected, room-for, accepted}
+use Rattle.fields.proofs.Accepting.{rejected, room-for, accepted}
 use Rattle.record.proofs.read.accept.Statement.{statement}
 use Rattle.record.proofs.read.accept.Tie as tie
 

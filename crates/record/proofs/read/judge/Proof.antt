@@ -4,7 +4,7 @@ use borrow.Author.Needs.{needs}
 use Rattle.rules.proofs.Tests.{said, denied}
 use Rattle.level.specs.Reading.{Shaped}
 use Rattle.tiles.proofs.Counting.{counted-summed}
-use Rattle.record.proofs.Judging.{Opens, judged-none, judged-7, judged-8, judged-0, area-is, area-few, headed, head-of-level, judged-by-tiles}
+use Rattle.fields.proofs.Judging.{Opens, judged-none, judged-7, judged-8, judged-0, area-is, area-few, headed, head-of-level, judged-by-tiles}
 use Rattle.record.proofs.read.judge.Statement.{statement}
 use Rattle.record.proofs.read.judge.Tie as tie
 

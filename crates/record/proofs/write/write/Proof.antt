@@ -1,5 +1,6 @@
-use Rattle.record.proofs.Answers.{lent-level, refused-4, refused-later, wrote}
-use Rattle.record.proofs.Tiles.{record-short}
+use Rattle.lending.proofs.Lent.{lent-level}
+use Rattle.record.proofs.Answers.{refused-4, refused-later, wrote}
+use Rattle.fields.proofs.Tiles.{record-short}
 use Rattle.level.specs.Writing.{lent}
 use native.Mathlib.Omega.{arith}
 use borrow.Author.Needs.{needs}

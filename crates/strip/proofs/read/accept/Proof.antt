@@ -2,7 +2,7 @@ use mathlib.Core.Path.{sym, subst}
 use mathlib.Core.List.{List}
 use Prim.Native.Nat.{ℕ}
 use native.Mathlib.Omega.{arith}
-use Rattle.record.specs.Reading.{AcceptedAs}
+use Rattle.fields.specs.Judged.{AcceptedAs}
 use Rattle.strip.proofs.Reader.{data-mended, data-clean}
 use borrow.Author.Needs.{needs}
 use Rattle.strip.proofs.read.accept.Statement.{statement}

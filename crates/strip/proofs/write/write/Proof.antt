@@ -3,7 +3,7 @@ use mathlib.Core.Path.{refl}
 use mathlib.Core.Logic.{inl, inr}
 use Rattle.strip.proofs.Laid.{wrote-none, wrote-strip}
 use Rattle.level.specs.Writing.{lent}
-use Rattle.record.proofs.Answers.{lent-level}
+use Rattle.lending.proofs.Lent.{lent-level}
 use borrow.Author.Needs.{needs}
 use Rattle.strip.proofs.write.write.Statement.{statement}
 use Rattle.strip.proofs.write.write.Tie as tie

@@ -1,0 +1,73 @@
+-- Tiles, and what they add.
+use mathlib.Core.Path.{_≡_, refl}
+use mathlib.Core.Logic.{_⊎_, inl, inr}
+use mathlib.Core.List.{List, [], _∷_}
+use Prim.Native.Nat.{ℕ, zero, suc, _+_, _*_, _/_, _%_, _≤_, _<_}
+use native.Mathlib.Nat.{mul-le-mul}
+use native.Mathlib.Omega.{arith}
+use lib.ListN.{length}
+use Rattle.rules.proofs.Numbers.{lt-or-ge}
+use Rattle.level.specs.Tile.{totals}
+use Rattle.level.specs.Level.{Sized, AllTiles}
+use Rattle.level.specs.Record.{recordLength}
+use Rattle.tiles.specs.Sum.{packed, weight}
+use Rattle.tiles.proofs.Rows.{adds-small, adds-none, weighed-in, weighed-out}
+
+-- what the sum is made of
+record Counts (ts : List ℕ) : Type 0 where
+  above : ℕ
+  sum : weight ts ≡ packed (totals ts) + 281474976710656 * above
+  right : above ≡ 0 → AllTiles 1 ts
+  wrong : AllTiles 1 ts → above ≡ 0
+  few : (totals ts .player ≤ length ts) × (totals ts .crate' ≤ length ts) × (totals ts .goal ≤ length ts)
+
+more : (t : ℕ) (ts : List ℕ) → Counts ts → (t < 7) ⊎ (7 ≤ t) → Counts (t ∷ ts)
+unfolding weight totals
+more t ts r (inl h) = record {
+  above = r .above;
+  sum = omega (arith, weighed-in t h, r .sum);
+  right = λ z. all (r .right z);
+  wrong = λ f. r .wrong (λ i l. f (suc i) (omega arith));
+  few = (omega (arith, adds-small t, r .few), omega (arith, adds-small t, r .few), omega (arith, adds-small t, r .few));
+}
+  where
+    all : AllTiles 1 ts → AllTiles 1 (t ∷ ts)
+    all f zero l = omega arith
+    all f (suc i) l = f i (omega arith)
+more t ts r (inr h) = record {
+  above = suc (r .above);
+  sum = omega (arith, weighed-out t h, adds-none t h, r .sum);
+  right = λ z. absurd (omega arith);
+  wrong = λ f. absurd (omega (arith, f 0 (omega arith)));
+  few = (omega (arith, adds-small t, r .few), omega (arith, adds-small t, r .few), omega (arith, adds-small t, r .few));
+}
+
+counts : (ts : List ℕ) → Counts ts
+unfolding weight totals
+counts [] = record { above = 0; sum = refl; right = λ z i l. absurd (omega arith); wrong = λ f. refl; few = (omega arith, omega arith, omega arith) }
+counts (t ∷ ts) = more t ts (counts ts) (lt-or-ge t 7)
+
+module _ (ts : List ℕ) (x : ℕ) (short : length ts ≤ 961) (e : x ≡ weight ts) where
+  top : x / 281474976710656 ≡ counts ts .above
+  top = omega (arith, e, counts ts .sum, counts ts .few)
+
+  pub all-tiles : x / 281474976710656 ≡ 0 → AllTiles 1 ts
+  all-tiles z = counts ts .right (omega (arith, top, z))
+
+  pub not-all : (x / 281474976710656 ≡ 0 → ⊥) → AllTiles 1 ts → ⊥
+  not-all n f = n (omega (arith, top, counts ts .wrong f))
+
+  pub sums : x / 281474976710656 ≡ 0 → (x % 4096 ≡ totals ts .player) × (x / 4096 % 4096 ≡ totals ts .crate') × (x / 16777216 % 4096 ≡ totals ts .goal)
+  sums z = (
+    omega (arith, e, counts ts .sum, counts ts .few, top, z),
+    omega (arith, e, counts ts .sum, counts ts .few, top, z),
+    omega (arith, e, counts ts .sum, counts ts .few, top, z),
+  )
+
+-- a board has at most 961 tiles
+pub area-small : (w h : ℕ) → w ≤ 31 → h ≤ 31 → w * h ≤ 961
+area-small w h a b = mul-le-mul a b
+
+-- and its record at most 364 bytes
+pub record-short : (w h : ℕ) → Sized w h → recordLength w h ≤ 364
+record-short w h s = omega (arith, area-small w h (s .not-wider) (s .not-higher))

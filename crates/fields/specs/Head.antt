@@ -1,0 +1,19 @@
+-- Parts: the fields in front of the tiles.
+use mathlib.Core.Path.{_≡_}
+use mathlib.Core.List.{List}
+use Prim.Native.Nat.{ℕ, _≤_}
+use Rattle.level.specs.Record.{fieldAt}
+use Rattle.fields.specs.declared.head.Head.{Head}
+
+-- the fields in front of the tiles
+pub record Heads (bs : List ℕ) (r : Head) : Type 0 where
+  pub version : r .version ≡ fieldAt bs 0 4
+  pub width : r .width ≡ fieldAt bs 4 5
+  pub height : r .height ≡ fieldAt bs 9 5
+  pub par : r .par ≡ fieldAt bs 14 10
+
+-- of a version and a size that a level has
+pub record HeadRanged (version width height : ℕ) : Type 0 where
+  pub known : version ≡ 1
+  pub wide : 1 ≤ width
+  pub high : 1 ≤ height

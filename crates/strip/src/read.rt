@@ -6,15 +6,15 @@ ghost use Rattle.rules.specs.Refusal.{Within};
 ghost use Rattle.rules.specs.Says.{Says};
 ghost use Rattle.level.specs.Strip.{Legal, wearOf};
 ghost use Rattle.level.specs.Reading.{dataOf};
-ghost use Rattle.lanes.specs.Patched.{patched};
+ghost use Rattle.patches.specs.Patched.{patched};
 ghost use Rattle.record.specs.Reading.{AcceptedAs};
 ghost use Rattle.strip.specs.Reading.{stripNumbers, StripEntersAs, FinishesAs, StripReadsAs};
 ghost use Rattle.level.specs.Sizes.{tilesMost, scratchLeast, stripLeast, stripMost};
-use lanes::fixes::FIXES;
 use level::SCRATCH_LEAST;
 use level::STRIP_LEAST;
 use level::STRIP_MOST;
 use level::TILES_MOST;
+use patches::FIXES;
 use record::read::Judged;
 
 // The lanes of a strip, and the cells that check them.

@@ -1,8 +1,7 @@
-pub mod Patching
+pub mod Setting
 pub mod Marks
 pub mod Repairs
 pub mod Sofar
 pub mod Adding
 pub mod Noting
-pub mod Windows
 pub mod Untouched

@@ -21,9 +21,10 @@ use Rattle.marks.specs.Marks.{countedOf}
 use Rattle.marks.proofs.Counting.{lane-marked, lane-inside, erratum-below}
 use Rattle.code.specs.Lane.{wordOf}
 use Rattle.code.specs.declared.lane.Lane.{Lane}
-use Rattle.lanes.specs.Patched.{patched}
+use Rattle.patches.specs.Patched.{patched}
 use Rattle.lanes.specs.Fixes.{Noting, Noted}
-use Rattle.lanes.proofs.Patching.{patched-pushed, length-patched, lane-set, lane-set-other}
+use Rattle.patches.proofs.Patching.{patched-pushed, length-patched}
+use Rattle.lanes.proofs.Setting.{lane-set, lane-set-other}
 use Rattle.lanes.proofs.Adding.{alike, outside-before, applied-none, applied-last, counted-last}
 
 module _ (R l k : ℕ) (w : Lane) (e : Errata) (marks cells bytes : List ℕ) (N : Noting R l k w e marks cells bytes) where

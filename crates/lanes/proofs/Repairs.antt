@@ -25,7 +25,7 @@ use Rattle.code.specs.Lane.{wordOf}
 use Rattle.code.specs.declared.lane.Lane.{Lane}
 use Rattle.dealt.specs.Lanes.{LaneRemains, SearchedBy}
 use Rattle.dealt.proofs.Searching.{lane-searched}
-use Rattle.lanes.specs.Patched.{patched}
+use Rattle.patches.specs.Patched.{patched}
 use Rattle.lanes.specs.Fixes.{Room, Noting, Noted}
 use Rattle.lanes.specs.Lanes.{Entered, OneGood, OneAs}
 use Rattle.lanes.proofs.Adding.{alike}

@@ -16,8 +16,8 @@ use Rattle.account.proofs.Lanes.{length-lane, cell, columns-of}
 use Rattle.gf256.specs.Gf256.{gf256}
 use Rattle.level.specs.Strip.{wrongIn, mendedOf, Mendable}
 use Rattle.level.proofs.Counts.{sum-cong}
-use Rattle.lanes.specs.Patched.{patched}
-use Rattle.lanes.proofs.Patching.{patched-0, length-patched}
+use Rattle.patches.specs.Patched.{patched}
+use Rattle.patches.proofs.Patching.{patched-0, length-patched}
 use Rattle.lanes.specs.declared.One.{One}
 use Rattle.lanes.specs.Fixes.{Room}
 use Rattle.lanes.specs.Lanes.{Entered, LaneMended, OneGood, OneAs, MendedAs}

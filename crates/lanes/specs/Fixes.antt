@@ -1,8 +1,8 @@
--- Parts: cells of a strip that are to be put right, noted lane by lane and put in where a window has them.
+-- Parts: cells of a strip that are to be put right, noted lane by lane.
 use mathlib.Core.Path.{_≡_}
 use mathlib.Core.List.{List}
 use Prim.Native.Nat.{ℕ, _+_, _/_, _≤_, _<_}
-use lib.ListN.{length, getD, take}
+use lib.ListN.{length, take}
 use Rattle.account.specs.Lanes.{lane}
 use Rattle.account.specs.Errata.{Applied}
 use Rattle.gf256.specs.Gf256.{gf256}
@@ -11,9 +11,7 @@ use Rattle.errata.specs.Errata.{ErrataFor}
 use Rattle.marks.specs.Marks.{countedOf}
 use Rattle.code.specs.Lane.{laneMost, wordOf}
 use Rattle.code.specs.declared.lane.Lane.{Lane}
-use Rattle.lanes.specs.Patched.{patched}
-
--- ---- noting
+use Rattle.patches.specs.Patched.{patched}
 
 -- k cells are noted, and there is room for those of a lane more
 pub record Room (k : ℕ) (cells bytes : List ℕ) : Type 0 where
@@ -40,32 +38,3 @@ pub record Noted (R l k : ℕ) (w : Lane) (e : Errata) (marks cells bytes : List
   pub others : (s : List ℕ) → length s / R ≡ w .len → (j : ℕ) → j < R → (j ≡ l → ⊥)
       → lane R j (patched cells' bytes' (k + i) s) ≡ lane R j (patched cells bytes k s)
   pub count : mended ≡ countedOf (lane R l marks) (take i (e .cells)) (take i (e .values))
-
--- ---- windows
-
--- cell p is the r-th after cell a, if the window from cell a on has it; and only then is r below 96
-pub record Behind (a p r : ℕ) : Type 0 where
-  pub is : r < 96 → a + r ≡ p
-  pub only : (q : ℕ) → q < 96 → a + q ≡ p → r ≡ q
-
--- cell p of the strip is b, if the window w from cell a on has it; all else is as it was
-pub record PatchedAt (a p b : ℕ) (w w' : List ℕ) : Type 0 where
-  pub long : length w' ≡ length w
-  pub here : (q : ℕ) → q < 96 → a + q ≡ p → getD w' q 0 ≡ b
-  pub other : (q : ℕ) → q < 96 → (a + q ≡ p → ⊥) → getD w' q 0 ≡ getD w q 0
-
--- n cells of a strip s are in front of w, from cell a on
-abbrev pub Shows : List ℕ → ℕ → ℕ → List ℕ → Type 0
-Shows s a n w = (q : ℕ) → q < n → getD w q 0 ≡ getD s (a + q) 0
-
--- a window on a strip, with what is to be put right, is one on the strip put right
-pub record WindowPatched (cells bytes : List ℕ) (count a : ℕ) (w w' : List ℕ) : Type 0 where
-  pub long : length w' ≡ length w
-  pub shows : (s : List ℕ) (n : ℕ) → n ≤ 96 → a + n ≤ length s → Shows s a n w → Shows (patched cells bytes count s) a n w'
-
--- the n cells of the strip put right from cell a on, up to cell b, or 96 of them
-pub record Shown (s cells bytes : List ℕ) (count a b : ℕ) (w : List ℕ) (n : ℕ) : Type 0 where
-  pub most : n ≤ 96
-  pub before : a + n ≤ b
-  pub full : a + n < b → n ≡ 96
-  pub shows : Shows (patched cells bytes count s) a n w

@@ -12,7 +12,7 @@ use Rattle.rules.specs.Refusal.{Within}
 use Rattle.gf256.specs.Gf256.{gf256}
 use Rattle.level.specs.Sizes.{recordMost}
 use Rattle.level.specs.Strip.{columns, Legal, wrongIn, mendedOf, Mends, Mendable, Lowest}
-use Rattle.lanes.specs.Patched.{patched}
+use Rattle.patches.specs.Patched.{patched}
 use Rattle.dealt.specs.Lanes.{LaneRemains}
 use Rattle.lanes.specs.declared.Mending.{Mending}
 use Rattle.lanes.specs.declared.One.{One}

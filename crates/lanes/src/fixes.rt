@@ -1,9 +1,7 @@
 // What is to be put right in a strip: cells, and beside each the byte that belongs there. There is room for the errata of sixteen lanes.
 ghost use Rattle.lanes.specs.Fixes.{Noting, Noted};
 use code::lane::Lane;
-
-// How many cells can be noted: five in each of sixteen lanes.
-pub const FIXES: usize = 80;
+use patches::FIXES;
 
 // The errata e of lane l, of which w are the cells, noted after the first k; how many unmarked cells they change.
 pub(crate) fn note(

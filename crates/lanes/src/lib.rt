@@ -9,11 +9,10 @@ ghost use Rattle.dealt.specs.Lanes.{Remaindered};
 ghost use Rattle.lanes.specs.Fixes.{Room};
 ghost use Rattle.lanes.specs.Lanes.{NoneSet, Entered, Ready, OneAs, MendedAs};
 use dealt::LANES;
-use fixes::FIXES;
 use marks::Listed;
+use patches::FIXES;
 
 pub mod fixes; // what is to be put right in a strip
-pub mod window; // parts of the mended strip
 
 // Whether a lane is mended, how many unmarked cells were wrong, and how many cells are noted then.
 pub struct One {

@@ -11,11 +11,11 @@ use Rattle.rules.specs.Refusal.{First, Hold, asked}
 use Rattle.rules.proofs.Laws.{before, after, stops, numbered, none-first}
 use Rattle.level.specs.Level.{Level}
 use Rattle.level.specs.Strip.{columns, Reached, Mends, Lowest, mendedOf, wearOf}
-use Rattle.level.specs.Reading.{ReadNumbers, refusedAt, returned, entering, mending, judging, dataOf, levelOf}
+use Rattle.level.specs.Reading.{refusedAt, returned, entering, mending, judging, dataOf, levelOf}
 use Rattle.level.proofs.Strips.{mendable, reached-mends}
 use Rattle.level.proofs.Mended.{level-reached, passing, found, none-reached}
-use Rattle.lanes.specs.Patched.{patched}
-use Rattle.lanes.proofs.Patching.{patched-0, length-patched}
+use Rattle.patches.specs.Patched.{patched}
+use Rattle.patches.proofs.Patching.{patched-0, length-patched}
 use Rattle.fields.specs.declared.judged.Judged.{Judged}
 use Rattle.fields.specs.Judged.{AcceptedAs}
 use Rattle.fields.proofs.Accepting.{passed, level-is, tiles-past}

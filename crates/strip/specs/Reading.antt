@@ -4,9 +4,8 @@ use mathlib.Core.List.{List, _++_}
 use Prim.Native.Nat.{ℕ, _*_}
 use lib.ListN.{length, drop}
 use Rattle.account.specs.Field.{Ops}
-use Rattle.account.specs.Reach.{countTo, isMarked}
 use Rattle.gf256.specs.Gf256.{gf256}
-use Rattle.rules.specs.Refusal.{Rule, First, Hold, asked}
+use Rattle.rules.specs.Refusal.{First, Hold, asked}
 use Rattle.level.specs.Level.{Level}
 use Rattle.level.specs.Record.{fieldAt}
 use Rattle.level.specs.Strip.{Reached, Lowest, mendedOf, wearOf}
@@ -15,7 +14,6 @@ use Rattle.strip.specs.declared.read.Reading.{Reading}
 use Rattle.strip.specs.declared.read.Reading.the-variants as reading
 use Rattle.fields.specs.Judged.{AcceptedAs}
 use Rattle.fields.specs.declared.judged.Judged.{Judged}
-use Rattle.strip.specs.declared.read.Entered.{Entered}
 
 -- the numbers of an answer
 abbrev pub stripNumbers : Reading → ReadNumbers
@@ -45,11 +43,6 @@ pub record StripReadsAs (R : ℕ) (s marks tiles tiles' scratch scratch' : List 
   pub scratch-kept : (Hold (entering R s marks (length tiles) (length scratch)) → ⊥) → scratch' ≡ scratch
 
 -- ---- parts
-
--- what is asked before the picture is looked at, and whether any cell is marked
-pub record StripEntersAs (R : ℕ) (s marks : List ℕ) (room scratch : ℕ) (e : Entered) : Type 0 where
-  pub first : First (entering R s marks room scratch) (e .code)
-  pub none : e .code ≡ 0 → e .marked ≡ 0 → countTo (isMarked marks) (length marks) ≡ 0
 
 -- the record bs of a strip of N cells, judged and unpacked
 pub record FinishedAs (R : ℕ) (bs : List ℕ) (N e : ℕ) (tiles tiles' : List ℕ) (n : ReadNumbers) : Type 0 where

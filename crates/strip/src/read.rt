@@ -1,21 +1,16 @@
-// Reading a strip: refusals 1 to 5, what is to be put right in its lanes, and the record in the mended strip judged and unpacked.
+// Reading a strip: what is to be put right in its lanes, and the record in the mended strip judged and unpacked.
 ghost use mathlib.Core.Path.{_≡_};
 ghost use Prim.Native.Nat.{_≤_};
 ghost use lib.ListN.{length};
 ghost use Rattle.rules.specs.Refusal.{Within};
-ghost use Rattle.rules.specs.Says.{Says};
 ghost use Rattle.level.specs.Strip.{Legal, wearOf};
 ghost use Rattle.level.specs.Reading.{dataOf};
-ghost use Rattle.lanes.specs.Patched.{patched};
+ghost use Rattle.patches.specs.Patched.{patched};
 ghost use Rattle.fields.specs.Judged.{AcceptedAs};
-ghost use Rattle.strip.specs.Reading.{stripNumbers, StripEntersAs, FinishesAs, StripReadsAs};
+ghost use Rattle.strip.specs.Reading.{stripNumbers, FinishesAs, StripReadsAs};
 ghost use Rattle.level.specs.Sizes.{tilesMost, scratchLeast, stripLeast, stripMost};
 use fields::judged::Judged;
-use lanes::fixes::FIXES;
-use level::SCRATCH_LEAST;
-use level::STRIP_LEAST;
-use level::STRIP_MOST;
-use level::TILES_MOST;
+use patches::FIXES;
 
 // The lanes of a strip, and the cells that check them.
 const LANES: usize = 4;
@@ -35,53 +30,6 @@ pub enum Reading {
         code: u8,
         lane: usize,
     },
-}
-
-// A strip's length is legal.
-fn legal(n: usize) -> bool
-    ensures { λ r. ⌜ Says r (Legal 4 n) ⌝ }
-{
-    if n < STRIP_LEAST {
-        return false;
-    }
-    if STRIP_MOST < n {
-        return false;
-    }
-    if n % 4 != 0 {
-        return false;
-    }
-    true
-}
-
-// Refusals 1 to 5, and all marks or-ed: 0 where no cell is marked.
-pub struct Entered {
-    pub code: u8,
-    pub marked: usize,
-}
-
-fn enter(strip: &[u8], marks: &[u8], tiles: usize, scratch: usize) -> Entered
-    ensures { λ r. ⌜ StripEntersAs 4 (now (strip .entry)) (now (marks .entry)) tiles scratch r ⌝ }
-{
-    if !legal(strip.len()) {
-        return Entered { code: 1, marked: 0 };
-    }
-    if marks.len() != strip.len() {
-        return Entered { code: 2, marked: 0 };
-    }
-    let any = marks::any(marks);
-    if 1 < any {
-        return Entered { code: 3, marked: 0 };
-    }
-    if tiles < TILES_MOST {
-        return Entered { code: 4, marked: 0 };
-    }
-    if scratch < SCRATCH_LEAST {
-        return Entered { code: 5, marked: 0 };
-    }
-    Entered {
-        code: 0,
-        marked: any as usize,
-    }
 }
 
 // Percent of the cells that were mended, rounded down.
@@ -133,7 +81,7 @@ fn finish(j: Judged, n: usize, mended: usize) -> Reading
 pub fn read(strip: &[u8], marks: &[u8], tiles: &mut [u8], scratch: &mut [u8]) -> Reading
     ensures { λ r. ⌜ StripReadsAs 4 (now (strip .entry)) (now (marks .entry)) (now (tiles .entry)) (now (tiles .exit)) (now (scratch .entry)) (now (scratch .exit)) r ⌝ }
 {
-    let entered = enter(strip, marks, tiles.len(), scratch.len());
+    let entered = entry::enter(strip, marks, tiles.len(), scratch.len());
     let code = entered.code;
     if code != 0 {
         return Reading::Refused { code, lane: 0 };

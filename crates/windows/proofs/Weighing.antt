@@ -3,28 +3,23 @@ use mathlib.Core.Path.{_≡_, refl, sym, ap, _∙_, subst}
 use mathlib.Core.Bool.{Bool, true, false, not}
 use lib.Dec.{T}
 use mathlib.Core.Logic.{⊎-elim}
-use mathlib.Core.List.{List, _++_}
+use mathlib.Core.List.{List}
 use Prim.Native.Nat.{ℕ, _+_, _*_, _-_, _/_, _≤_, _<_}
 use native.Mathlib.Omega.{arith}
-use lib.ListN.{length, getD, take, drop, length-append, length-drop, List·getD-append}
-use lib.Seq.{getD-take, getD-drop, getD-append-add, length-take-le}
+use lib.ListN.{length, take}
+use lib.Seq.{getD-take, length-take-le}
 use Rattle.rules.proofs.Numbers.{lt-or-ge}
 use Rattle.account.specs.Lists.{sumOf}
 use Rattle.level.specs.Record.{bitAt, fieldAt}
-use Rattle.level.specs.Reading.{tilesIn}
-use Rattle.level.proofs.Windows.{field-part}
-use Rattle.lanes.specs.Patched.{patched}
-use Rattle.lanes.proofs.Patching.{length-patched}
-use Rattle.lanes.specs.Fixes.{Shown}
+use Rattle.patches.specs.Patched.{patched}
+use Rattle.patches.proofs.Patching.{length-patched}
+use Rattle.patches.specs.Window.{Shown}
 use Rattle.fields.specs.Head.{Heads}
 use Rattle.fields.specs.declared.head.Head.{Head}
-use Rattle.tiles.specs.Part.{tilesFrom}
 use Rattle.tiles.specs.Sum.{addsAt, Counted}
-use Rattle.tiles.proofs.Part.{partOf, length-part, part-same, tilesFrom-part, length-tilesFrom, getD-tilesFrom}
+use Rattle.tiles.proofs.Part.{partOf, length-part}
 use Rattle.tiles.proofs.Counting.{part-summed}
-use Rattle.tiles.proofs.Putting.{tiles-put}
-use Rattle.windows.specs.declared.Weighed.{Weighed}
-use Rattle.windows.specs.Windows.{Lent, WeighedAs}
+use Rattle.windows.specs.Windows.{WeighedAs}
 use Rattle.windows.proofs.Pieces.{Sees, field-seen, blank-more, blank-seen, full-sum, last-sum}
 
 -- no bit of w is set from bit d on

@@ -7,13 +7,13 @@ ghost use lib.ListN.{length, take, drop};
 ghost use Rattle.rules.specs.Refusal.{Within};
 ghost use Rattle.level.specs.Sizes.{tilesMost};
 ghost use Rattle.level.specs.Reading.{tilesIn};
-ghost use Rattle.lanes.specs.Patched.{patched};
+ghost use Rattle.patches.specs.Patched.{patched};
 ghost use Rattle.fields.specs.Head.{Heads};
 ghost use Rattle.fields.specs.Judged.{JudgedAs, AcceptedAs};
 ghost use Rattle.windows.specs.Windows.{Lent, WeighedAs};
 use fields::head::Head;
 use fields::judged::Judged;
-use lanes::fixes::FIXES;
+use patches::FIXES;
 
 // The bytes in front of the tiles.
 const HEAD: usize = 3;
@@ -33,7 +33,7 @@ fn head(
     requires { ⌜ Lent (now strip) count to (length (now scratch)) ⌝ }
     ensures { λ r. ⌜ Heads (take to (patched (now (cells .entry)) (now (bytes .entry)) count (now (strip .entry)))) r ⌝ }
 {
-    lanes::window::show(strip, cells, bytes, count, 0, HEAD, scratch);
+    patches::show(strip, cells, bytes, count, 0, HEAD, scratch);
     fields::head::head_of(scratch)
 }
 
@@ -69,7 +69,7 @@ fn weigh(
     let mut sum: u64 = 0;
     let mut from = HEAD;
     while from < to {
-        let n = lanes::window::show(strip, cells, bytes, count, from, to, scratch);
+        let n = patches::show(strip, cells, bytes, count, from, to, scratch);
         if !fields::shape::blank(&scratch[0..n], less(bits, 8 * from)) {
             return Weighed {
                 blank: false,
@@ -148,7 +148,7 @@ fn unpack(
     let mut from = HEAD;
     let mut t: usize = 0;
     while t < m {
-        let n = lanes::window::show(strip, cells, bytes, count, from, to, scratch);
+        let n = patches::show(strip, cells, bytes, count, from, to, scratch);
         let k = least(TILES, m - t);
         tiles::put::unpack(&scratch[0..n], k, &mut tiles[t..]);
         from += n;

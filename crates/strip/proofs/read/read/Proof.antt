@@ -2,7 +2,7 @@ use lib.ListN.{length}
 use Prim.Native.Nat.{_≤_}
 use mathlib.Core.Path.{refl}
 use native.Mathlib.Omega.{arith}
-use Rattle.lanes.specs.Patched.{patched}
+use Rattle.patches.specs.Patched.{patched}
 use Rattle.strip.proofs.Entering.{entered, ready}
 use Rattle.strip.proofs.Reader.{early-as, lane-as, finished-as}
 use borrow.Author.Needs.{needs}

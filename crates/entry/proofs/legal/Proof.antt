@@ -1,8 +1,8 @@
 use native.Mathlib.Omega.{arith}
-use Rattle.strip.proofs.Entering.{is-legal}
+use Rattle.entry.proofs.Entering.{is-legal}
 use borrow.Author.Needs.{needs}
-use Rattle.strip.proofs.read.legal.Statement.{statement}
-use Rattle.strip.proofs.read.legal.Tie as tie
+use Rattle.entry.proofs.legal.Statement.{statement}
+use Rattle.entry.proofs.legal.Tie as tie
 
 returns : tie.Need-returns
 returns c = search needs

@@ -1,10 +1,13 @@
-// A window on the mended strip: some of its cells, copied from the strip and put right. The mended strip itself is never made.
+// What is to be put right in a strip, and a window on the strip put right: some of its cells, copied from the strip, with what belongs
+// there. The mended strip itself is never made.
 ghost use mathlib.Core.Path.{_≡_};
 ghost use mathlib.Core.Bool.{true, false};
 ghost use Prim.Native.Nat.{_+_, _≤_, _<_, _^_};
 ghost use lib.ListN.{length};
-ghost use Rattle.lanes.specs.Fixes.{Behind, PatchedAt, WindowPatched, Shown};
-use super::fixes::FIXES;
+ghost use Rattle.patches.specs.Window.{Behind, PatchedAt, WindowPatched, Shown};
+
+// How many cells can be noted: five in each of sixteen lanes.
+pub const FIXES: usize = 80;
 
 // How many cells a window has at most.
 pub const WINDOW: usize = 96;

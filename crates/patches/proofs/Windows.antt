@@ -11,9 +11,9 @@ use lib.Dec.{ltb}
 use lib.ListN.{length, getD, take, drop, set, length-set, length-drop, List·getD-append}
 use lib.Seq.{getD-set-same, getD-set-other, set-getD, getD-take, getD-drop, length-take-le}
 use Rattle.rules.proofs.Numbers.{lt-or-ge}
-use Rattle.lanes.specs.Patched.{patched}
-use Rattle.lanes.proofs.Patching.{patched-0, patched-more, length-patched}
-use Rattle.lanes.specs.Fixes.{Behind, PatchedAt, Shows, WindowPatched, Shown}
+use Rattle.patches.specs.Patched.{patched}
+use Rattle.patches.proofs.Patching.{patched-0, patched-more, length-patched}
+use Rattle.patches.specs.Window.{Behind, PatchedAt, Shows, WindowPatched, Shown}
 
 -- ---- one cell
 

@@ -4,10 +4,10 @@ use native.Mathlib.Omega.{arith}
 use borrow.Author.Tests.{not-true, not-false}
 use Rattle.level.specs.Strip.{Legal}
 use Rattle.rules.proofs.Tests.{said, denied}
-use Rattle.strip.proofs.Entering.{enters-not, enters}
+use Rattle.entry.proofs.Entering.{enters-not, enters}
 use borrow.Author.Needs.{needs}
-use Rattle.strip.proofs.read.enter.Statement.{statement}
-use Rattle.strip.proofs.read.enter.Tie as tie
+use Rattle.entry.proofs.enter.Statement.{statement}
+use Rattle.entry.proofs.enter.Tie as tie
 
 legal-requires : tie.Need-legal-requires
 legal-requires c κs = search needs

@@ -1,11 +1,11 @@
 use mathlib.Core.Path.{_≡_, subst}
 use Prim.Native.Nat.{ℕ, _-_, _≤_}
 use native.Mathlib.Omega.{arith}
-use Rattle.lanes.specs.Fixes.{WindowPatched}
-use Rattle.lanes.proofs.Windows.{window-0, window-more}
+use Rattle.patches.specs.Window.{WindowPatched}
+use Rattle.patches.proofs.Windows.{window-0, window-more}
 use borrow.Author.Needs.{needs}
-use Rattle.lanes.proofs.window.patch.Statement.{statement}
-use Rattle.lanes.proofs.window.patch.Tie as tie
+use Rattle.patches.proofs.patch.Statement.{statement}
+use Rattle.patches.proofs.patch.Tie as tie
 
 abbrev Inv-loop : tie.InvT-loop
 Inv-loop cells bytes count from window₀ i₀ window i = (i ≤ count) × WindowPatched cells bytes i from window₀ window

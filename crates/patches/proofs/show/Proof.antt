@@ -1,7 +1,7 @@
-use Rattle.lanes.proofs.Windows.{window-shown}
+use Rattle.patches.proofs.Windows.{window-shown}
 use borrow.Author.Needs.{needs}
-use Rattle.lanes.proofs.window.show.Statement.{statement}
-use Rattle.lanes.proofs.window.show.Tie as tie
+use Rattle.patches.proofs.show.Statement.{statement}
+use Rattle.patches.proofs.show.Tie as tie
 
 size-requires : tie.Need-size-requires
 size-requires c κs = search needs

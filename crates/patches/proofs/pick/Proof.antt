@@ -1,7 +1,7 @@
-use mathlib.Core.Path.{_≡_, refl, sym, _∙_, subst}
+use mathlib.Core.Path.{refl, sym, _∙_, subst}
 use lib.Dec.{T}
-use Rattle.lanes.proofs.window.pick.Statement.{statement}
-use Rattle.lanes.proofs.window.pick.Tie as tie
+use Rattle.patches.proofs.pick.Statement.{statement}
+use Rattle.patches.proofs.pick.Tie as tie
 
 returns : tie.Need-returns
 returns c = ((λ _. refl), (λ e. absurd (subst T (sym (c .if1 .taken) ∙ e) tt)))

@@ -1,7 +1,7 @@
-use Rattle.lanes.proofs.Windows.{patched-one}
+use Rattle.patches.proofs.Windows.{patched-one}
 use borrow.Author.Needs.{needs}
-use Rattle.lanes.proofs.window.patch_one.Statement.{statement}
-use Rattle.lanes.proofs.window.patch_one.Tie as tie
+use Rattle.patches.proofs.patch_one.Statement.{statement}
+use Rattle.patches.proofs.patch_one.Tie as tie
 
 distance-requires : tie.Need-distance-requires
 distance-requires c κs = search needs

@@ -1,0 +1,2 @@
+pub mod Patched
+pub mod Window

@@ -10,6 +10,7 @@ use lib.ListN.{length}
 use Rattle.account.specs.Field.{Ops, In, IsField, power}
 use Rattle.account.specs.Errata.{Outside, Below, place, filt}
 use Rattle.account.proofs.Laws as laws
+use Rattle.account.proofs.Laws.{ring}
 use Rattle.account.proofs.Powers as powers
 use Rattle.account.proofs.Sums as sums
 use Rattle.account.proofs.Sums.{moment}
@@ -57,7 +58,7 @@ module _ (O : Ops) (F : IsField O) where
     M = moment O X n
 
     at-cell : (a x y q : ℕ) → (a ⊗ (q ⊗ y)) ⊕ (x ⊗ (a ⊗ q)) ≡ (a ⊗ (y ⊕ x)) ⊗ q
-    at-cell a x y q = simp (F .mul-add, laws.add-mul O F, F .mul-assoc, F .mul-comm, laws.mul-left O F)
+    at-cell a x y q = simp ring
 
     pub filter-step : (x : ℕ) (v : ℕ → ℕ) (m : ℕ) → M v (suc m) ⊕ (x ⊗ M v m) ≡ M (λ i. v i ⊗ (X i ⊕ x)) m
     unfolding moment power

@@ -11,6 +11,7 @@ use Rattle.account.specs.Field.{Ops, In, IsField, power, sumTo}
 use Rattle.account.specs.Code.{alphaTo, Cells, Clean}
 use Rattle.account.specs.Generator.{zeros, plus, scale, times, factor, generator, Multiple}
 use Rattle.account.proofs.Laws as laws
+use Rattle.account.proofs.Laws.{ring}
 use Rattle.account.proofs.Powers as powers
 use Rattle.account.proofs.Sums as sums
 use Rattle.account.proofs.Words as words
@@ -80,7 +81,7 @@ module _ (O : Ops) (F : IsField O) where
   value-plus x (a ∷ u) [] e = absurd (omega arith)
   value-plus x (a ∷ u) (b ∷ v) e =
       let f : length u ≡ length v = omega arith in
-      simp (value-cons, length-plus u v f, f, value-plus x u v f, laws.add-mul O F, F .add-assoc, laws.add-left O F)
+      simp (value-cons, length-plus u v f, f, value-plus x u v f, ring)
 
   value-scale : (x b : ℕ) (u : List ℕ) → value O x (scale O b u) ≡ b ⊗ value O x u
   unfolding scale
@@ -96,7 +97,7 @@ module _ (O : Ops) (F : IsField O) where
   value-row x b g n = simp (value-shift, value-scale)
 
   one-row : (b v p s : ℕ) → ((b ⊗ v) ⊗ p) ⊕ (v ⊗ s) ≡ v ⊗ ((b ⊗ p) ⊕ s)
-  one-row b v p s = simp (F .mul-add, F .mul-assoc, laws.mul-left O F)
+  one-row b v p s = simp ring
 
   -- the value of a product is the product of the values
   value-times : (x : ℕ) (g q : List ℕ) → 0 < length g → value O x (times O g q) ≡ value O x g ⊗ value O x q

@@ -34,6 +34,30 @@ module _ (O : Ops) (F : IsField O) where
   pub zero-mul : (a : ℕ) → 0 ⊗ a ≡ 0
   zero-mul a = F .mul-comm 0 a ∙ mul-zero a
 
+  -- the ring's laws as one list for `simp`: sums of products, each in one order, and nothing twice
+  pub mul-add : (a b c : ℕ) → a ⊗ (b ⊕ c) ≡ (a ⊗ b) ⊕ (a ⊗ c)
+  mul-add = F .mul-add
+
+  pub mul-assoc : (a b c : ℕ) → (a ⊗ b) ⊗ c ≡ a ⊗ (b ⊗ c)
+  mul-assoc = F .mul-assoc
+
+  pub mul-comm : (a b : ℕ) → a ⊗ b ≡ b ⊗ a
+  mul-comm = F .mul-comm
+
+  pub add-assoc : (a b c : ℕ) → (a ⊕ b) ⊕ c ≡ a ⊕ (b ⊕ c)
+  add-assoc = F .add-assoc
+
+  pub add-comm : (a b : ℕ) → a ⊕ b ≡ b ⊕ a
+  add-comm = F .add-comm
+
+  pub add-self : (a : ℕ) → a ⊕ a ≡ 0
+  add-self = F .add-self
+
+  pub add-zero : (a : ℕ) → a ⊕ 0 ≡ a
+  add-zero = F .add-zero
+
+  pub ruleset ring = (mul-add, add-mul, mul-assoc, mul-comm, mul-left, add-assoc, add-comm, add-left, gone, add-self, zero-add, add-zero)
+
   -- no zero divisors
   pub mul-cancel : (a b : ℕ) → In O a → In O b → a ≢ 0 → b ⊗ a ≡ 0 → b ≡ 0
   mul-cancel a b ha hb na e =

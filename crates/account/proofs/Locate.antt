@@ -9,6 +9,7 @@ use Rattle.account.specs.Field.{Ops, In, IsField, power}
 use Rattle.account.specs.Errata.{Outside, place, filt}
 use Rattle.account.specs.Search.{Zeros, Fits, CellOf, Found1, Found2, Joined, Splits, Quadratic, HalfOf}
 use Rattle.account.proofs.Laws as laws
+use Rattle.account.proofs.Laws.{ring}
 use Rattle.account.proofs.Powers as powers
 
 module _ (O : Ops) (F : IsField O) where
@@ -185,84 +186,31 @@ module _ (O : Ops) (F : IsField O) where
   -- ---- identities of a commutative ring whose sum is its own inverse
 
   term : (a b c X Y : ℕ) → ((c ⊕ (X ⊗ b)) ⊕ (Y ⊗ (b ⊕ (X ⊗ a)))) ⊕ (((X ⊕ Y) ⊗ b) ⊕ ((X ⊗ Y) ⊗ a)) ≡ c
-  term a b c X Y =
-      simp (
-        F .mul-add,
-        laws.add-mul O F,
-        F .mul-assoc,
-        F .mul-comm,
-        laws.mul-left O F,
-        F .add-assoc,
-        F .add-comm,
-        laws.add-left O F,
-        F .add-self,
-        laws.zero-add O F,
-      )
+  term a b c X Y = simp ring
 
   swapped : (a b c X Y : ℕ) → (c ⊕ (X ⊗ b)) ⊕ (Y ⊗ (b ⊕ (X ⊗ a))) ≡ (c ⊕ (Y ⊗ b)) ⊕ (X ⊗ (b ⊕ (Y ⊗ a)))
-  swapped a b c X Y = simp (F .mul-add, F .mul-comm, laws.mul-left O F, F .add-assoc, laws.add-left O F)
+  swapped a b c X Y = simp ring
 
   det-is : (a b X Y : ℕ) → (b ⊗ b) ⊕ (a ⊗ (((X ⊕ Y) ⊗ b) ⊕ ((X ⊗ Y) ⊗ a))) ≡ (b ⊕ (X ⊗ a)) ⊗ (b ⊕ (Y ⊗ a))
-  det-is a b X Y = simp (F .mul-add, laws.add-mul O F, F .mul-assoc, F .mul-comm, laws.mul-left O F, F .add-assoc)
+  det-is a b X Y = simp ring
 
   sum-is : (a b u v : ℕ) → (b ⊗ ((u ⊗ b) ⊕ (v ⊗ a))) ⊕ (a ⊗ ((u ⊗ ((u ⊗ b) ⊕ (v ⊗ a))) ⊕ (v ⊗ b))) ≡ u ⊗ ((b ⊗ b) ⊕ (a ⊗ ((u ⊗ b) ⊕ (v ⊗ a))))
-  sum-is a b u v = simp (F .mul-add, F .mul-comm, laws.mul-left O F, F .add-assoc, F .add-comm, laws.add-left O F, laws.gone O F)
+  sum-is a b u v = simp ring
 
   product-is : (a b u v : ℕ)
       → (((u ⊗ b) ⊕ (v ⊗ a)) ⊗ ((u ⊗ b) ⊕ (v ⊗ a))) ⊕ (b ⊗ ((u ⊗ ((u ⊗ b) ⊕ (v ⊗ a))) ⊕ (v ⊗ b))) ≡ v ⊗ ((b ⊗ b) ⊕ (a ⊗ ((u ⊗ b) ⊕ (v ⊗ a))))
-  product-is a b u v =
-      simp (
-        F .mul-add,
-        laws.add-mul O F,
-        F .mul-assoc,
-        F .mul-comm,
-        laws.mul-left O F,
-        F .add-assoc,
-        F .add-comm,
-        laws.add-left O F,
-        laws.gone O F,
-        F .add-self,
-        laws.zero-add O F,
-      )
+  product-is a b u v = simp ring
 
   square-is : (X Y j : ℕ) → ((X ⊗ j) ⊗ (X ⊗ j)) ⊕ ((X ⊗ j) ⊗ ((X ⊕ Y) ⊗ j)) ≡ ((X ⊗ Y) ⊗ j) ⊗ j
-  square-is X Y j = simp (F .mul-add, laws.add-mul O F, F .mul-assoc, laws.mul-left O F, laws.gone O F)
+  square-is X Y j = simp ring
 
   -- ---- the quadratic of two places
 
   cramer-2 : (a b c d i : ℕ) → ((((b ⊗ c) ⊕ (a ⊗ d)) ⊗ i) ⊗ b) ⊕ ((((c ⊗ c) ⊕ (b ⊗ d)) ⊗ i) ⊗ a) ≡ c ⊗ (((b ⊗ b) ⊕ (a ⊗ c)) ⊗ i)
-  cramer-2 a b c d i =
-      simp (
-        F .mul-add,
-        laws.add-mul O F,
-        F .mul-assoc,
-        F .mul-comm,
-        laws.mul-left O F,
-        F .add-assoc,
-        F .add-comm,
-        laws.add-left O F,
-        laws.gone O F,
-        F .add-self,
-        laws.zero-add O F,
-        F .add-zero,
-      )
+  cramer-2 a b c d i = simp ring
 
   cramer-3 : (a b c d i : ℕ) → ((((b ⊗ c) ⊕ (a ⊗ d)) ⊗ i) ⊗ c) ⊕ ((((c ⊗ c) ⊕ (b ⊗ d)) ⊗ i) ⊗ b) ≡ d ⊗ (((b ⊗ b) ⊕ (a ⊗ c)) ⊗ i)
-  cramer-3 a b c d i =
-      simp (
-        F .mul-add,
-        laws.add-mul O F,
-        F .mul-assoc,
-        F .mul-comm,
-        laws.mul-left O F,
-        F .add-assoc,
-        F .add-comm,
-        laws.add-left O F,
-        laws.gone O F,
-        F .add-self,
-        laws.zero-add O F,
-        F .add-zero,
-      )
+  cramer-3 a b c d i = simp ring
 
   -- d is the determinant and i its inverse
   pub quadratic : (t : ℕ → ℕ) (d i u v : ℕ) → In O (t 2) → In O (t 3) → d ≡ (t 1 ⊗ t 1) ⊕ (t 0 ⊗ t 2) → d ⊗ i ≡ 1
@@ -328,10 +276,10 @@ module _ (O : Ops) (F : IsField O) where
   -- ---- the values of two cells, from the two middle sums
 
   shared : (a b X Y : ℕ) → (a ⊗ (X ⊕ Y)) ⊕ (b ⊕ (X ⊗ a)) ≡ b ⊕ (Y ⊗ a)
-  shared a b X Y = simp (F .mul-add, F .mul-comm, F .add-assoc, F .add-comm, laws.add-left O F, laws.gone O F)
+  shared a b X Y = simp ring
 
   squared : (a j X : ℕ) → ((a ⊗ j) ⊗ X) ⊗ X ≡ (X ⊗ (X ⊗ a)) ⊗ j
-  squared a j X = simp (F .mul-assoc, F .mul-comm, laws.mul-left O F)
+  squared a j X = simp ring
 
   -- what is left of a sum, once the other cell's part is taken
   part : (X Y j a b : ℕ) → (X ⊕ Y) ⊗ j ≡ 1 → In O a → a ⊕ ((b ⊕ (X ⊗ a)) ⊗ j) ≡ (b ⊕ (Y ⊗ a)) ⊗ j

@@ -1,13 +1,13 @@
 -- Tiles packed, eight in three bytes.
-use mathlib.Core.Path.{_≡_, refl, sym, ap, _∙_, subst}
+use mathlib.Core.Path.{_≡_, refl, ap, _∙_, subst}
 use mathlib.Core.Logic.{⊎-elim}
 use mathlib.Core.List.{List}
 use Prim.Native.Nat.{ℕ, zero, suc, _+_, _*_, _-_, _/_, _%_, _≤_, _<_}
 use native.Mathlib.Numerals.{add-one}
 use native.Mathlib.Omega.{arith}
-use lib.ListN.{length, getD}
+use lib.ListN.{getD}
 use Rattle.rules.proofs.Numbers.{lt-or-ge}
-use Rattle.boards.specs.Pack.{threeOf, tileByte, PackedIn, joined, joinedAt, turnedOf}
+use Rattle.boards.specs.Pack.{threeOf, tileByte, joined, joinedAt, turnedOf}
 use Rattle.tiles.specs.Put.{byteOf, Puts}
 
 middle : (a b c : ℕ) → a < 256 → b < 256 → (a + b * 256 + c * 65536) / 256 % 256 ≡ b

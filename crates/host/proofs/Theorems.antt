@@ -2,7 +2,7 @@
 use mathlib.Core.Path.{_≡_, refl, ap, _∙_}
 use mathlib.Core.Logic.{_≢_}
 use mathlib.Core.List.{List, _++_}
-use Prim.Native.Nat.{ℕ, _≤_, _<_}
+use Prim.Native.Nat.{ℕ, _<_}
 use native.Mathlib.Decide.{ℕ-discrete}
 use native.Mathlib.Omega.{arith}
 use lib.Dec.{T}
@@ -16,7 +16,7 @@ use Rattle.code.specs.declared.word.Tested.{Tested}
 use Rattle.code.specs.declared.word.Tested.the-variants as tested
 use Rattle.code.proofs.Answers.{written-zero, repaired-zero}
 use Rattle.level.specs.Level.{Level}
-use Rattle.level.specs.Reading.{ReadNumbers, readingRecord, entering, mending}
+use Rattle.level.specs.Reading.{readingRecord, entering, mending}
 use Rattle.level.specs.Writing.{writingLevel}
 use Rattle.record.specs.Reading.{recordNumbers, RecordReadsAs}
 use Rattle.record.specs.declared.read.RecordRead.{RecordRead}

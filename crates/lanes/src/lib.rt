@@ -12,7 +12,7 @@ use dealt::LANES;
 use marks::Listed;
 use patches::FIXES;
 
-pub mod fixes; // what is to be put right in a strip
+mod fixes; // what is to be put right in a strip
 
 // Whether a lane is mended, how many unmarked cells were wrong, and how many cells are noted then.
 pub struct One {

@@ -1,6 +1,6 @@
 -- The worked examples hold.
 use mathlib.Core.Path.{_≡_, refl, sym, ap, ap₂, _∙_, subst}
-use mathlib.Core.Bool.{Bool, true, false, not}
+use mathlib.Core.Bool.{Bool, true}
 use mathlib.Core.List.{List, [], _∷_}
 use Prim.Native.Nat.{ℕ, zero, suc, _+_, _*_, _/_, _%_, _≤_, _<_}
 use native.Mathlib.Omega.{arith}
@@ -8,7 +8,7 @@ use lib.Dec.{T, eqb, eqb→eq, ltb, ltb→lt}
 use lib.ListN.{length, getD}
 use Rattle.account.specs.Field.{power, sumTo}
 use Rattle.account.specs.Product.{product}
-use Rattle.account.specs.Code.{alphaTo, S, Cells, Clean, WordOf}
+use Rattle.account.specs.Code.{alphaTo, S, Cells, Clean}
 use Rattle.account.specs.Reach.{oneIf, countTo, isMarked, differsAt, marked, differing, Reach, Reachable}
 use Rattle.account.specs.Lanes.{lane}
 use Rattle.account.specs.Lists.{listOf}
@@ -18,7 +18,7 @@ use Rattle.account.proofs.Words as words
 use Rattle.account.proofs.Words.{five}
 use Rattle.account.proofs.Generator as generators
 use Rattle.account.proofs.Theorems.{one-in-reach, none-at-six}
-use Rattle.gf256.specs.Gf256.{gf256, times}
+use Rattle.gf256.specs.Gf256.{gf256}
 use Rattle.gf256.proofs.Field256.{field256}
 use Rattle.level.specs.Tile.{totals}
 use Rattle.level.specs.Level.{Level, IsLevel}

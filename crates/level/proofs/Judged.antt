@@ -14,7 +14,7 @@ use Rattle.account.proofs.Lanes.{getD-past}
 use Rattle.level.specs.Level.{Level, IsLevel, Ranged, Coded, Fair}
 use Rattle.level.specs.Record.{bitAt, fieldAt, recordLength, IsRecord}
 use Rattle.level.specs.Strip.{columns}
-use Rattle.level.specs.Reading.{tilesIn, tilesOf, levelOf, Shaped, judging}
+use Rattle.level.specs.Reading.{tilesIn, levelOf, Shaped, judging}
 use Rattle.level.proofs.Bits.{bit-of}
 use Rattle.rules.proofs.Numbers.{lt-or-ge}
 use Rattle.level.proofs.Dealing.{within}

@@ -1,5 +1,5 @@
 -- A mended strip whose record passes is a level's strip; a level's strip within reach is the mended strip, and its record passes.
-use mathlib.Core.Path.{_≡_, refl, sym, ap, _∙_, subst}
+use mathlib.Core.Path.{_≡_, sym, ap, _∙_, subst}
 use Prim.Native.Nat.{ℕ, _+_, _*_, _-_, _/_, _%_, _≤_, _<_}
 use native.Mathlib.Nat.{mul-add}
 use native.Mathlib.Omega.{arith}
@@ -15,7 +15,7 @@ use Rattle.rules.specs.Bytes.{Bytes}
 use Rattle.rules.proofs.Laws.{first-alike, asked-alike, none-first}
 use Rattle.level.specs.Level.{Level, IsLevel}
 use Rattle.level.specs.Record.{fieldAt, recordLength}
-use Rattle.level.specs.Strip.{columns, Dealt, IsStrip, Reached, Mends}
+use Rattle.level.specs.Strip.{columns, IsStrip, Reached, Mends}
 use Rattle.level.specs.Reading.{levelOf, judging, dataOf, OfMended}
 use Rattle.level.proofs.Dealing.{laid-out}
 use Rattle.level.proofs.Strips.{one-mended, reached-mends}

@@ -3,7 +3,7 @@ use mathlib.Core.Path.{_≡_, sym, ap, _∙_, subst}
 use Prim.Native.Nat.{ℕ, _+_, _*_, _-_, _/_, _≤_, _<_}
 use native.Mathlib.Omega.{arith}
 use mathlib.Core.List.{List}
-use lib.ListN.{length, getD}
+use lib.ListN.{length}
 use Rattle.account.specs.Field.{Ops, IsField}
 use Rattle.account.specs.Lanes.{lane}
 use Rattle.account.proofs.Lanes.{length-lane, bytes-lane, columns-of, ext-lanes}

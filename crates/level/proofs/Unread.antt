@@ -1,16 +1,13 @@
 -- Strips that are the same but for the bytes under marks.
-use mathlib.Core.Path.{_≡_, refl, sym, ap, _∙_}
-use mathlib.Core.Bool.{Bool, false, not}
+use mathlib.Core.Path.{_≡_, sym, _∙_}
 use mathlib.Core.Logic.{⊎-elim}
 use mathlib.Core.List.{List}
-use Prim.Native.Nat.{ℕ, _+_, _*_, _/_, _≤_, _<_}
+use Prim.Native.Nat.{ℕ, _+_, _*_, _<_}
 use native.Mathlib.Omega.{arith}
-use lib.Dec.{eqb}
 use lib.ListN.{length, getD}
 use Rattle.account.specs.Field.{Ops}
-use Rattle.account.specs.Lists.{sumOf}
 use Rattle.account.specs.Lanes.{lane}
-use Rattle.account.specs.Reach.{isMarked, SameRead, Reachable, differing}
+use Rattle.account.specs.Reach.{SameRead}
 use Rattle.account.proofs.Lanes.{length-lane, getD-lane, getD-past, columns-of}
 use Rattle.account.proofs.Theorems.{same-differing, same-reach}
 use Rattle.level.specs.Level.{Level}

@@ -1,6 +1,6 @@
 -- What reading means: which level is spelled (FORMAT 6), what is refused (FORMAT 9), and the numbers of an answer.
 use mathlib.Core.Path.{_≡_}
-use mathlib.Core.List.{List, [], _∷_, _++_}
+use mathlib.Core.List.{List, [], _∷_}
 use Prim.Native.Nat.{ℕ, _+_, _*_, _-_, _≤_, _<_}
 use lib.ListN.{length, take}
 use Rattle.account.specs.Field.{Ops}

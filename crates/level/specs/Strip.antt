@@ -10,7 +10,7 @@ use Rattle.account.specs.Lists.{sumOf}
 use Rattle.account.specs.Lanes.{lane}
 use Rattle.level.specs.Sizes.{recordLeast, recordMost}
 use Rattle.level.specs.Level.{Level, IsLevel}
-use Rattle.level.specs.Record.{recordLength, IsRecord}
+use Rattle.level.specs.Record.{IsRecord}
 
 -- ---- over the lanes
 

@@ -1,7 +1,7 @@
 -- The five sums of packed bytes, half byte by half byte. The table's rule is a computed test of each entry at the five roots.
 use mathlib.Core.Path.{_≡_, refl, sym, ap, ap₂, _∙_, subst}
 use mathlib.Core.Bool.{Bool}
-use mathlib.Core.List.{List, [], _∷_}
+use mathlib.Core.List.{[], _∷_}
 use Prim.Native.Nat.{ℕ, _+_, _*_, _/_, _%_, _^_, _<_}
 use native.Mathlib.Nat.{mod-lt, zero-lt-suc}
 use native.Mathlib.Omega.{arith}
@@ -14,7 +14,7 @@ use Rattle.account.specs.Field.{power}
 use Rattle.account.specs.Product.{product}
 use Rattle.account.specs.Code.{alphaTo, syndrome}
 use Rattle.account.proofs.Test.{both, upto, upto-at}
-use Rattle.gf256.specs.Gf256.{gf256, times}
+use Rattle.gf256.specs.Gf256.{gf256}
 use Rattle.reductions.specs.Tables.{halves}
 use Rattle.remainder.specs.Remainder.{unpacked, hornAll, at5}
 use Rattle.remainder.proofs.Kernel.{xors, unpacked-xor, at5-xor}

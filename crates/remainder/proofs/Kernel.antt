@@ -5,7 +5,7 @@ use Prim.Native.Nat.{ℕ, _+_, _*_, _/_, _%_, _^_, _<_}
 use native.Mathlib.Nat.{mod-lt, zero-lt-suc}
 use native.Mathlib.Omega.{arith}
 use lib.ListN.{length}
-use lib.Bits.{bitXor, xor-shr, xor-mod, xor-lt, xor-shifted, xor-comm}
+use lib.Bits.{bitXor, xor-shr, xor-mod, xor-lt}
 use Rattle.account.specs.Field.{power}
 use Rattle.account.specs.Code.{alphaTo}
 use Rattle.account.proofs.Laws as laws

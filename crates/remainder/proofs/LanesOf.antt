@@ -1,10 +1,10 @@
 -- Lanes of one list of cells at once: each is a word of its own.
-use mathlib.Core.Path.{_≡_, refl, sym, ap, ap₂, _∙_, subst}
+use mathlib.Core.Path.{_≡_, refl, sym, ap, _∙_, subst}
 use mathlib.Core.List.{List, [], _∷_, _++_, append-assoc}
-use mathlib.Core.Logic.{_⊎_, ⊎-elim, inl, inr}
-use mathlib.Core.Bool.{Bool, true, false}
+use mathlib.Core.Logic.{_⊎_, ⊎-elim}
+use mathlib.Core.Bool.{Bool, true}
 use Prim.Native.Nat.{ℕ, zero, suc, _+_, _*_, _-_, _/_, _%_, _<_, _≤_}
-use native.Mathlib.Nat.{mul-add, mul-suc, mul-zero, mul-one, mul-comm, mul-assoc, mul-le-mul-left, mul-div-le, div-add-mod, mod-lt, mul-mod-right, mod-self}
+use native.Mathlib.Nat.{mul-add, mul-suc, mul-zero, mul-one, mul-comm, mul-assoc, mul-le-mul-left, mul-div-le, div-add-mod, mul-mod-right, mod-self}
 use native.Mathlib.Numerals.{add-one}
 use native.Mathlib.Omega.{arith}
 use borrow.Author.Count.{below-more}
@@ -16,7 +16,7 @@ use Rattle.rules.proofs.Numbers.{lt-or-ge}
 use Rattle.account.specs.Lanes.{lane}
 use Rattle.account.proofs.Test.{both, both-left, both-right}
 use Rattle.account.proofs.Lanes.{length-lane, getD-lane, getD-past, cell-below, columns-of}
-use Rattle.remainder.specs.Remainder.{packedEnd, Reduced, Moved, Remains, Checks, LanesTo, LanesRemain, LanesCheck, FewOf, Room, fiveAt, RowMoved, RowsMoved}
+use Rattle.remainder.specs.Remainder.{packedEnd, Reduced, Moved, Remains, LanesTo, LanesRemain, LanesCheck, Room, fiveAt, RowMoved, RowsMoved}
 use Rattle.reductions.specs.Tables.{fifth, sixth, seventh, eighth, ninth}
 use Rattle.remainder.proofs.Kernel.{AllBytes, moved1, moved5, low, top-byte}
 use Rattle.remainder.proofs.Rules.{at-5, at-6, at-7, at-8, at-9}

@@ -1,14 +1,12 @@
 -- A word's remainder: nothing only where the word is clean; and the check bytes.
-use mathlib.Core.Path.{_≡_, refl, sym, ap, _∙_, subst}
+use mathlib.Core.Path.{_≡_, refl, sym, ap, _∙_}
 use mathlib.Core.List.{List, [], _∷_, _++_, append-assoc, append-nil}
 use Prim.Native.Nat.{ℕ, zero, suc, _+_, _/_, _%_, _<_, _≤_}
-use native.Mathlib.Numerals.{add-one}
 use native.Mathlib.Omega.{arith}
 use lib.IntN.{ℤ, pos, negsuc}
 use lib.Signed.{_≤ℤ_, leZ-yes}
 use lib.Bits.{bitXor}
-use lib.ListN.{length, getD, take}
-use lib.Seq.{take-suc, take-all}
+use lib.ListN.{length, getD}
 use Rattle.account.specs.Field.{power, sumTo}
 use Rattle.account.specs.Product.{product}
 use Rattle.account.specs.Code.{alphaTo, S, Cells, Clean, syndrome}

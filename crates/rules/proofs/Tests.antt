@@ -1,5 +1,5 @@
 -- What a test says, once its answer is known.
-use mathlib.Core.Path.{_≡_, sym, subst}
+use mathlib.Core.Path.{_≡_, subst}
 use mathlib.Core.Bool.{Bool, true, false}
 use Rattle.rules.specs.Says.{Says}
 

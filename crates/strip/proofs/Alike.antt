@@ -1,6 +1,6 @@
 -- Two readings of strips that are the same but for the bytes under marks; a strip beside itself.
 use mathlib.Core.Path.{_≡_, refl, sym, ap, ap₂, _∙_, subst}
-use mathlib.Core.Logic.{_≢_, _⊎_, inl, inr, ⊎-elim}
+use mathlib.Core.Logic.{_⊎_, inl, inr, ⊎-elim}
 use mathlib.Core.Bool.{not}
 use mathlib.Core.List.{List, _++_}
 use Prim.Native.Nat.{ℕ, _+_, _*_, _/_, _≤_, _<_}
@@ -9,15 +9,15 @@ use native.Mathlib.Omega.{arith}
 use lib.Dec.{T, eqb}
 use lib.ListN.{length, getD, take, drop, take-append-drop}
 use Rattle.account.specs.Lanes.{lane}
-use Rattle.account.specs.Reach.{countTo, differsAt, differing, isMarked, Reach, SameRead}
+use Rattle.account.specs.Reach.{differsAt, differing, isMarked, Reach, SameRead}
 use Rattle.account.proofs.Cells.{count-none, not-differs}
 use Rattle.account.proofs.Lanes.{length-lane, getD-lane, getD-past}
 use Rattle.gf256.specs.Gf256.{gf256}
 use Rattle.gf256.proofs.Field256.{field256}
-use Rattle.rules.specs.Refusal.{First, Hold, asked}
+use Rattle.rules.specs.Refusal.{First, Hold}
 use Rattle.rules.proofs.Laws.{first-fixes, all-hold, hold-both, parts, before, after, first-alike, asked-alike, Alike, at-most, either}
 use Rattle.level.specs.Level.{Level}
-use Rattle.level.specs.Strip.{columns, Legal, IsStrip, StripReach, Reached, Lowest, Mends, Mendable, mendedOf, wearOf}
+use Rattle.level.specs.Strip.{columns, Legal, IsStrip, StripReach, Reached, Lowest, Mendable, mendedOf, wearOf}
 use Rattle.level.specs.Reading.{ReadNumbers, returned, entering, mending, judging, OfMended}
 use Rattle.rules.proofs.Numbers.{lt-or-ge}
 use Rattle.level.proofs.Strips.{strip-size, same-strip}

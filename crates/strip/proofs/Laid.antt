@@ -2,12 +2,11 @@
 use mathlib.Core.Path.{_≡_, refl, sym, ap, _∙_, subst}
 use mathlib.Core.Logic.{_⊎_, inl, inr}
 use mathlib.Core.List.{List}
-use Prim.Native.Nat.{ℕ, _+_, _*_, _-_, _/_, _%_, _≤_, _<_}
+use Prim.Native.Nat.{ℕ, _+_, _*_, _-_, _≤_, _<_}
 use native.Mathlib.Nat.{mul-add, mul-le-mul}
 use native.Mathlib.Omega.{arith}
 use lib.ListN.{length, getD, take, drop, length-drop, length-take}
 use lib.Seq.{ext-getD, getD-take, getD-drop, length-take-le}
-use Rattle.account.specs.Lanes.{lane}
 use Rattle.account.specs.Code.{Cells}
 use Rattle.account.proofs.Lanes.{getD-past, cell}
 use Rattle.gf256.specs.Gf256.{gf256}

@@ -1,22 +1,22 @@
 -- What is promised of strips, over the number of lanes R, from two on. The entries have four.
-use mathlib.Core.Path.{_≡_, refl, sym, ap, ap₂, _∙_, subst}
+use mathlib.Core.Path.{_≡_, refl, sym, ap, ap₂, _∙_}
 use mathlib.Core.Logic.{_≢_}
 use mathlib.Core.List.{List, _++_}
 use Prim.Native.Nat.{ℕ, _+_, _*_, _≤_, _<_}
 use native.Mathlib.Omega.{arith}
-use lib.ListN.{length, getD, take, drop, take-append-drop}
-use Rattle.account.specs.Reach.{isMarked, differing, GoodMarks, SameRead}
+use lib.ListN.{length, getD, take, take-append-drop}
+use Rattle.account.specs.Reach.{differing, GoodMarks, SameRead}
 use Rattle.gf256.specs.Gf256.{gf256}
 use Rattle.gf256.proofs.Field256.{field256}
-use Rattle.rules.specs.Refusal.{First, Hold}
+use Rattle.rules.specs.Refusal.{Hold}
 use Rattle.rules.proofs.Laws.{first-fixes, all-hold, hold-both, decided, either}
 use Rattle.code.specs.Word.{writtenNumbers}
 use Rattle.code.specs.declared.word.Written.{Written}
 use Rattle.code.proofs.Answers.{written-zero}
 use Rattle.level.specs.Level.{Level, IsLevel}
 use Rattle.level.specs.Record.{recordLength}
-use Rattle.level.specs.Strip.{columns, Legal, IsStrip, StripReach, Reached, wrongIn, markedIn, mendedOf, wearOf}
-use Rattle.level.specs.Reading.{ReadNumbers, returned, entering, mending}
+use Rattle.level.specs.Strip.{columns, Legal, StripReach, Reached, wrongIn, markedIn, mendedOf}
+use Rattle.level.specs.Reading.{returned, entering, mending}
 use Rattle.level.specs.Writing.{writingLevel}
 use Rattle.level.proofs.Dealing.{columns-more, lanes-short}
 use Rattle.level.proofs.Strips.{same-strip}

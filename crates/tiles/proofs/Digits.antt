@@ -1,5 +1,5 @@
 -- Tiles are the digits of a number, three bits each; what they add is the same by pairs and by threes.
-use mathlib.Core.Path.{_≡_, refl, ap, sym, _∙_}
+use mathlib.Core.Path.{_≡_, refl, ap, _∙_}
 use Prim.Native.Nat.{ℕ, zero, suc, _+_, _*_, _/_, _%_, _<_}
 use native.Mathlib.Omega.{arith}
 use Rattle.tiles.specs.Sum.{triplesOf, pairsOf}

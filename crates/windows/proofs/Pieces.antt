@@ -1,20 +1,19 @@
 -- A record seen through windows: bits, fields and sums of a window are those of the record.
-use mathlib.Core.Path.{_≡_, refl, sym, ap, ap₂, _∙_, subst}
+use mathlib.Core.Path.{_≡_, refl, sym, ap, ap₂, _∙_}
 use mathlib.Core.Logic.{⊎-elim}
 use mathlib.Core.List.{List}
 use Prim.Native.Nat.{ℕ, zero, suc, _+_, _*_, _-_, _/_, _%_, _^_, _≤_, _<_}
 use native.Mathlib.Omega.{arith}
-use lib.ListN.{length, getD, take}
-use lib.Seq.{getD-take, length-take-le}
+use lib.ListN.{length, getD}
 use Rattle.rules.proofs.Numbers.{lt-or-ge}
 use Rattle.account.specs.Lists.{sumOf}
 use Rattle.account.proofs.Lanes.{getD-past}
 use Rattle.level.specs.Record.{bitAt, fieldAt}
 use Rattle.level.proofs.Counts.{sum-cong}
 use Rattle.level.proofs.Windows.{field-part}
-use Rattle.tiles.specs.Sum.{weighed, addsAt, Counted, PartSummed}
-use Rattle.tiles.proofs.Part.{partOf, length-part, part-same}
-use Rattle.tiles.proofs.Counting.{sum-append, sum-none, bit-past, field-none, part-summed}
+use Rattle.tiles.specs.Sum.{weighed, addsAt, Counted}
+use Rattle.tiles.proofs.Part.{partOf, part-same}
+use Rattle.tiles.proofs.Counting.{sum-append, sum-none, bit-past, field-none}
 
 -- w has n bytes of bs, from byte a on
 pub record Sees (bs : List ℕ) (a n : ℕ) (w : List ℕ) : Type 0 where

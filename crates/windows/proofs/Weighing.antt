@@ -1,4 +1,4 @@
--- Windows one after the other: what is blank, what the tiles add, which tiles are written.
+-- Windows one after the other: what is blank, and what the tiles add.
 use mathlib.Core.Path.{_≡_, refl, sym, ap, _∙_, subst}
 use mathlib.Core.Bool.{Bool, true, false, not}
 use lib.Dec.{T}

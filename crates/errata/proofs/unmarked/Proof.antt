@@ -1,5 +1,4 @@
 use mathlib.Core.Path.{refl}
-use mathlib.Core.List.{_∷_, []}
 use native.Mathlib.Omega.{arith}
 use Rattle.account.specs.Search.{Zeros}
 use Rattle.rules.proofs.Tests.{said, denied}

@@ -1,8 +1,5 @@
 use Prim.Native.Nat.{_-_}
 use native.Mathlib.Omega.{arith}
-use mathlib.Core.Path.{_≡_, subst}
-use Prim.Native.Nat.{ℕ, _<_}
-use Rattle.remainder.specs.Remainder.{packedEnd}
 use Rattle.remainder.proofs.LanesOf.{RowTo, row-0, row-more, row-small}
 use borrow.Author.Needs.{needs}
 use Rattle.remainder.proofs.row.Statement.{statement}

@@ -2,7 +2,6 @@ use Prim.Native.Nat.{_-_}
 use native.Mathlib.Omega.{arith}
 use lib.ListN.{length}
 use Rattle.remainder.proofs.LanesOf.{Rows, rows-0, row-fits, row-room, rows-more, rows-all}
-use borrow.Author.Needs.{needs}
 use Rattle.remainder.proofs.rows.Statement.{statement}
 use Rattle.remainder.proofs.rows.Tie as tie
 

@@ -1,4 +1,3 @@
-use mathlib.Core.Path.{sym, _∙_}
 use borrow.Author.Needs.{needs}
 use Rattle.remainder.proofs.syndrome_of.Statement.{statement}
 use Rattle.remainder.proofs.syndrome_of.Tie as tie

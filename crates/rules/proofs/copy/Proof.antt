@@ -1,12 +1,11 @@
 use Rattle.rules.proofs.Copying.{copy-goes, copy-long, copy-ends}
-use mathlib.Core.Path.{_≡_, refl, sym, ap, ap₂, _∙_, subst}
-use mathlib.Core.List.{List, _∷_, [], _++_, append-assoc}
-use Prim.Native.Nat.{ℕ, suc, _+_, _-_, _≤_, _<_}
+use mathlib.Core.Path.{_≡_, ap, _∙_}
+use mathlib.Core.List.{List}
+use Prim.Native.Nat.{ℕ, _-_, _≤_}
 use native.Mathlib.Omega.{arith}
-use native.Mathlib.Numerals.{add-one}
 use borrow.Author.Needs.{needs}
-use lib.ListN.{length, getD, take, drop, set, length-set}
-use lib.Seq.{paste, paste-zero, paste-suc, length-paste, take-length}
+use lib.ListN.{length, getD, set}
+use lib.Seq.{paste, paste-zero}
 use Rattle.rules.proofs.copy.Statement.{statement}
 use Rattle.rules.proofs.copy.Tie as tie
 

@@ -1,13 +1,13 @@
-use mathlib.Core.Path.{_≡_, refl, sym, ap, _∙_, subst}
+use mathlib.Core.Path.{_≡_, refl, _∙_}
 use mathlib.Core.Logic.{⊎-elim}
-use Prim.Native.Nat.{ℕ, _-_}
+use Prim.Native.Nat.{_-_}
 use native.Mathlib.Omega.{arith}
 use borrow.Author.Needs.{needs}
 use borrow.Rule.Slice.PartMut.{postOf}
 use lib.ListN.{length, take, drop, length-drop}
 use lib.Seq.{length-take-le}
 use Rattle.rules.proofs.Numbers.{lt-or-ge}
-use Rattle.windows.proofs.Weighing.{recordIn, length-record, sees}
+use Rattle.windows.proofs.Weighing.{recordIn, sees}
 use Rattle.windows.proofs.Unpacking.{window-holds, Unpacking, unpacking-0, unpacking-more, unpacked-all}
 use Rattle.windows.proofs.unpack.Statement.{statement}
 use Rattle.windows.proofs.unpack.Tie as tie

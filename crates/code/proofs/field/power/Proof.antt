@@ -1,4 +1,4 @@
-use mathlib.Core.Path.{_≡_, ap, _∙_}
+use mathlib.Core.Path.{ap, _∙_}
 use mir.Facts.{toZ-ofZ}
 use Rattle.account.specs.Code.{alphaTo}
 use Rattle.gf256.specs.Gf256.{gf256}

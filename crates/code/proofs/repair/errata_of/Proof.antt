@@ -1,4 +1,4 @@
-use mathlib.Core.Path.{_≡_, refl, _∙_}
+use mathlib.Core.Path.{refl, _∙_}
 use Rattle.gf256.proofs.Rules.{tables}
 use Rattle.remainder.specs.Remainder.{unpacked}
 use Rattle.remainder.proofs.Whole.{syndrome-same}

@@ -1,4 +1,4 @@
-use mathlib.Core.Path.{_≡_, _∙_}
+use mathlib.Core.Path.{_∙_}
 use Rattle.remainder.proofs.Whole.{syndrome-same}
 use borrow.Author.Needs.{needs}
 use Rattle.code.proofs.word.syndrome_of.Statement.{statement}

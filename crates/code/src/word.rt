@@ -9,7 +9,7 @@ ghost use Rattle.remainder.specs.Remainder.{unpacked};
 ghost use Rattle.code.specs.Word.{WritesAs, TestsAs};
 
 // How many bytes a word has at most.
-pub const WORD_MOST: usize = 255;
+pub(crate) const WORD_MOST: usize = 255;
 
 // How many data bytes.
 const DATA_MOST: usize = 250;

@@ -1,4 +1,4 @@
--- What the parts of the search promise each other, and what errata are.
+-- What the search for errata promises, and what its parts promise each other.
 use mathlib.Core.Path.{_≡_}
 use mathlib.Core.Logic.{_≢_}
 use mathlib.Core.Bool.{Bool, true, false}

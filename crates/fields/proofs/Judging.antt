@@ -3,6 +3,7 @@ use mathlib.Core.Path.{_≡_, refl, sym, ap, ap₂, _∙_, subst}
 use mathlib.Core.Logic.{inr}
 use mathlib.Core.List.{List}
 use Prim.Native.Nat.{ℕ, _+_, _*_, _≤_, _<_}
+use native.Mathlib.Decide.{ℕ-discrete}
 use native.Mathlib.Omega.{arith}
 use lib.ListN.{length}
 use Rattle.rules.specs.Refusal.{First, asked}
@@ -19,7 +20,7 @@ use Rattle.fields.specs.declared.head.Head.{Head}
 use Rattle.fields.specs.declared.judged.Judged.{Judged}
 use Rattle.fields.specs.Sum.{BoardCode, SumCode}
 use Rattle.fields.specs.Head.{Heads, HeadRanged}
-use Rattle.fields.specs.Judged.{without, JudgedAs}
+use Rattle.fields.specs.Judged.{without, AnswersAs, JudgedAs}
 use Rattle.fields.proofs.Tiles.{area-small}
 use Rattle.fields.proofs.Reading.{field-5}
 
@@ -27,7 +28,7 @@ module _ (R : ℕ) (bs : List ℕ) where
   refusal : (code : ℕ) → (code ≡ 0 → ⊥) → First (asked (λ ask. ask bs) (judging R)) code → JudgedAs R bs (without code)
   refusal code n f = record { first = f; spells = λ z. absurd (n z); none = λ _. refl }
 
-  pub judged-none : (r : Judged) (code : ℕ) → r ≡ without code → (code ≡ 0 → ⊥) → First (asked (λ ask. ask bs) (judging R)) code → JudgedAs R bs r
+  judged-none : (r : Judged) (code : ℕ) → r ≡ without code → (code ≡ 0 → ⊥) → First (asked (λ ask. ask bs) (judging R)) code → JudgedAs R bs r
   judged-none r code e n f = subst (JudgedAs R bs) (sym e) (refusal code n f)
 
   pub judged-7 : (r : Judged) → r ≡ without 7 → (Ranged (levelOf bs) → ⊥) → JudgedAs R bs r
@@ -92,10 +93,16 @@ module _ (bs : List ℕ) (f : Head) (hd : Heads bs f) where
       → First (asked (λ ask. ask bs) (judging R)) code
   judged-by-tiles R x code some k s t j = inr (headed k, inr (s, boarded (k .known) R x code some s t j))
 
-  pub judged-0 : (R code : ℕ) → code ≡ 0 → First (asked (λ ask. ask bs) (judging R)) code
-      → JudgedAs R bs (record { code = 0; width = f .width; height = f .height; par = f .par })
-  judged-0 R code z k = record {
-    first = subst (First (asked (λ ask. ask bs) (judging R))) z k;
+  judged-0 : (R : ℕ) → First (asked (λ ask. ask bs) (judging R)) 0 → JudgedAs R bs (record { code = 0; width = f .width; height = f .height; par = f .par })
+  judged-0 R k = record {
+    first = k;
     spells = λ _. record { width = hd .width; height = hd .height; par = hd .par; few = area-few };
     none = λ n. absurd (n refl);
   }
+
+  pub judged-answer : (R code : ℕ) (r : Judged) → AnswersAs f code r → First (asked (λ ask. ask bs) (judging R)) code → JudgedAs R bs r
+  judged-answer R code r A k = go (ℕ-discrete code 0)
+    where
+      go : Dec (code ≡ 0) → JudgedAs R bs r
+      go (yes z) = subst (JudgedAs R bs) (sym (A .some z)) (judged-0 R (subst (First (asked (λ ask. ask bs) (judging R))) z k))
+      go (no n) = judged-none R bs r code (A .none n) n k

@@ -7,11 +7,17 @@ use Rattle.rules.specs.Refusal.{First, asked}
 use Rattle.level.specs.Record.{fieldAt}
 use Rattle.level.specs.Sizes.{tilesMost}
 use Rattle.level.specs.Reading.{tilesOf, judging}
+use Rattle.fields.specs.declared.head.Head.{Head}
 use Rattle.fields.specs.declared.judged.Judged.{Judged}
 
 -- a refusal
 abbrev pub without : ℕ → Judged
 without code = record { code = code; width = 0; height = 0; par = 0 }
+
+-- the answer for the fields f, by the refusal of the tiles
+pub record AnswersAs (f : Head) (code : ℕ) (r : Judged) : Type 0 where
+  pub some : code ≡ 0 → r ≡ record { code = 0; width = f .width; height = f .height; par = f .par }
+  pub none : (code ≡ 0 → ⊥) → r ≡ without code
 
 -- what bytes that are not refused spell
 pub record Spells (bs : List ℕ) (r : Judged) : Type 0 where

@@ -7,7 +7,7 @@ ghost use Rattle.rules.specs.Says.{Says};
 ghost use Rattle.level.specs.Record.{bitAt, fieldAt};
 ghost use Rattle.level.specs.Strip.{columns};
 ghost use Rattle.level.specs.Reading.{Shaped};
-ghost use Rattle.level.specs.Sizes.{tilesMost, recordMost};
+ghost use Rattle.level.specs.Sizes.{tilesMost};
 
 // The bits of a byte from bit k on, the most significant being bit 0.
 fn low_bits(b: u8, k: usize) -> usize
@@ -33,7 +33,6 @@ fn zeros(bs: &[u8], from: usize) -> bool
 
 // No bit is set from a place on: in the byte of that place, and in those after it.
 pub fn blank(bs: &[u8], from: usize) -> bool
-    requires { ⌜ length (now bs) ≤ recordMost ⌝ }
     ensures { λ r. ⌜ Says r ((p : ℕ) → from ≤ p → p < 8 * length (now (bs .entry)) → bitAt (now (bs .entry)) p ≡ 0) ⌝ }
 {
     let at = from / 8;
@@ -60,7 +59,7 @@ pub fn fits(len: usize, lanes: usize, m: usize) -> bool
 
 // The length is that of the size, and what is left over is blank.
 pub fn shaped(bs: &[u8], lanes: usize, m: usize) -> bool
-    requires { ⌜ (length (now bs) ≤ recordMost) × Within 1 16 lanes × (m ≡ fieldAt (now bs) 4 5 * fieldAt (now bs) 9 5) × (m ≤ tilesMost) ⌝ }
+    requires { ⌜ Within 1 16 lanes × (m ≡ fieldAt (now bs) 4 5 * fieldAt (now bs) 9 5) × (m ≤ tilesMost) ⌝ }
     ensures { λ r. ⌜ Says r (Shaped lanes (now (bs .entry))) ⌝ }
 {
     if !fits(bs.len(), lanes, m) {

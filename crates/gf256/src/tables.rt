@@ -1,8 +1,8 @@
 // The table that an entry makes once and lends: the powers of α twice around, from LOGS on the power of α that each byte is, and
 // from HALVES on one of the two z with z z + z = c for each byte c that has any. (A `const` array is rebuilt at each use.)
-pub const LOGS: usize = 510;
+pub(crate) const LOGS: usize = 510;
 
-pub const HALVES: usize = 766;
+pub(crate) const HALVES: usize = 766;
 
 pub const TABLES: [u8; 1022] = [
     1,

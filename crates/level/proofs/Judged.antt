@@ -1,6 +1,6 @@
 -- What passes refusals 7 to 10 is a level's record with its filling, and a level's record with its filling passes.
-use mathlib.Core.Path.{_≡_, refl, sym, ap, ap₂, _∙_, subst}
-use Prim.Native.Nat.{ℕ, zero, suc, _+_, _*_, _-_, _/_, _%_, _^_, _≤_, _<_}
+use mathlib.Core.Path.{_≡_, sym, ap, ap₂, _∙_, subst}
+use Prim.Native.Nat.{ℕ, _+_, _*_, _-_, _/_, _%_, _^_, _≤_, _<_}
 use native.Mathlib.Nat.{zero-div}
 use native.Mathlib.Omega.{arith}
 use mathlib.Core.List.{List}
@@ -19,6 +19,7 @@ use Rattle.level.proofs.Bits.{bit-of}
 use Rattle.rules.proofs.Numbers.{lt-or-ge}
 use Rattle.level.proofs.Dealing.{within}
 use Rattle.level.proofs.Fields.{same-level}
+use Rattle.level.proofs.Windows.{bit-front, field-front}
 
 pub length-tiles : (bs : List ℕ) (n : ℕ) → length (tilesIn bs n) ≡ n
 unfolding tilesIn
@@ -27,17 +28,6 @@ length-tiles bs n = length-listOf n (λ i. fieldAt bs (24 + 3 * i) 3)
 pub getD-tiles : (bs : List ℕ) (n i : ℕ) → i < n → getD (tilesIn bs n) i 0 ≡ fieldAt bs (24 + 3 * i) 3
 unfolding tilesIn
 getD-tiles bs n i h = getD-listOf n (λ k. fieldAt bs (24 + 3 * k) 3) i h
-
--- fields of runs that agree on their first N bytes
-module _ (xs ys : List ℕ) (N : ℕ) (same : (q : ℕ) → q < N → getD xs q 0 ≡ getD ys q 0) where
-  pub bit-front : (p : ℕ) → p < 8 * N → bitAt xs p ≡ bitAt ys p
-  unfolding bitAt
-  bit-front p h = ap (λ (x : ℕ). x / 2 ^ (7 - p % 8) % 2) (same (p / 8) (omega arith))
-
-  pub field-front : (p n : ℕ) → p + n ≤ 8 * N → fieldAt xs p n ≡ fieldAt ys p n
-  unfolding fieldAt
-  field-front p zero h = refl
-  field-front p (suc n) h = ap₂ (λ (x y : ℕ). 2 * x + y) (field-front p n (omega arith)) (bit-front (p + n) (omega arith))
 
 -- a byte without a bit is 0
 zero-byte : (bs : List ℕ) (q : ℕ) → getD bs q 0 < 256 → ((p : ℕ) → 8 * q ≤ p → p < 8 * q + 8 → bitAt bs p ≡ 0) → getD bs q 0 ≡ 0

@@ -1,7 +1,7 @@
 -- Fields by the bytes that they lie in, and bytes by the fields.
 use mathlib.Core.Path.{_≡_, refl, sym, ap, ap₂, _∙_}
 use mathlib.Core.List.{List}
-use Prim.Native.Nat.{ℕ, zero, suc, _+_, _*_, _-_, _/_, _%_, _^_, _<_}
+use Prim.Native.Nat.{ℕ, zero, suc, _+_, _*_, _-_, _/_, _%_, _^_, _≤_, _<_}
 use native.Mathlib.Nat.{two-pow-succ, pow-suc, div-div-eq-div-mul, mul-add}
 use native.Mathlib.Omega.{arith}
 use lib.Pow.{mod-pow-add}
@@ -89,14 +89,36 @@ across bs q r i m n k e a b =
     ∙ ap₂ (λ (x y : ℕ). x * 2 ^ n + y) (within-byte bs q i m 0 (omega arith))
     (let z : 8 * q + i + m ≡ 8 * r + 0 = omega arith in ap (λ (p : ℕ). fieldAt bs p n) z ∙ within-byte bs r 0 n k (omega arith))
 
--- the part of a run of bytes that starts with byte k
+-- the n bytes of a run from byte a on
+module _ (bs w : List ℕ) (a n : ℕ) (same : (q : ℕ) → q < n → getD w q 0 ≡ getD bs (a + q) 0) where
+  pub bit-seen : (p : ℕ) → p < 8 * n → bitAt w p ≡ bitAt bs (8 * a + p)
+  unfolding bitAt
+  bit-seen p h =
+      ap (λ (x : ℕ). x / 2 ^ (7 - p % 8) % 2) (same (p / 8) (omega arith))
+      ∙ ap₂ (λ (x y : ℕ). getD bs x 0 / 2 ^ (7 - y) % 2) (omega arith) (omega arith)
+
+  pub field-seen : (p k : ℕ) → p + k ≤ 8 * n → fieldAt w p k ≡ fieldAt bs (8 * a + p) k
+  unfolding fieldAt
+  field-seen p zero h = refl
+  field-seen p (suc k) h =
+      let z : 8 * a + (p + k) ≡ 8 * a + p + k = omega arith in
+      ap₂ (λ (x y : ℕ). 2 * x + y) (field-seen p k (omega arith)) (bit-seen (p + k) (omega arith) ∙ ap (bitAt bs) z)
+
+-- all of them from there on
 module _ (bs part : List ℕ) (k : ℕ) (same : (q : ℕ) → getD part q 0 ≡ getD bs (k + q) 0) where
   pub bit-part : (p : ℕ) → bitAt part p ≡ bitAt bs (8 * k + p)
-  unfolding bitAt
-  bit-part p = ap (λ (x : ℕ). x / 2 ^ (7 - p % 8) % 2) (same (p / 8)) ∙ ap₂ (λ (x y : ℕ). getD bs x 0 / 2 ^ (7 - y) % 2) (omega arith) (omega arith)
+  bit-part p = bit-seen bs part k (p + 1) (λ q l. same q) p (omega arith)
 
   pub field-part : (p n : ℕ) → fieldAt part p n ≡ fieldAt bs (8 * k + p) n
-  field-part p n =
-      field-is part p n (λ i. bitAt part (p + i)) (λ i l. refl)
-      ∙ sym (field-is bs (8 * k + p) n (λ i. bitAt part (p + i))
-      (λ i l. let z : 8 * k + p + i ≡ 8 * k + (p + i) = omega arith in ap (bitAt bs) z ∙ sym (bit-part (p + i))))
+  field-part p n = field-seen bs part k (p + n) (λ q l. same q) p n (omega arith)
+
+-- the first n
+module _ (xs ys : List ℕ) (n : ℕ) (same : (q : ℕ) → q < n → getD xs q 0 ≡ getD ys q 0) where
+  from-0 : (q : ℕ) → q < n → getD xs q 0 ≡ getD ys (0 + q) 0
+  from-0 q l = let z : q ≡ 0 + q = omega arith in same q l ∙ ap (λ (i : ℕ). getD ys i 0) z
+
+  pub bit-front : (p : ℕ) → p < 8 * n → bitAt xs p ≡ bitAt ys p
+  bit-front p h = let z : 8 * 0 + p ≡ p = omega arith in bit-seen ys xs 0 n from-0 p h ∙ ap (bitAt ys) z
+
+  pub field-front : (p k : ℕ) → p + k ≤ 8 * n → fieldAt xs p k ≡ fieldAt ys p k
+  field-front p k h = let z : 8 * 0 + p ≡ p = omega arith in field-seen ys xs 0 n from-0 p k h ∙ ap (λ (i : ℕ). fieldAt ys i k) z

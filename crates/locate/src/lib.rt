@@ -16,7 +16,7 @@ ghost use Rattle.locate.specs.Places.{Filtered, Drained, CellAt, One, Tw
 // ---- the filter
 
 // The sums s, with the place x filtered out.
-pub fn filter(tables: &[u8; 1022], x: u8, s: [u8; 5]) -> [u8; 5]
+fn filter(tables: &[u8; 1022], x: u8, s: [u8; 5]) -> [u8; 5]
     requires { ⌜ Tables (now tables) ⌝ }
     ensures { λ r. ⌜ Filtered x s r ⌝ }
 {

@@ -10,7 +10,7 @@ ghost use Rattle.patches.specs.Window.{Behind, PatchedAt, WindowPatched,
 pub const FIXES: usize = 80;
 
 // How many cells a window has at most.
-pub const WINDOW: usize = 96;
+const WINDOW: usize = 96;
 
 fn wide(x: u16) -> usize
     ensures { λ r. ⌜ r ≡ x ⌝ }

@@ -24,15 +24,7 @@ fn judge(bs: &[u8], lanes: usize) -> Judged
         return fields::judged::refused(8);
     }
     let code = fields::tile::sum_code(tiles::count::tally(&bs[3..]));
-    if code != 0 {
-        return fields::judged::refused(code);
-    }
-    Judged {
-        code: 0,
-        width: f.width,
-        height: f.height,
-        par: f.par,
-    }
+    fields::judged::answer(f, code)
 }
 
 // What reading a record answers: a level, its tiles in the buffer, or a refusal's number.

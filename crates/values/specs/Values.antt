@@ -1,4 +1,4 @@
--- What the values at listed cells are, and what the parts of their making promise each other.
+-- What errata are, which values they have at listed cells, and what the parts of their making promise each other.
 use mathlib.Core.Path.{_≡_}
 use mathlib.Core.List.{List, _∷_, map}
 use Prim.Native.Nat.{ℕ, suc, _+_, _<_, _≤_}

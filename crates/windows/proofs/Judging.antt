@@ -14,9 +14,9 @@ use Rattle.fields.specs.declared.head.Head.{Head}
 use Rattle.fields.specs.declared.judged.Judged.{Judged}
 use Rattle.fields.specs.Sum.{SumCode}
 use Rattle.fields.specs.Head.{Heads}
-use Rattle.fields.specs.Judged.{without, JudgedAs}
+use Rattle.fields.specs.Judged.{without, AnswersAs, JudgedAs}
 use Rattle.fields.proofs.Reading.{blank-is, misfits}
-use Rattle.fields.proofs.Judging.{Opens, judged-none, judged-7, judged-8, judged-0, area-is, headed, head-of-level, judged-by-tiles}
+use Rattle.fields.proofs.Judging.{Opens, judged-7, judged-8, judged-answer, area-is, headed, head-of-level, judged-by-tiles}
 use Rattle.windows.specs.declared.Weighed.{Weighed}
 use Rattle.windows.specs.Windows.{WeighedAs}
 
@@ -52,8 +52,5 @@ module _ (R to : ℕ) (bs : List ℕ) (long : length bs ≡ to) (f : Head) (hd :
             judged-by-tiles bs f hd R (w .sum) code some opens (said (Shaped R bs) (w .blank) (not-false (w .blank) n) shape)
             (W .sum (not-false (w .blank) n)) C
 
-        pub tiles-refused : (code ≡ 0 → ⊥) → (r : Judged) → r ≡ without code → JudgedAs R bs r
-        tiles-refused k r e = judged-none R bs r code e k by-tiles
-
-        pub tiles-good : code ≡ 0 → JudgedAs R bs (record { code = 0; width = f .width; height = f .height; par = f .par })
-        tiles-good k = judged-0 bs f hd R code k by-tiles
+        pub by-answer : (r : Judged) → AnswersAs f code r → JudgedAs R bs r
+        by-answer r A = judged-answer bs f hd R code r A by-tiles

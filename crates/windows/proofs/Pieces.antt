@@ -1,8 +1,8 @@
 -- A record seen through windows: bits, fields and sums of a window are those of the record.
-use mathlib.Core.Path.{_≡_, refl, sym, ap, ap₂, _∙_}
+use mathlib.Core.Path.{_≡_, sym, ap, _∙_}
 use mathlib.Core.Logic.{⊎-elim}
 use mathlib.Core.List.{List}
-use Prim.Native.Nat.{ℕ, zero, suc, _+_, _*_, _-_, _/_, _%_, _^_, _≤_, _<_}
+use Prim.Native.Nat.{ℕ, _+_, _*_, _-_, _/_, _≤_, _<_}
 use native.Mathlib.Omega.{arith}
 use lib.ListN.{length, getD}
 use Rattle.rules.proofs.Numbers.{lt-or-ge}
@@ -10,7 +10,7 @@ use Rattle.account.specs.Lists.{sumOf}
 use Rattle.account.proofs.Lanes.{getD-past}
 use Rattle.level.specs.Record.{bitAt, fieldAt}
 use Rattle.level.proofs.Counts.{sum-cong}
-use Rattle.level.proofs.Windows.{field-part}
+use Rattle.level.proofs.Windows.{bit-seen, field-part, field-seen}
 use Rattle.tiles.specs.Sum.{weighed, addsAt, Counted}
 use Rattle.tiles.proofs.Part.{partOf, part-same}
 use Rattle.tiles.proofs.Counting.{sum-append, sum-none, bit-past, field-none}
@@ -21,19 +21,6 @@ pub record Sees (bs : List ℕ) (a n : ℕ) (w : List ℕ) : Type 0 where
   pub same : (q : ℕ) → q < n → getD w q 0 ≡ getD bs (a + q) 0
 
 module _ (bs : List ℕ) (a n : ℕ) (w : List ℕ) (S : Sees bs a n w) where
-  pub bit-seen : (p : ℕ) → p < 8 * n → bitAt w p ≡ bitAt bs (8 * a + p)
-  unfolding bitAt
-  bit-seen p h =
-      ap (λ (x : ℕ). x / 2 ^ (7 - p % 8) % 2) (S .same (p / 8) (omega arith))
-      ∙ ap₂ (λ (x y : ℕ). getD bs x 0 / 2 ^ (7 - y) % 2) (omega arith) (omega arith)
-
-  pub field-seen : (p k : ℕ) → p + k ≤ 8 * n → fieldAt w p k ≡ fieldAt bs (8 * a + p) k
-  unfolding fieldAt
-  field-seen p zero h = refl
-  field-seen p (suc k) h =
-      let z : 8 * a + (p + k) ≡ 8 * a + p + k = omega arith in
-      ap₂ (λ (x y : ℕ). 2 * x + y) (field-seen p k (omega arith)) (bit-seen (p + k) (omega arith) ∙ ap (bitAt bs) z)
-
   -- ---- blank
 
   module _ (bits : ℕ) where
@@ -41,10 +28,10 @@ module _ (bs : List ℕ) (a n : ℕ) (w : List ℕ) (S : Sees bs a n w) where
         → (p : ℕ) → bits ≤ p → p < 8 * (a + n) → bitAt bs p ≡ 0
     blank-more long old new p h k = ⊎-elim (λ l. old p h l) (λ l.
         let z : 8 * a + (p - 8 * a) ≡ p = omega arith in
-        ap (bitAt bs) (sym z) ∙ sym (bit-seen (p - 8 * a) (omega arith)) ∙ new (p - 8 * a) (omega arith) (omega (arith, long))) (lt-or-ge p (8 * a))
+        ap (bitAt bs) (sym z) ∙ sym (bit-seen bs w a n (S .same) (p - 8 * a) (omega arith)) ∙ new (p - 8 * a) (omega arith) (omega (arith, long))) (lt-or-ge p (8 * a))
 
     pub blank-seen : length w ≡ n → ((p : ℕ) → bits ≤ p → p < 8 * length bs → bitAt bs p ≡ 0) → (p : ℕ) → bits - 8 * a ≤ p → p < 8 * length w → bitAt w p ≡ 0
-    blank-seen long all p h k = bit-seen p (omega (arith, long)) ∙ all (8 * a + p) (omega arith) (omega (arith, long, S .inside))
+    blank-seen long all p h k = bit-seen bs w a n (S .same) p (omega (arith, long)) ∙ all (8 * a + p) (omega arith) (omega (arith, long, S .inside))
 
   -- ---- what the tiles add
 
@@ -59,7 +46,7 @@ module _ (bs : List ℕ) (a n : ℕ) (w : List ℕ) (S : Sees bs a n w) where
         field-part bs part 3 (part-same bs) (3 * (8 * g + i)) 3 ∙ ap (λ (p : ℕ). fieldAt bs p 3) z
 
     tile-seen : (i : ℕ) → 3 * i + 3 ≤ 8 * n → addsAt w i ≡ addsAt part (8 * g + i)
-    tile-seen i h = ap weighed (field-seen (3 * i) 3 h ∙ sym (tile-in-part i))
+    tile-seen i h = ap weighed (field-seen bs w a n (S .same) (3 * i) 3 h ∙ sym (tile-in-part i))
 
     -- at the end of the bytes the window has all that there is
     tile-last : a + n ≡ length bs → length w ≡ n → (i : ℕ) → addsAt w i ≡ addsAt part (8 * g + i)

@@ -10,11 +10,11 @@ use Rattle.rules.proofs.Numbers.{lt-or-ge}
 use Rattle.account.proofs.Lanes.{getD-past}
 use Rattle.level.specs.Record.{fieldAt}
 use Rattle.level.specs.Reading.{tilesIn}
-use Rattle.level.proofs.Windows.{field-part}
+use Rattle.level.proofs.Windows.{field-part, field-seen}
 use Rattle.tiles.specs.Part.{tilesFrom}
 use Rattle.tiles.proofs.Part.{partOf, part-same, tilesFrom-part, length-tilesFrom, getD-tilesFrom}
 use Rattle.tiles.proofs.Putting.{tiles-put}
-use Rattle.windows.proofs.Pieces.{Sees, field-seen}
+use Rattle.windows.proofs.Pieces.{Sees}
 
 -- a window of n bytes has the k tiles that are next, and where more are to come, no others
 pub window-holds : (to from m t n k : ℕ) → 8 * from ≡ 24 + 3 * t → 24 + 3 * m ≤ 8 * to → n ≤ 96 → from + n ≤ to → (from + n < to → n ≡ 96)
@@ -67,7 +67,7 @@ module _ (bs : List ℕ) (m : ℕ) (old : List ℕ) where
     own i h =
         let z : 8 * from + 3 * i ≡ 24 + 3 * (t + i) = omega (arith, U .on more) in
         part i (omega arith) ∙ List·getD-append (tilesFrom w k) (drop k kept) 0 i (omega (arith, length-tilesFrom w k))
-        ∙ getD-tilesFrom w k i h ∙ field-seen bs from n w S (3 * i) 3 (omega arith) ∙ ap (λ (p : ℕ). fieldAt bs p 3) z
+        ∙ getD-tilesFrom w k i h ∙ field-seen bs w from n (S .same) (3 * i) 3 (omega arith) ∙ ap (λ (p : ℕ). fieldAt bs p 3) z
 
     past : (i : ℕ) → getD next (t + (k + i)) 0 ≡ getD new (t + (k + i)) 0
     past i = ⊎-elim (λ h.

@@ -6,11 +6,12 @@ use mathlib.Core.Logic.{⊎-elim}
 use mathlib.Core.List.{List}
 use Prim.Native.Nat.{ℕ, _+_, _*_, _-_, _/_, _≤_, _<_}
 use native.Mathlib.Omega.{arith}
-use lib.ListN.{length, take}
+use lib.ListN.{length, getD, take}
 use lib.Seq.{getD-take, length-take-le}
 use Rattle.rules.proofs.Numbers.{lt-or-ge}
 use Rattle.account.specs.Lists.{sumOf}
 use Rattle.level.specs.Record.{bitAt, fieldAt}
+use Rattle.level.proofs.Windows.{field-seen}
 use Rattle.patches.specs.Patched.{patched}
 use Rattle.patches.proofs.Patching.{length-patched}
 use Rattle.patches.specs.Window.{Shown}
@@ -20,7 +21,7 @@ use Rattle.tiles.specs.Sum.{addsAt, Counted}
 use Rattle.tiles.proofs.Part.{partOf, length-part}
 use Rattle.tiles.proofs.Counting.{part-summed}
 use Rattle.windows.specs.Windows.{WeighedAs}
-use Rattle.windows.proofs.Pieces.{Sees, field-seen, blank-more, blank-seen, full-sum, last-sum}
+use Rattle.windows.proofs.Pieces.{Sees, blank-more, blank-seen, full-sum, last-sum}
 
 -- no bit of w is set from bit d on
 abbrev pub BlankFrom : ℕ → List ℕ → Type 0
@@ -57,16 +58,13 @@ head-seen s cells bytes scratch count to n some h O f H = record {
     three : n ≡ 3
     three = ⊎-elim (λ l. absurd (omega (arith, l, O .full (omega arith)))) (λ l. omega (arith, O .before)) (lt-or-ge n 3)
 
-    shows : Sees (recordIn s cells bytes count to) 0 3 scratch
-    shows = record {
-      inside = omega (arith, length-record s cells bytes count to h);
-      same = λ q l. O .shows q (omega (arith, three)) ∙ sym (getD-take to (patched cells bytes count s) (0 + q) 0 (omega arith));
-    }
+    same : (q : ℕ) → q < 3 → getD scratch q 0 ≡ getD (recordIn s cells bytes count to) (0 + q) 0
+    same q l = O .shows q (omega (arith, three)) ∙ sym (getD-take to (patched cells bytes count s) (0 + q) 0 (omega arith))
 
     at : (p k : ℕ) → p + k ≤ 24 → fieldAt scratch p k ≡ fieldAt (recordIn s cells bytes count to) p k
     at p k l =
         let z : 8 * 0 + p ≡ p = omega arith in
-        field-seen (recordIn s cells bytes count to) 0 3 scratch shows p k (omega arith) ∙ ap (λ (q : ℕ). fieldAt (recordIn s cells bytes count to) q k) z
+        field-seen (recordIn s cells bytes count to) scratch 0 3 same p k (omega arith) ∙ ap (λ (q : ℕ). fieldAt (recordIn s cells bytes count to) q k) z
 
 -- ---- blank, and the sum
 

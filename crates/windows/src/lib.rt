@@ -109,15 +109,7 @@ fn judge(
         return fields::judged::refused(8);
     }
     let code = fields::tile::sum_code(w.sum);
-    if code != 0 {
-        return fields::judged::refused(code);
-    }
-    Judged {
-        code: 0,
-        width: f.width,
-        height: f.height,
-        par: f.par,
-    }
+    fields::judged::answer(f, code)
 }
 
 // At most b, and b only where a is more.

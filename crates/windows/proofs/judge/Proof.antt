@@ -1,7 +1,7 @@
 use native.Mathlib.Omega.{arith}
 use Rattle.fields.proofs.Judging.{area-few}
 use Rattle.windows.proofs.Weighing.{recordIn, length-record}
-use Rattle.windows.proofs.Judging.{not-ranged, not-fitting, not-blank-after, tiles-refused, tiles-good}
+use Rattle.windows.proofs.Judging.{not-ranged, not-fitting, not-blank-after, by-answer}
 use borrow.Author.Needs.{needs}
 use Rattle.windows.proofs.judge.Statement.{statement}
 use Rattle.windows.proofs.judge.Tie as tie
@@ -92,34 +92,21 @@ returns-3 c =
 sum-code-requires : tie.Need-sum-code-requires
 sum-code-requires c κs = search needs
 
-refused-requires-4 : tie.Need-refused-requires-4
-refused-requires-4 c κs = search needs
+answer-requires : tie.Need-answer-requires
+answer-requires c κs = search needs
 
 same-length-4 : tie.Need-same-length-4
 same-length-4 c = search needs
 
 returns-4 : tie.Need-returns-4
 returns-4 c =
-    let a = c .before .before .before .before .before .before .before .before .before .before .before .before .before .before .before .before .before .before .before .args in
-    let bs = recordIn (a .strip .now) (a .cells .now) (a .bytes .now) (a .count) (a .to) in
-    let e = length-record (a .strip .now) (a .cells .now) (a .bytes .now) (a .count) (a .to) (c .before .before .before .before .before .before .before .before .before .before .before .before .before .before .before .before .before .before .before .pre .0 .inside) in
-    let f = c .before .before .before .before .before .before .before .before .before .before .before .before .before .before .before .head in
-    tiles-refused (a .lanes) (a .to) bs e (f .result) (f .ensures) (c .before .before .before .before .before .before .before .before .before .before .before .before .head-ranged .result) (c .before .before .before .before .before .before .before .before .before .before .before .if1 .left) (c .before .before .before .before .before .before .before .before .before .before .before .before .head-ranged .ensures) (c .before .before .before .before .before .before .before .before .before .fits2 .result) (c .before .before .before .before .before .before .before .before .if2 .left) (c .before .before .before .before .before .before .before .before .before .fits2 .ensures)
-    (c .before .before .before .before .before .before .weigh .result) (c .before .before .before .before .before .before .weigh .ensures) (c .before .before .before .if3 .left) (c .before .before .before .before .before .before .before .before .before .before .before .before .before .before .before .before .before .before .before .pre .1 .from) (c .before .before .sum-code .result)
-    (c .before .before .sum-code .ensures) (λ z. omega (arith, z, c .before .if4 .taken)) (c .refused4 .result) (c .refused4 .ensures)
-
-same-length-5 : tie.Need-same-length-5
-same-length-5 c = search needs
-
-returns-5 : tie.Need-returns-5
-returns-5 c =
     let a = c .before .before .before .before .before .before .before .before .before .before .before .before .before .before .before .before .before .before .args in
     let bs = recordIn (a .strip .now) (a .cells .now) (a .bytes .now) (a .count) (a .to) in
     let e = length-record (a .strip .now) (a .cells .now) (a .bytes .now) (a .count) (a .to) (c .before .before .before .before .before .before .before .before .before .before .before .before .before .before .before .before .before .before .pre .0 .inside) in
     let f = c .before .before .before .before .before .before .before .before .before .before .before .before .before .before .head in
-    tiles-good (a .lanes) (a .to) bs e (f .result) (f .ensures) (c .before .before .before .before .before .before .before .before .before .before .before .head-ranged .result) (c .before .before .before .before .before .before .before .before .before .before .if1 .left) (c .before .before .before .before .before .before .before .before .before .before .before .head-ranged .ensures) (c .before .before .before .before .before .before .before .before .fits2 .result) (c .before .before .before .before .before .before .before .if2 .left) (c .before .before .before .before .before .before .before .before .fits2 .ensures)
+    by-answer (a .lanes) (a .to) bs e (f .result) (f .ensures) (c .before .before .before .before .before .before .before .before .before .before .before .head-ranged .result) (c .before .before .before .before .before .before .before .before .before .before .if1 .left) (c .before .before .before .before .before .before .before .before .before .before .before .head-ranged .ensures) (c .before .before .before .before .before .before .before .before .fits2 .result) (c .before .before .before .before .before .before .before .if2 .left) (c .before .before .before .before .before .before .before .before .fits2 .ensures)
     (c .before .before .before .before .before .weigh .result) (c .before .before .before .before .before .weigh .ensures) (c .before .before .if3 .left) (c .before .before .before .before .before .before .before .before .before .before .before .before .before .before .before .before .before .before .pre .1 .from) (c .before .sum-code .result)
-    (c .before .sum-code .ensures) (omega (arith, c .if4 .left))
+    (c .before .sum-code .ensures) (c .answer .result) (c .answer .ensures)
 
 pub judge-spec : {M : Type 1} → statement M
 judge-spec =
@@ -142,8 +129,6 @@ judge-spec =
     same-length-3
     returns-3
     sum-code-requires
-    refused-requires-4
+    answer-requires
     same-length-4
-    returns-4
-    same-length-5
-    returns-5)
+    returns-4)

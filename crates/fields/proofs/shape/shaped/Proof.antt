@@ -17,7 +17,7 @@ returns c =
     let s = c .before .before .before in
     let a = s .args in
     let f = c .before .fits2 in
-    misfits (a .lanes) (a .m) (a .bs .now) (s .pre .2)
+    misfits (a .lanes) (a .m) (a .bs .now) (s .pre .1)
     (denied (length (a .bs .now) ≡ a .lanes * columns (a .lanes) (3 + (3 * a .m + 7) / 8)) (f .result) (not-true (f .result) (c .if1 .taken)) (f .ensures))
 
 mul-blank : tie.Need-mul-blank
@@ -34,7 +34,7 @@ returns-2 c =
     let s = c .before .before .before .before in
     let a = s .args in
     let f = c .before .before .fits2 in
-    blank-is (c .blank .result) (a .lanes) (a .m) (a .bs .now) (s .pre .2)
+    blank-is (c .blank .result) (a .lanes) (a .m) (a .bs .now) (s .pre .1)
     (said (length (a .bs .now) ≡ a .lanes * columns (a .lanes) (3 + (3 * a .m + 7) / 8)) (f .result) (not-false (f .result) (c .before .if1 .left)) (f .ensures))
     (c .blank .ensures)
 

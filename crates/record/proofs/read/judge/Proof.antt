@@ -4,7 +4,7 @@ use borrow.Author.Needs.{needs}
 use Rattle.rules.proofs.Tests.{said, denied}
 use Rattle.level.specs.Reading.{Shaped}
 use Rattle.tiles.proofs.Counting.{counted-summed}
-use Rattle.fields.proofs.Judging.{Opens, judged-none, judged-7, judged-8, judged-0, area-is, area-few, headed, head-of-level, judged-by-tiles}
+use Rattle.fields.proofs.Judging.{Opens, judged-7, judged-8, judged-answer, area-is, area-few, headed, head-of-level, judged-by-tiles}
 use Rattle.record.proofs.read.judge.Statement.{statement}
 use Rattle.record.proofs.read.judge.Tie as tie
 
@@ -35,7 +35,7 @@ shaped-requires c κs =
     let f = c .before .before .before .head-of in
     let o = c .before .before .before .before .before in
     let bs = o .args .bs .now in
-    (o .pre .0 .to, o .pre .1, area-is bs (f .result) (f .ensures), area-few bs (f .result) (f .ensures))
+    (o .pre .1, area-is bs (f .result) (f .ensures), area-few bs (f .result) (f .ensures))
 
 refused-requires-2 : tie.Need-refused-requires-2
 refused-requires-2 c κs = search needs
@@ -65,32 +65,18 @@ tally-requires c κs = search needs
 sum-code-requires : tie.Need-sum-code-requires
 sum-code-requires c κs = search needs
 
-refused-requires-3 : tie.Need-refused-requires-3
-refused-requires-3 c κs = search needs
+answer-requires : tie.Need-answer-requires
+answer-requires c κs = search needs
 
 returns-3 : tie.Need-returns-3
 returns-3 c =
-    let b = c .before .before .sum-code in
-    let s = c .before .before .before in
-    let q = s .before .before .before in
-    let t = q .before .before .before .head-ranged in
-    let f = q .before .before .before .before .head-of in
-    let o = q .before .before .before .before .before .before in
-    judged-none (o .args .lanes) (o .args .bs .now) (c .refused3 .result) (b .result) (c .refused3 .ensures) (λ z. omega (arith, z, c .before .if3 .taken))
-    (judged-by-tiles (o .args .bs .now) (f .result) (f .ensures) (o .args .lanes) (s .tally .result) (b .result) (o .pre .1 .from)
-    (said (Opens (f .result)) (t .result) (not-false (t .result) (q .before .before .if1 .left)) (t .ensures))
-    (said (Shaped (o .args .lanes) (o .args .bs .now)) (q .shaped .result) (not-false (q .shaped .result) (s .before .before .if2 .left)) (q .shaped .ensures))
-    (counted-summed _ (s .tally .result) (s .tally .ensures)) (b .ensures))
-
-returns-4 : tie.Need-returns-4
-returns-4 c =
     let b = c .before .sum-code in
     let s = c .before .before in
     let q = s .before .before .before in
     let t = q .before .before .before .head-ranged in
     let f = q .before .before .before .before .head-of in
     let o = q .before .before .before .before .before .before in
-    judged-0 (o .args .bs .now) (f .result) (f .ensures) (o .args .lanes) (b .result) (omega (arith, c .if3 .left))
+    judged-answer (o .args .bs .now) (f .result) (f .ensures) (o .args .lanes) (b .result) (c .answer .result) (c .answer .ensures)
     (judged-by-tiles (o .args .bs .now) (f .result) (f .ensures) (o .args .lanes) (s .tally .result) (b .result) (o .pre .1 .from)
     (said (Opens (f .result)) (t .result) (not-false (t .result) (q .before .before .if1 .left)) (t .ensures))
     (said (Shaped (o .args .lanes) (o .args .bs .now)) (q .shaped .result) (not-false (q .shaped .result) (s .before .before .if2 .left)) (q .shaped .ensures))
@@ -113,6 +99,5 @@ judge-spec =
     part-tally-end
     tally-requires
     sum-code-requires
-    refused-requires-3
-    returns-3
-    returns-4)
+    answer-requires
+    returns-3)

@@ -12,7 +12,6 @@ use Rattle.rules.proofs.Laws.{stops, either}
 use Rattle.code.specs.declared.repair.Repaired.{Repaired}
 use Rattle.code.specs.declared.repair.Repaired.the-variants as repaired
 use Rattle.code.specs.declared.lane.Lane.{Lane}
-use Rattle.code.specs.declared.lane.LaneRepair.{LaneRepair}
 use Rattle.code.specs.Word.{wordMost}
 use Rattle.code.specs.Repair.{repairedNumbers, repairing, Repairs, RepairsAs}
 use Rattle.code.specs.Lane.{laneMost, wordOf, LaneRepairsAs}
@@ -69,8 +68,3 @@ module _ (lane marks : Lane) where
         same-len = refl;
         past = drop-at x (drop (lane .len) (lane .bytes)) (lane .len) x-long;
       }
-
--- the same, of the words that the lanes hold
-pub lane-as-word : (lane marks : Lane) (r : LaneRepair) (ms old new : List ℕ) → LaneRepairsAs lane marks r → lane .len ≡ length old → marks .len ≡ length ms
-    → wordOf lane ≡ old → wordOf marks ≡ ms → wordOf (r .lane) ≡ new → RepairsAs gf256 laneMost ms old new (r .answer)
-lane-as-word lane marks r ms old new A el em eo es en = rw (← el, ← em, ← eo, ← es, ← en) (A .repairs)

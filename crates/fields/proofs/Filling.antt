@@ -1,6 +1,6 @@
 -- Bits that are not set, byte by byte.
 use mathlib.Core.Path.{_≡_, refl, sym, ap, _∙_, subst}
-use mathlib.Core.Bool.{Bool, true, false}
+use mathlib.Core.Bool.{Bool}
 use mathlib.Core.Logic.{⊎-elim}
 use mathlib.Core.List.{List}
 use Prim.Native.Nat.{ℕ, zero, suc, _+_, _*_, _-_, _/_, _%_, _^_, _≤_, _<_}
@@ -9,6 +9,7 @@ use native.Mathlib.Omega.{arith}
 use lib.ListN.{length, getD}
 use Rattle.rules.specs.Says.{Says}
 use Rattle.rules.proofs.Numbers.{lt-or-ge}
+use Rattle.rules.proofs.Tests.{says-as}
 use Rattle.level.specs.Record.{bitAt, fieldAt}
 use Rattle.level.proofs.Windows.{within-byte}
 
@@ -74,5 +75,4 @@ module _ (bs : List ℕ) (from : ℕ) where
 
     pub rest-is : (b : Bool) → getD bs (from / 8) 0 % 2 ^ (8 - from % 8) ≡ 0
         → Says b ((q : ℕ) → from / 8 + 1 ≤ q → q < length bs → getD bs q 0 ≡ 0) → Says b Blank
-    rest-is true e z = rest-blank e z
-    rest-is false e n = λ f. n (rest-zero f)
+    rest-is b e = says-as ((q : ℕ) → from / 8 + 1 ≤ q → q < length bs → getD bs q 0 ≡ 0) Blank b (rest-blank e) rest-zero

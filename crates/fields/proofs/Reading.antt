@@ -1,6 +1,6 @@
 -- A record read: its fields from its bytes.
 use mathlib.Core.Path.{_≡_, sym, ap, _∙_, subst}
-use mathlib.Core.Bool.{Bool, true, false}
+use mathlib.Core.Bool.{Bool}
 use mathlib.Core.Logic.{⊎-elim}
 use mathlib.Core.List.{List}
 use Prim.Native.Nat.{ℕ, _+_, _*_, _-_, _/_, _%_, _≤_, _<_}
@@ -8,6 +8,7 @@ use native.Mathlib.Nat.{eq-or-lt-of-le, mul-le-mul, le-trans, div-le-self}
 use native.Mathlib.Omega.{arith}
 use lib.ListN.{length, getD}
 use Rattle.rules.specs.Says.{Says}
+use Rattle.rules.proofs.Tests.{says-as}
 use Rattle.level.specs.Record.{bitAt, fieldAt}
 use Rattle.level.specs.Strip.{columns}
 use Rattle.level.specs.Reading.{Shaped}
@@ -35,8 +36,10 @@ range-more P from k old new q a b = ⊎-elim (λ e. subst P (sym e) new) (λ l. 
 -- the blank part
 pub blank-is : (b : Bool) (R m : ℕ) (bs : List ℕ) → m ≡ fieldAt bs 4 5 * fieldAt bs 9 5 → length bs ≡ R * columns R (3 + (3 * m + 7) / 8)
     → Says b ((p : ℕ) → 24 + 3 * m ≤ p → p < 8 * length bs → bitAt bs p ≡ 0) → Says b (Shaped R bs)
-blank-is true R m bs e f h = record { fits = f ∙ ap (λ (n : ℕ). R * columns R (3 + (3 * n + 7) / 8)) e; filling = λ p a b. h p (omega arith) b }
-blank-is false R m bs e f h = λ z. h (λ p a b. z .filling p (omega arith) b)
+blank-is b R m bs e f =
+    says-as ((p : ℕ) → 24 + 3 * m ≤ p → p < 8 * length bs → bitAt bs p ≡ 0) (Shaped R bs) b
+    (λ h. record { fits = f ∙ ap (λ (n : ℕ). R * columns R (3 + (3 * n + 7) / 8)) e; filling = λ p a l. h p (omega arith) l })
+    (λ s p a l. s .filling p (omega arith) l)
 
 pub misfits : (R m : ℕ) (bs : List ℕ) → m ≡ fieldAt bs 4 5 * fieldAt bs 9 5 → (length bs ≡ R * columns R (3 + (3 * m + 7) / 8) → ⊥) → Shaped R bs → ⊥
 misfits R m bs e n s = n (s .fits ∙ ap (λ (k : ℕ). R * columns R (3 + (3 * k + 7) / 8)) (sym e))

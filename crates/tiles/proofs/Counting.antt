@@ -15,7 +15,7 @@ use Rattle.tiles.specs.Part.{tilesFrom, threeAt}
 use Rattle.tiles.specs.Sum.{weighed, weight, PartSummed, addsAt, Counted, pairsOf, triplesOf}
 use Rattle.tiles.specs.Word.{wordAt}
 use Rattle.tiles.proofs.Digits.{three-groups}
-use Rattle.tiles.proofs.Eight.{eight, eight-at, six-1, last-1, first-1, six-2, last-2, first-2, six-3, last-3, first-3, first-4, last-4}
+use Rattle.tiles.proofs.Eight.{eight, eight-at, four-pairs}
 
 -- one pair more
 pub pairs-next : (w : ℕ → ℕ) (n u : ℕ) → 0 < n → pairsOf w n u ≡ w (u % 64 / 8) + w (u % 64 % 8) + pairsOf w (n - 1) (u / 64)
@@ -46,25 +46,12 @@ triples-none w zero v h = refl
 triples-none w (suc n) v h = absurd (omega arith)
 
 -- the four pairs of three bytes are their eight tiles
-four-pairs : (w : ℕ → ℕ) (x y z : ℕ) → x < 256 → y < 256 → z < 256
+pairs-eight : (w : ℕ → ℕ) (x y z : ℕ) → x < 256 → y < 256 → z < 256
     → pairsOf w 4 (x * 65536 + y * 256 + z)
     ≡ w (x / 32) + w (x / 4 % 8) + w (x % 4 * 2 + y / 128) + w (y / 16 % 8) + w (y / 2 % 8) + w (y % 2 * 4 + z / 64) + w (z / 8 % 8) + w (z % 8)
 unfolding pairsOf
-four-pairs w x y z hx hy hz =
-    let k : z / 64 < 4 = omega arith in
-    rw (
-      first-1 x y z,
-      last-1 x y z,
-      six-1 x y z hz,
-      first-2 x y z (z / 64) k,
-      last-2 x y z (z / 64) k,
-      six-2 x y z (z / 64) k,
-      first-3 x y z hy,
-      last-3 x y z,
-      six-3 x y z hy,
-      first-4 x y z hx,
-      last-4 x y z,
-    ) (omega arith)
+pairs-eight w x y z hx hy hz =
+    four-pairs (λ a b c d e f g h. w a + w b + (w c + w d + (w e + w f + (w g + w h + 0)))) x y z hx hy hz ∙ omega arith
 
 sum-eight : (f : ℕ → ℕ) (n : ℕ)
     → sumOf (n + 8) f ≡ sumOf n f + (f (n + 0) + f (n + 1) + f (n + 2) + f (n + 3) + f (n + 4) + f (n + 5) + f (n + 6) + f (n + 7))
@@ -81,7 +68,7 @@ sum-three w part g x y z ex ey ez hx hy hz =
     ∙ sum-eight (λ t. w (fieldAt part (3 * t) 3)) (8 * g)
     ∙ omega (
       arith,
-      four-pairs w x y z hx hy hz,
+      pairs-eight w x y z hx hy hz,
       at 0 (omega arith),
       at 1 (omega arith),
       at 2 (omega arith),

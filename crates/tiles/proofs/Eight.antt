@@ -36,35 +36,58 @@ eight-at bs g x y z ex ey ez hx hy hz = go
 
 -- digits of three bytes as one number, six bits a step
 module _ (x y z : ℕ) where
-  pub six-1 : z < 256 → (x * 65536 + y * 256 + z) / 64 ≡ x * 1024 + y * 4 + z / 64
+  six-1 : z < 256 → (x * 65536 + y * 256 + z) / 64 ≡ x * 1024 + y * 4 + z / 64
   six-1 h = omega arith
 
-  pub last-1 : (x * 65536 + y * 256 + z) % 64 % 8 ≡ z % 8
+  last-1 : (x * 65536 + y * 256 + z) % 64 % 8 ≡ z % 8
   last-1 = omega arith
 
-  pub first-1 : (x * 65536 + y * 256 + z) % 64 / 8 ≡ z / 8 % 8
+  first-1 : (x * 65536 + y * 256 + z) % 64 / 8 ≡ z / 8 % 8
   first-1 = omega arith
 
-  pub six-2 : (k : ℕ) → k < 4 → (x * 1024 + y * 4 + k) / 64 ≡ x * 16 + y / 16
+  six-2 : (k : ℕ) → k < 4 → (x * 1024 + y * 4 + k) / 64 ≡ x * 16 + y / 16
   six-2 k h = omega arith
 
-  pub last-2 : (k : ℕ) → k < 4 → (x * 1024 + y * 4 + k) % 64 % 8 ≡ y % 2 * 4 + k
+  last-2 : (k : ℕ) → k < 4 → (x * 1024 + y * 4 + k) % 64 % 8 ≡ y % 2 * 4 + k
   last-2 k h = omega arith
 
-  pub first-2 : (k : ℕ) → k < 4 → (x * 1024 + y * 4 + k) % 64 / 8 ≡ y / 2 % 8
+  first-2 : (k : ℕ) → k < 4 → (x * 1024 + y * 4 + k) % 64 / 8 ≡ y / 2 % 8
   first-2 k h = omega arith
 
-  pub six-3 : y < 256 → (x * 16 + y / 16) / 64 ≡ x / 4
+  six-3 : y < 256 → (x * 16 + y / 16) / 64 ≡ x / 4
   six-3 h = omega arith
 
-  pub last-3 : (x * 16 + y / 16) % 64 % 8 ≡ y / 16 % 8
+  last-3 : (x * 16 + y / 16) % 64 % 8 ≡ y / 16 % 8
   last-3 = omega arith
 
-  pub first-3 : y < 256 → (x * 16 + y / 16) % 64 / 8 ≡ x % 4 * 2 + y / 128
+  first-3 : y < 256 → (x * 16 + y / 16) % 64 / 8 ≡ x % 4 * 2 + y / 128
   first-3 h = omega arith
 
-  pub first-4 : x < 256 → x / 4 % 64 / 8 ≡ x / 32
+  first-4 : x < 256 → x / 4 % 64 / 8 ≡ x / 32
   first-4 h = omega arith
 
-  pub last-4 : x / 4 % 64 % 8 ≡ x / 4 % 8
+  last-4 : x / 4 % 64 % 8 ≡ x / 4 % 8
   last-4 = omega arith
+
+-- what eight tiles are taken to by F, when they come as four pairs of digits of the number of the three bytes, the last pair first
+pub four-pairs : (F : ℕ → ℕ → ℕ → ℕ → ℕ → ℕ → ℕ → ℕ → ℕ) (x y z : ℕ) → x < 256 → y < 256 → z < 256
+    → F ((x * 65536 + y * 256 + z) % 64 / 8) ((x * 65536 + y * 256 + z) % 64 % 8)
+    ((x * 65536 + y * 256 + z) / 64 % 64 / 8) ((x * 65536 + y * 256 + z) / 64 % 64 % 8)
+    ((x * 65536 + y * 256 + z) / 64 / 64 % 64 / 8) ((x * 65536 + y * 256 + z) / 64 / 64 % 64 % 8)
+    ((x * 65536 + y * 256 + z) / 64 / 64 / 64 % 64 / 8) ((x * 65536 + y * 256 + z) / 64 / 64 / 64 % 64 % 8)
+    ≡ F (z / 8 % 8) (z % 8) (y / 2 % 8) (y % 2 * 4 + z / 64) (x % 4 * 2 + y / 128) (y / 16 % 8) (x / 32) (x / 4 % 8)
+four-pairs F x y z hx hy hz =
+    let k : z / 64 < 4 = omega arith in
+    rw (
+      first-1 x y z,
+      last-1 x y z,
+      six-1 x y z hz,
+      first-2 x y z (z / 64) k,
+      last-2 x y z (z / 64) k,
+      six-2 x y z (z / 64) k,
+      first-3 x y z hy,
+      last-3 x y z,
+      six-3 x y z hy,
+      first-4 x y z hx,
+      last-4 x y z,
+    )

@@ -14,7 +14,7 @@ use Rattle.level.specs.Record.{fieldAt}
 use Rattle.spreads.specs.Spread.{firstOf, secondOf, thirdOf}
 use Rattle.tiles.specs.Part.{tilesFrom, threeAt}
 use Rattle.tiles.specs.Put.{spreadOf, byteOf, Puts}
-use Rattle.tiles.proofs.Eight.{eight, eight-at, six-1, last-1, first-1, six-2, last-2, first-2, six-3, last-3, first-3, first-4, last-4}
+use Rattle.tiles.proofs.Eight.{eight, eight-at, four-pairs}
 
 -- ---- pairs spread
 
@@ -71,20 +71,8 @@ byte-number (d ∷ ds) (h, b) (suc j) = let e : (d + 256 * numberOf ds) / 256 �
 spread-three : (x y z : ℕ) → x < 256 → y < 256 → z < 256 → spreadOf 4 (x * 65536 + y * 256 + z) 0 ≡ numberOf (eight x y z)
 unfolding spreadOf numberOf
 spread-three x y z hx hy hz =
-    let k : z / 64 < 4 = omega arith in
-    rw (
-      first-1 x y z,
-      last-1 x y z,
-      six-1 x y z hz,
-      first-2 x y z (z / 64) k,
-      last-2 x y z (z / 64) k,
-      six-2 x y z (z / 64) k,
-      first-3 x y z hy,
-      last-3 x y z,
-      six-3 x y z hy,
-      first-4 x y z hx,
-      last-4 x y z,
-    ) (omega arith)
+    four-pairs (λ a b c d e f g h. (((0 * 65536 + (a + 256 * b)) * 65536 + (c + 256 * d)) * 65536 + (e + 256 * f)) * 65536 + (g + 256 * h)) x y z hx hy hz
+    ∙ omega arith
 
 -- the same from what each byte has of them
 pub spread-sum : (x y z : ℕ) → x < 256 → y < 256 → z < 256 → spreadOf 4 (x * 65536 + y * 256 + z) 0 ≡ firstOf x + secondOf y + thirdOf z

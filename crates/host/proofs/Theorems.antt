@@ -43,7 +43,7 @@ word-write-told d old new r E =
     ∙ back-length (writtenNumbers (E .answer)) (record {
       code = few (writing d old) (writtenNumbers (E .answer) .code) tt (E .kept .code);
       value =
-          either (writtenNumbers (E .answer) .value < 512) (writtenNumbers (E .answer) .code)
+          either (writtenNumbers (E .answer) .value < 65536) (writtenNumbers (E .answer) .code)
           (λ z. omega (
             arith,
             E .kept .value z,
@@ -63,7 +63,7 @@ word-test-told w r E =
           (E .answer);
     })
   where
-    small : (a : Tested) → testedNumbers a .value < 512
+    small : (a : Tested) → testedNumbers a .value < 65536
     small tested.Clean = omega arith
     small tested.Damaged = omega arith
     small (tested.Refused c) = omega arith
@@ -87,7 +87,7 @@ record-write-told l old new r E =
     ∙ back-length (writtenNumbers (E .answer)) (record {
       code = few (writingLevel 364 l (length old)) (writtenNumbers (E .answer) .code) tt (E .kept .code);
       value =
-          either (writtenNumbers (E .answer) .value < 512) (writtenNumbers (E .answer) .code)
+          either (writtenNumbers (E .answer) .value < 65536) (writtenNumbers (E .answer) .code)
           (λ z. omega (arith, E .kept .value z, record-fits l (written-is-level l old new (E .answer) (E .kept) z)))
           (λ n. omega (arith, written-zero (E .answer) n));
     })
@@ -98,7 +98,7 @@ strip-write-told l old new r E =
     ∙ back-length (writtenNumbers (E .answer)) (record {
       code = few (writingLevel 384 l (length old)) (writtenNumbers (E .answer) .code) tt (E .kept .code);
       value =
-          either (writtenNumbers (E .answer) .value < 512) (writtenNumbers (E .answer) .code)
+          either (writtenNumbers (E .answer) .value < 65536) (writtenNumbers (E .answer) .code)
           (λ z. omega (arith, E .kept .value z, record-fits l (written-strip-level 4 (omega arith) l old new (E .answer) (E .kept) z)))
           (λ n. omega (arith, written-zero (E .answer) n));
     })

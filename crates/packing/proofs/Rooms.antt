@@ -11,7 +11,7 @@ use Rattle.packing.specs.Packed.{packedLength, packedMended, packedRead,
 
 pub record Room (n : Numbers) : Type 0 where
   pub code : n .code < 32
-  pub value : n .value < 512
+  pub value : n .value < 65536
 
 pub record RepairRoom (n : RepairNumbers) : Type 0 where
   pub code : n .code < 32
@@ -32,10 +32,10 @@ numbers c v = record { code = c; value = v }
 pub back-length : (n : Numbers) → Room n → unpackedLength (packedLength n) ≡ n
 back-length n h = ap₂ (λ (c v : ℕ). numbers c v) low high
   where
-    low : (n .code % 32 + n .value % 512 * 2 ^ 55) % 32 ≡ n .code
+    low : (n .code % 32 + n .value % 65536 * 2 ^ 48) % 32 ≡ n .code
     low = omega (arith, h .code)
 
-    high : (n .code % 32 + n .value % 512 * 2 ^ 55) / 2 ^ 55 % 512 ≡ n .value
+    high : (n .code % 32 + n .value % 65536 * 2 ^ 48) / 2 ^ 48 % 65536 ≡ n .value
     high = omega (arith, h .code, h .value)
 
 pub back-mended : (n : RepairNumbers) → RepairRoom n → unpackedMended (packedMended n) ≡ n

@@ -10,9 +10,9 @@ use Rattle.level.specs.Reading.{ReadNumbers}
 abbrev pub packedAt : ℕ → ℕ → ℕ → ℕ → ℕ
 packedAt k m code value = code % 32 + value % m * 2 ^ k
 
--- a length, or whether a word is clean: bits 55 to 63
+-- a length, or whether a word is clean: bits 48 to 63
 abbrev pub packedLength : Numbers → ℕ
-packedLength a = packedAt 55 512 (a .code) (a .value)
+packedLength a = packedAt 48 65536 (a .code) (a .value)
 
 -- mended: bits 31 to 36
 abbrev pub packedMended : RepairNumbers → ℕ
@@ -26,7 +26,7 @@ packedRead n =
 
 -- the numbers taken out again, as the header does
 abbrev pub unpackedLength : ℕ → Numbers
-unpackedLength r = record { code = r % 32; value = r / 2 ^ 55 % 512 }
+unpackedLength r = record { code = r % 32; value = r / 2 ^ 48 % 65536 }
 
 abbrev pub unpackedMended : ℕ → RepairNumbers
 unpackedMended r = record { code = r % 32; mended = r / 2 ^ 31 % 64 }

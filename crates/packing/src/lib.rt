@@ -11,11 +11,11 @@ use code::word::Written;
 use record::read::RecordRead;
 use strip::read::Reading;
 
-// A code in the lowest five bits, and a value from bit 55 on.
+// A code in the lowest five bits, and a value from bit 48 on.
 fn pack_length(code: u8, value: usize) -> u64
-    ensures { λ r. ⌜ r ≡ packedAt 55 512 code value ⌝ }
+    ensures { λ r. ⌜ r ≡ packedAt 48 65536 code value ⌝ }
 {
-    (code % 32) as u64 + ((value % 512) as u64) * 36028797018963968
+    (code % 32) as u64 + ((value % 65536) as u64) * 281474976710656
 }
 
 // A code in the lowest five bits, and the mended count from bit 31 on.

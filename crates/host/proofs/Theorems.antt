@@ -12,47 +12,53 @@ use Rattle.rules.specs.Refusal.{Rule, First}
 use Rattle.rules.proofs.Laws.{between, at-most, all-hold, either}
 use Rattle.code.specs.Word.{writtenNumbers, testedNumbers, writing, testing}
 use Rattle.code.specs.Repair.{repairedNumbers, repairing}
+use Rattle.code.specs.declared.word.Written.{Written}
 use Rattle.code.specs.declared.word.Tested.{Tested}
 use Rattle.code.specs.declared.word.Tested.the-variants as tested
 use Rattle.code.proofs.Answers.{written-zero, repaired-zero}
-use Rattle.level.specs.Level.{Level}
-use Rattle.level.specs.Reading.{readingRecord, entering, mending}
+use Rattle.level.specs.Level.{Level, IsLevel}
+use Rattle.level.specs.Reading.{readingRecord, entering, mending, returned}
 use Rattle.level.specs.Writing.{writingLevel}
-use Rattle.record.specs.Reading.{recordNumbers, RecordReadsAs}
+use Rattle.record.specs.Reading.{recordNumbers}
 use Rattle.record.specs.declared.read.RecordRead.{RecordRead}
 use Rattle.record.specs.declared.read.RecordRead.the-variants as recordRead
 use Rattle.record.proofs.Theorems.{written-is-level}
+use Rattle.text.specs.Reading.{readingText}
+use Rattle.text.proofs.Written.{text-short}
+use Rattle.text.proofs.Theorems.{written-text-level}
 use Rattle.strip.specs.Reading.{stripNumbers, StripReadsAs}
 use Rattle.strip.specs.declared.read.Reading.{Reading}
 use Rattle.strip.proofs.Laid.{record-fits}
 use Rattle.strip.proofs.Reader.{zeros}
 use Rattle.strip.proofs.Theorems.{written-strip-level, mended-most, wear-most}
 use Rattle.packing.specs.Packed.{unpackedLength, unpackedMended, unpackedRead}
-use Rattle.packing.proofs.Rooms.{ReadRoom, back-length, back-mended, back-read}
-use Rattle.host.specs.Export.{WriteExport, TestExport, RepairExport, RecordExport, RecordReadExport, StripExport, StripReadExport}
+use Rattle.packing.proofs.Rooms.{Room, ReadRoom, back-length, back-mended, back-read}
+use Rattle.host.specs.Export.{WriteExport, TestExport, RepairExport, RecordExport, RecordReadExport, TextExport, TextReadExport, StripExport, StripReadExport}
 
 -- a refusal has room
-few : (rs : List Rule) (c : ℕ) → T (between 1 10 rs) → First rs c → c < 32
-few rs c t f = omega (arith, at-most 10 rs c t f)
+few : (rs : List Rule) (c : ℕ) → T (between 1 31 rs) → First rs c → c < 32
+few rs c t f = omega (arith, at-most 31 rs c t f)
+
+-- a writer's numbers have room where its length has
+written-room : (rs : List Rule) (a : Written) → T (between 1 31 rs) → First rs (writtenNumbers a .code)
+    → (writtenNumbers a .code ≡ 0 → writtenNumbers a .value < 65536) → Room (writtenNumbers a)
+written-room rs a t f h = record {
+  code = few rs (writtenNumbers a .code) t f;
+  value = either (writtenNumbers a .value < 65536) (writtenNumbers a .code) h (λ n. omega (arith, written-zero a n));
+}
 
 -- ---- words
 
 pub word-write-told : (d old new : List ℕ) (r : ℕ) (E : WriteExport d old new r) → unpackedLength r ≡ writtenNumbers (E .answer)
 word-write-told d old new r E =
     ap unpackedLength (E .is)
-    ∙ back-length (writtenNumbers (E .answer)) (record {
-      code = few (writing d old) (writtenNumbers (E .answer) .code) tt (E .kept .code);
-      value =
-          either (writtenNumbers (E .answer) .value < 65536) (writtenNumbers (E .answer) .code)
-          (λ z. omega (
-            arith,
-            E .kept .value z,
-            E .kept .word z .size,
-            all-hold 10 (writing d old) (writtenNumbers (E .answer) .code) tt
-                (E .kept .code) z .0 .to,
-          ))
-          (λ n. omega (arith, written-zero (E .answer) n));
-    })
+    ∙ back-length (writtenNumbers (E .answer)) (written-room (writing d old) (E .answer) tt (E .kept .code)
+    (λ z. omega (
+      arith,
+      E .kept .value z,
+      E .kept .word z .size,
+      all-hold 10 (writing d old) (writtenNumbers (E .answer) .code) tt (E .kept .code) z .0 .to,
+    )))
 
 pub word-test-told : (w : List ℕ) (r : ℕ) (E : TestExport w r) → unpackedLength r ≡ testedNumbers (E .answer)
 word-test-told w r E =
@@ -84,32 +90,30 @@ word-repair-told most marks old new r E =
 pub record-write-told : (l : Level) (old new : List ℕ) (r : ℕ) (E : RecordExport l old new r) → unpackedLength r ≡ writtenNumbers (E .answer)
 record-write-told l old new r E =
     ap unpackedLength (E .is)
-    ∙ back-length (writtenNumbers (E .answer)) (record {
-      code = few (writingLevel 364 l (length old)) (writtenNumbers (E .answer) .code) tt (E .kept .code);
-      value =
-          either (writtenNumbers (E .answer) .value < 65536) (writtenNumbers (E .answer) .code)
-          (λ z. omega (arith, E .kept .value z, record-fits l (written-is-level l old new (E .answer) (E .kept) z)))
-          (λ n. omega (arith, written-zero (E .answer) n));
-    })
+    ∙ back-length (writtenNumbers (E .answer)) (written-room (writingLevel 364 l (length old)) (E .answer) tt (E .kept .code)
+    (λ z. omega (arith, E .kept .value z, record-fits l (written-is-level l old new (E .answer) (E .kept) z))))
+
+pub text-write-told : (l : Level) (old new : List ℕ) (r : ℕ) (E : TextExport l old new r) → unpackedLength r ≡ writtenNumbers (E .answer)
+text-write-told l old new r E =
+    ap unpackedLength (E .is)
+    ∙ back-length (writtenNumbers (E .answer)) (written-room (writingLevel 1001 l (length old)) (E .answer) tt (E .kept .code)
+    (λ z. omega (arith, E .kept .value z, text-short l (written-text-level l old new (E .answer) (E .kept) z))))
 
 pub strip-write-told : (l : Level) (old new : List ℕ) (r : ℕ) (E : StripExport 4 l old new r) → unpackedLength r ≡ writtenNumbers (E .answer)
 strip-write-told l old new r E =
     ap unpackedLength (E .is)
-    ∙ back-length (writtenNumbers (E .answer)) (record {
-      code = few (writingLevel 384 l (length old)) (writtenNumbers (E .answer) .code) tt (E .kept .code);
-      value =
-          either (writtenNumbers (E .answer) .value < 65536) (writtenNumbers (E .answer) .code)
-          (λ z. omega (arith, E .kept .value z, record-fits l (written-strip-level 4 (omega arith) l old new (E .answer) (E .kept) z)))
-          (λ n. omega (arith, written-zero (E .answer) n));
-    })
+    ∙ back-length (writtenNumbers (E .answer)) (written-room (writingLevel 384 l (length old)) (E .answer) tt (E .kept .code)
+    (λ z. omega (arith, E .kept .value z, record-fits l (written-strip-level 4 (omega arith) l old new (E .answer) (E .kept) z))))
 
 -- ---- levels read
 
-record-room : (bs old new : List ℕ) (a : RecordRead) → RecordReadsAs bs old new a → ReadRoom (recordNumbers a)
-record-room bs old new (recordRead.Level w h p) A =
-    let l = A .is-level refl .ranged in
+-- the numbers of a level, read from a record or from a text
+level-room : (a : RecordRead) (new : List ℕ) → recordNumbers a .code < 32 → (recordNumbers a .code ≡ 0 → IsLevel (returned (recordNumbers a) new))
+    → ReadRoom (recordNumbers a)
+level-room (recordRead.Level w h p) new f is =
+    let l = is refl .ranged in
     record {
-      code = omega arith;
+      code = f;
       lane = omega arith;
       width = omega (arith, l .sized .not-wider);
       height = omega (arith, l .sized .not-higher);
@@ -117,8 +121,8 @@ record-room bs old new (recordRead.Level w h p) A =
       mended = omega arith;
       wear = omega arith;
     }
-record-room bs old new (recordRead.Refused c) A = record {
-  code = few (readingRecord bs (length old)) c tt (A .code);
+level-room (recordRead.Refused c) new f is = record {
+  code = f;
   lane = omega arith;
   width = omega arith;
   height = omega arith;
@@ -128,7 +132,16 @@ record-room bs old new (recordRead.Refused c) A = record {
 }
 
 pub record-read-told : (bs old new : List ℕ) (r : ℕ) (E : RecordReadExport bs old new r) → unpackedRead r ≡ recordNumbers (E .answer)
-record-read-told bs old new r E = ap unpackedRead (E .is) ∙ back-read (recordNumbers (E .answer)) (record-room bs old new (E .answer) (E .kept))
+record-read-told bs old new r E =
+    ap unpackedRead (E .is)
+    ∙ back-read (recordNumbers (E .answer))
+    (level-room (E .answer) new (few (readingRecord bs (length old)) (recordNumbers (E .answer) .code) tt (E .kept .code)) (E .kept .is-level))
+
+pub text-read-told : (text old new : List ℕ) (r : ℕ) (E : TextReadExport text old new r) → unpackedRead r ≡ recordNumbers (E .answer)
+text-read-told text old new r E =
+    ap unpackedRead (E .is)
+    ∙ back-read (recordNumbers (E .answer))
+    (level-room (E .answer) new (few (readingText text (length old)) (recordNumbers (E .answer) .code) tt (E .kept .code)) (E .kept .is-level))
 
 module _ (s marks tiles tiles' scratch scratch' : List ℕ) (a : Reading) (A : StripReadsAs 4 s marks tiles tiles' scratch scratch' a) where
   code-small : stripNumbers a .code < 32

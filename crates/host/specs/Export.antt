@@ -8,6 +8,8 @@ use Rattle.code.specs.Repair.{repairedNumbers, RepairsAs}
 use Rattle.level.specs.Level.{Level}
 use Rattle.record.specs.Writing.{RecordWritesAs}
 use Rattle.record.specs.Reading.{recordNumbers, RecordReadsAs}
+use Rattle.text.specs.Writing.{TextWritesAs}
+use Rattle.text.specs.Reading.{TextReadsAs}
 use Rattle.strip.specs.Writing.{StripWritesAs}
 use Rattle.strip.specs.Reading.{stripNumbers, StripReadsAs}
 use Rattle.packing.specs.Packed.{packedLength, packedMended, packedRead}
@@ -33,6 +35,12 @@ RecordExport l old new = Export (RecordWritesAs l old new) (λ a. packedLength (
 
 abbrev pub RecordReadExport : List ℕ → List ℕ → List ℕ → ℕ → Type 0
 RecordReadExport bs old new = Export (RecordReadsAs bs old new) (λ a. packedRead (recordNumbers a))
+
+abbrev pub TextExport : Level → List ℕ → List ℕ → ℕ → Type 0
+TextExport l old new = Export (TextWritesAs l old new) (λ a. packedLength (writtenNumbers a))
+
+abbrev pub TextReadExport : List ℕ → List ℕ → List ℕ → ℕ → Type 0
+TextReadExport text old new = Export (TextReadsAs text old new) (λ a. packedRead (recordNumbers a))
 
 abbrev pub StripExport : ℕ → Level → List ℕ → List ℕ → ℕ → Type 0
 StripExport R l old new = Export (StripWritesAs R l old new) (λ a. packedLength (writtenNumbers a))

@@ -8,7 +8,7 @@ ghost use Rattle.code.specs.Word.{wordMost};
 ghost use Rattle.code.specs.Lane.{laneMost, wordOf};
 ghost use Rattle.level.specs.Writing.{lent};
 ghost use Rattle.packing.specs.Packed.{packedSums};
-ghost use Rattle.host.specs.Export.{WriteExport, TestExport, RepairExport, RecordExport, RecordReadExport, StripExport, StripReadExport};
+ghost use Rattle.host.specs.Export.{WriteExport, TestExport, RepairExport, RecordExport, RecordReadExport, TextExport, TextReadExport, StripExport, StripReadExport};
 use code::lane::LANE_MOST;
 use code::lane::Lane;
 use code::repair::Repaired;
@@ -142,6 +142,28 @@ pub extern "C" fn zav_record_read(record: &[u8], tiles: &mut [u8]) -> u64
     ensures { λ r. ⌜ RecordReadExport (now («record» .entry)) (now (tiles .entry)) (now (tiles .exit)) r ⌝ }
 {
     packing::pack_level(record::read::read(record, tiles))
+}
+
+// Writes the text of a level.
+#[no_mangle]
+pub extern "C" fn zav_text_write(
+    width: usize,
+    height: usize,
+    par: usize,
+    tiles: &[u8],
+    text: &mut [u8],
+) -> u64
+    ensures { λ r. ⌜ TextExport (lent width height par (now (tiles .entry))) (now (text .entry)) (now (text .exit)) r ⌝ }
+{
+    packing::pack_written(text::write::write(width, height, par, tiles, text))
+}
+
+// Reads a text.
+#[no_mangle]
+pub extern "C" fn zav_text_read(text: &[u8], tiles: &mut [u8]) -> u64
+    ensures { λ r. ⌜ TextReadExport (now (text .entry)) (now (tiles .entry)) (now (tiles .exit)) r ⌝ }
+{
+    packing::pack_level(text::read::read(text, tiles))
 }
 
 // Writes the strip of a level.

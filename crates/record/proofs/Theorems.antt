@@ -107,25 +107,25 @@ two-refusals (read.Level w h p) b m n e = absurd (m refl)
 two-refusals (read.Refused c) (read.Level w h p) m n e = absurd (n refl)
 two-refusals (read.Refused c) (read.Refused d) m n e = ap (λ (k : ℕ). refusedAt k 0) e
 
--- The promise of the reader fixes every number and byte.
-pub record-reads-fixed : (bs old u v : List ℕ) (a b : RecordRead) → RecordReadsAs bs old u a → RecordReadsAs bs old v b
-    → (u ≡ v) × (recordNumbers a ≡ recordNumbers b)
-record-reads-fixed bs old u v a b A B = (
-  either (u ≡ v) (recordNumbers a .code) (λ z. alike z) (λ n. A .kept n ∙ sym (B .kept (other n))),
+-- Two answers with one code and, where that is 0, one level have the same numbers, and leave the same bytes.
+pub returned-fixes : (old u v : List ℕ) (a b : RecordRead) → recordNumbers a .code ≡ recordNumbers b .code
+    → (recordNumbers a .code ≡ 0 → recordNumbers b .code ≡ 0 → returned (recordNumbers a) u ≡ returned (recordNumbers b) v)
+    → (recordNumbers a .code ≡ 0
+        → drop (recordNumbers a .width * recordNumbers a .height) u ≡ drop (recordNumbers a .width * recordNumbers a .height) old)
+    → (recordNumbers b .code ≡ 0
+        → drop (recordNumbers b .width * recordNumbers b .height) v ≡ drop (recordNumbers b .width * recordNumbers b .height) old)
+    → (recordNumbers a .code ≢ 0 → u ≡ old) → (recordNumbers b .code ≢ 0 → v ≡ old) → (u ≡ v) × (recordNumbers a ≡ recordNumbers b)
+returned-fixes old u v a b codes one past-a past-b kept-a kept-b = (
+  either (u ≡ v) (recordNumbers a .code) alike (λ n. kept-a n ∙ sym (kept-b (other n))),
   either (recordNumbers a ≡ recordNumbers b) (recordNumbers a .code) (λ z. numbers-of a u ∙ ap₂ made codes (level z) ∙ sym (numbers-of b v))
       (λ n. two-refusals a b n (other n) codes),
 )
   where
-    codes : recordNumbers a .code ≡ recordNumbers b .code
-    codes = first-fixes (readingRecord bs (length old)) (recordNumbers a .code) (recordNumbers b .code) (A .code) (B .code)
-
     other : recordNumbers a .code ≢ 0 → recordNumbers b .code ≢ 0
     other n z = n (codes ∙ z)
 
     level : recordNumbers a .code ≡ 0 → returned (recordNumbers a) u ≡ returned (recordNumbers b) v
-    level z =
-        record-injective (returned (recordNumbers a) u) (returned (recordNumbers b) v) bs (A .is-level z) (B .is-level (sym codes ∙ z)) (A .is-record z)
-        (B .is-record (sym codes ∙ z))
+    level z = one z (sym codes ∙ z)
 
     area : recordNumbers a .code ≡ 0 → recordNumbers a .width * recordNumbers a .height ≡ recordNumbers b .width * recordNumbers b .height
     area z = ap (λ (l : Level). l .width * l .height) (level z)
@@ -134,5 +134,13 @@ record-reads-fixed bs old u v a b A B = (
     alike z =
         sym (take-append-drop (recordNumbers a .width * recordNumbers a .height) u)
         ∙ ap₂ (λ (x y : List ℕ). x ++ y) (ap (λ (l : Level). l .tiles) (level z))
-        (A .past z ∙ ap (λ (n : ℕ). drop n old) (area z) ∙ sym (B .past (sym codes ∙ z)))
+        (past-a z ∙ ap (λ (n : ℕ). drop n old) (area z) ∙ sym (past-b (sym codes ∙ z)))
         ∙ take-append-drop (recordNumbers b .width * recordNumbers b .height) v
+
+-- The promise of the reader fixes every number and byte.
+pub record-reads-fixed : (bs old u v : List ℕ) (a b : RecordRead) → RecordReadsAs bs old u a → RecordReadsAs bs old v b
+    → (u ≡ v) × (recordNumbers a ≡ recordNumbers b)
+record-reads-fixed bs old u v a b A B =
+    returned-fixes old u v a b (first-fixes (readingRecord bs (length old)) (recordNumbers a .code) (recordNumbers b .code) (A .code) (B .code))
+    (λ y z. record-injective (returned (recordNumbers a) u) (returned (recordNumbers b) v) bs (A .is-level y) (B .is-level z) (A .is-record y) (B .is-record z))
+    (A .past) (B .past) (A .kept) (B .kept)

@@ -1,0 +1,5 @@
+pub mod Judging
+pub mod Reading
+pub mod Written
+pub mod Writing
+pub mod Theorems

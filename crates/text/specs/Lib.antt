@@ -1,0 +1,3 @@
+pub mod Reading
+pub mod Writing
+pub mod Parts

@@ -1,0 +1,29 @@
+-- Parts: rows judged, and a text put.
+use mathlib.Core.Path.{_≡_}
+use mathlib.Core.List.{List, _++_}
+use Prim.Native.Nat.{ℕ, _*_}
+use lib.ListN.{length, drop}
+use Rattle.rules.specs.Refusal.{First, asked}
+use Rattle.level.specs.Level.{Level, IsLevel}
+use Rattle.record.specs.declared.read.RecordRead.{RecordRead}
+use Rattle.record.specs.Reading.{recordNumbers}
+use Rattle.typed.specs.Text.{joined, Rows, longest, board, levelTyped, textOf}
+use Rattle.text.specs.Reading.{typing}
+
+-- rows judged, and their tiles written where nothing is refused
+pub record RowsReadAs (par : ℕ) (body old new : List ℕ) (a : RecordRead) : Type 0 where
+  pub rows : List (List ℕ)
+  pub letters : Rows rows
+  pub is : body ≡ joined rows
+  pub code : First (asked (λ ask. ask (levelTyped par rows)) typing) (recordNumbers a .code)
+  pub is-level : recordNumbers a .code ≡ 0 → IsLevel (levelTyped par rows)
+  pub width : recordNumbers a .code ≡ 0 → recordNumbers a .width ≡ longest rows
+  pub height : recordNumbers a .code ≡ 0 → recordNumbers a .height ≡ length rows
+  pub par-is : recordNumbers a .code ≡ 0 → recordNumbers a .par ≡ par
+  pub tiles : recordNumbers a .code ≡ 0 → new ≡ board (longest rows) rows ++ drop (longest rows * length rows) old
+  pub kept : (recordNumbers a .code ≡ 0 → ⊥) → new ≡ old
+
+-- the text of a level put in front of a buffer, its length told
+pub record TextPut (l : Level) (old new : List ℕ) (n : ℕ) : Type 0 where
+  pub size : n ≡ length (textOf l)
+  pub text : new ≡ textOf l ++ drop n old

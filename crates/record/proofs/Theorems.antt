@@ -111,9 +111,9 @@ two-refusals (read.Refused c) (read.Refused d) m n e = ap (λ (k : ℕ). refused
 pub returned-fixes : (old u v : List ℕ) (a b : RecordRead) → recordNumbers a .code ≡ recordNumbers b .code
     → (recordNumbers a .code ≡ 0 → recordNumbers b .code ≡ 0 → returned (recordNumbers a) u ≡ returned (recordNumbers b) v)
     → (recordNumbers a .code ≡ 0
-        → drop (recordNumbers a .width * recordNumbers a .height) u ≡ drop (recordNumbers a .width * recordNumbers a .height) old)
+    → drop (recordNumbers a .width * recordNumbers a .height) u ≡ drop (recordNumbers a .width * recordNumbers a .height) old)
     → (recordNumbers b .code ≡ 0
-        → drop (recordNumbers b .width * recordNumbers b .height) v ≡ drop (recordNumbers b .width * recordNumbers b .height) old)
+    → drop (recordNumbers b .width * recordNumbers b .height) v ≡ drop (recordNumbers b .width * recordNumbers b .height) old)
     → (recordNumbers a .code ≢ 0 → u ≡ old) → (recordNumbers b .code ≢ 0 → v ≡ old) → (u ≡ v) × (recordNumbers a ≡ recordNumbers b)
 returned-fixes old u v a b codes one past-a past-b kept-a kept-b = (
   either (u ≡ v) (recordNumbers a .code) alike (λ n. kept-a n ∙ sym (kept-b (other n))),

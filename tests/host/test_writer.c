@@ -21,12 +21,12 @@ static const uint8_t worked_text[] = {'p', 'a', 'r', ' ', '5', '\n',
                                       '*', '@', '\n'};
 
 const struct writer writers[WRITERS] = {
-    {"record writer", zav_record_write, ref_record_write, REF_RECORD_MAX,
-     worked_record, sizeof worked_record},
-    {"strip writer", zav_strip_write, ref_strip_write, REF_STRIP_MAX,
-     worked_strip, sizeof worked_strip},
-    {"text writer", zav_text_write, ref_text_write, REF_TEXT_MAX, worked_text,
-     sizeof worked_text},
+    [RECORD_WRITER] = {"record writer", zav_record_write, ref_record_write,
+                       REF_RECORD_MAX, worked_record, sizeof worked_record},
+    [STRIP_WRITER] = {"strip writer", zav_strip_write, ref_strip_write,
+                      REF_STRIP_MAX, worked_strip, sizeof worked_strip},
+    [TEXT_WRITER] = {"text writer", zav_text_write, ref_text_write,
+                     REF_TEXT_MAX, worked_text, sizeof worked_text},
 };
 
 void check_writing(const struct writer *entry, const struct board *b,

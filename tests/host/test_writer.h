@@ -20,7 +20,7 @@ struct writer {
     size_t worked_len;
 };
 
-enum { WRITERS = 3 };
+enum { RECORD_WRITER, STRIP_WRITER, TEXT_WRITER, WRITERS };
 extern const struct writer writers[WRITERS];
 
 /* Room for what is written and for bytes past it. */

@@ -10,5 +10,6 @@ struct ref_result check_text(const uint8_t *text, size_t len,
                              size_t tiles_len);
 
 void test_text(void);
+void test_text_picked(void);
 
 #endif

@@ -367,6 +367,7 @@ int main(int argc, char **argv)
     for (size_t e = 0; e < WRITERS; e++)
         test_writer(&writers[e]);
     test_record();
+    test_text_picked();
     test_text();
     test_strip();
     test_strip_entry();

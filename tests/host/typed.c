@@ -62,7 +62,8 @@ void type_rows(struct typed *t, const struct board *b)
     for (size_t y = 0; y < b->height; y++) {
         const uint8_t *row = b->tiles + y * b->width;
 
-        type_tiles(t, row, y == whole ? b->width : without_floor(row, b->width));
+        type_tiles(t, row,
+                   y == whole ? b->width : without_floor(row, b->width));
         type_byte(t, '\n', 1);
     }
 }

@@ -208,16 +208,15 @@ static void test_every_number(void)
     for (unsigned n = 0; n < 11000; n++)
         for (int digits = 1; digits <= 5; digits++) {
             struct typed t = {.len = 0};
-            const int len = sprintf(words, "%0*u", digits, n);
-            const bool plain = digits == 1 || words[0] != '0' || len == 1;
 
+            sprintf(words, "%0*u", digits, n);
             if (digits > 1 && words[0] != '0')
                 continue; /* this one was there already */
             type_words(&t, "par ");
             type_words(&t, words);
             type_words(&t, "\n*@\n");
             check_number(check_typed(&t).code,
-                         plain && n <= REF_PAR_MAX ? 0 : 11, words);
+                         digits == 1 && n <= REF_PAR_MAX ? 0 : 11, words);
         }
     group_end();
 }
@@ -277,7 +276,8 @@ static void test_every_slip(void)
     struct typed right = {.len = 0};
 
     group_begin(name, "every byte in every place of a text");
-    type_words(&right, "par 102\n#@ \n-$\n..*+\n");
+    type_words(&right, "par 102\n#+ \n-$\n.$*\n");
+    check_number(check_typed(&right).code, 0, "without a slip");
     for (size_t place = 0; place < right.len; place++) {
         struct typed t = right;
 

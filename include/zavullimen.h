@@ -1,5 +1,5 @@
 /*
- * zavullimen.h - the whole library: strips, records, words and lanes.
+ * zavullimen.h - the whole library: strips, records, texts, words and lanes.
  *
  * Games need zav_strip_write and zav_strip_read. C-INTERFACE.md has all
  * functions, the buffers and the packed results, FORMAT.md what each function
@@ -12,6 +12,7 @@
 #include "zavullimen_words.h"
 #include "zavullimen_records.h"
 #include "zavullimen_strips.h"
+#include "zavullimen_texts.h"
 
 /*
  * The version of this header and of the library that was installed with it.
@@ -22,9 +23,9 @@
  * field in bits that were zero, a refusal) and callers can stay as they are.
  * PATCH is raised when neither is: words, speed, the build.
  */
-#define ZAV_VERSION_MAJOR 0
-#define ZAV_VERSION_MINOR 1
+#define ZAV_VERSION_MAJOR 1
+#define ZAV_VERSION_MINOR 0
 #define ZAV_VERSION_PATCH 0
-#define ZAV_VERSION_STRING "0.1.0"
+#define ZAV_VERSION_STRING "1.0.0"
 
 #endif

@@ -41,7 +41,9 @@ enum zav_result_code {
     ZAV_OUT_OF_RANGE = 7,
     ZAV_BAD_SIZE = 8,
     ZAV_BAD_TILE = 9,
-    ZAV_NOT_PLAYABLE = 10
+    ZAV_NOT_PLAYABLE = 10,
+    ZAV_BAD_TEXT = 11,
+    ZAV_BAD_ROWS = 12
 };
 
 /* What a code says, for people; the text may change, the code does not. */
@@ -70,16 +72,27 @@ static inline const char *zav_refusal_text(unsigned code)
         return "there is no such tile code";
     case ZAV_NOT_PLAYABLE:
         return "not one player, no crate, or crates and goals unequal";
+    case ZAV_BAD_TEXT:
+        return "the first line says no par from 0 to 1023, a letter is no "
+               "tile, or the last line feed is missing";
+    case ZAV_BAD_ROWS:
+        return "no row, more than 31 rows, or a longest row of 0 or of more "
+               "than 31 tiles";
     default:
         return "unknown refusal";
     }
 }
 
 /*
- * Results are packed in one number: the code in bits 0 to 4, mended in bits
- * 31 to 36, length in bits 55 to 63, and what the other headers name; all
- * other bits are zero. With a refusal everything but the code is zero, and
- * of a strip beyond reach the lane.
+ * Results are packed in one number: the code in bits 0 to 4 and, above it, what
+ * the function returns. The repairs and the strip reader have mended in bits
+ * 31 to 36; the other fields of readers are in the headers of their readers.
+ * The writers and the word test have a length in bits 48 to 63, and nothing
+ * else. Readers have other fields in some of these bits, so take a result
+ * apart by what its function returns: zav_length of a reader's result means
+ * nothing, nor does a reader's field of a writer's. All other bits are zero.
+ * With a refusal everything but the code is zero, and of a strip beyond reach
+ * the lane.
  */
 static inline unsigned zav_code(uint64_t result)
 {
@@ -93,7 +106,7 @@ static inline unsigned zav_mended(uint64_t result)
 
 static inline unsigned zav_length(uint64_t result)
 {
-    return (unsigned)(result >> 55);
+    return (unsigned)(result >> 48);
 }
 
 /*

@@ -108,11 +108,17 @@ void print_name(FILE *out, const char *name)
     }
 }
 
-int complain(const char *tool, const char *name, const char *why)
+void begin_complaint(const char *tool, const char *name)
 {
     fprintf(stderr, "%s: ", tool);
     print_name(stderr, name);
-    fprintf(stderr, ": %s\n", why);
+    fputs(": ", stderr);
+}
+
+int complain(const char *tool, const char *name, const char *why)
+{
+    begin_complaint(tool, name);
+    fprintf(stderr, "%s\n", why);
     return NOT_RUN;
 }
 

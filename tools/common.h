@@ -15,8 +15,8 @@ enum { FINE = 0, REFUSED = 1, NOT_RUN = 2 };
 /* Whether help is all that is asked for: --help or -h. */
 bool wants_help(int argc, char **argv);
 
-/* By tile code: floor, wall, crate, goal, crate on goal, player, and player
- * on goal. */
+/* By tile code, as they are shown: floor, wall, crate, goal, crate on goal,
+ * player, and player on goal. In a text - is floor too. */
 extern const char letters[];
 enum { TILE_CODES = 7 };
 
@@ -48,6 +48,9 @@ void print_refusal(FILE *out, uint64_t result);
 /* A name from outside. Control characters, those that turn the direction of a
  * line, and bytes that are no UTF-8 become '?'. */
 void print_name(FILE *out, const char *name);
+
+/* "tool: name: " on standard error. */
+void begin_complaint(const char *tool, const char *name);
 
 /* "tool: name: why" on standard error; returns NOT_RUN. */
 int complain(const char *tool, const char *name, const char *why);

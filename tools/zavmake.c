@@ -1,122 +1,96 @@
 /*
- * zavmake.c - make the strip of a level drawn in text.
+ * zavmake.c - make the strip of a level that was typed as text.
  *
- * zavmake WIDTH HEIGHT PAR TILES-FILE writes the level's strip followed by as
- * many zero marks to standard output: what zavshow reads. The file has HEIGHT
- * rows of WIDTH letters: space floor, # wall, $ crate, . goal, * crate on
- * goal, @ player, + player on goal. Nothing is written but whole strips. The
- * help below says how it ends.
+ * zavmake [FILE] reads a text from the file or from standard input, and writes
+ * the level's strip followed by as many zero marks to standard output: what
+ * zavshow reads. Nothing is written but whole strips. The help below says what
+ * a text is, and how it ends.
  */
-#include <ctype.h>
 #include <errno.h>
 #include <stdlib.h>
 #include <string.h>
 
 #include "common.h"
+#include "slips.h"
 
 static const char tool[] = "zavmake";
 
 static const char help[] =
-    "usage: zavmake WIDTH HEIGHT PAR TILES-FILE > CELLS\n"
-    "Writes the strip of a level, followed by as many zero marks. The file "
-    "has HEIGHT rows\n"
-    "of WIDTH letters: ' #$.*@+' are floor, wall, crate, goal, crate on goal, "
-    "player,\n"
-    "player on goal.\n"
-    "Exit status: 0 a strip was written; 1 the drawing is no level; 2 the "
-    "file could not be\n"
+    "usage: zavmake [FILE] > CELLS\n"
+    "Writes the strip of a level, followed by as many zero marks. FILE is the "
+    "level as text;\n"
+    "without FILE it comes from standard input. The first line is 'par', one "
+    "space and the\n"
+    "par, 0 to 1023; each further line is a row of letters:\n"
+    "  # wall   $ crate   . goal   * crate on goal   @ player   + player on "
+    "goal\n"
+    "  - or space for floor; short rows are filled up with it\n"
+    "Exit status: 0 a strip was written; 1 the text is no level; 2 the input "
+    "could not be\n"
     "read, the output not be written, or the command makes no sense.\n";
 
-/* One tile more than any level has is kept, so that too many are refused. */
-struct drawing {
-    size_t width, height, par;
-    uint8_t tiles[ZAV_TILES_MAX + 1];
-    size_t tiles_len;
+/* ---- the text ---- */
+
+struct text {
+    uint8_t *bytes;
+    size_t len, room;
 };
 
-/* Decimal digits alone. What is too large for any level is left to the
- * library; strtoul gives the largest number then. */
-static bool is_number(const char *text, size_t *number)
+/* False if there is no more memory; errno says so. */
+static bool make_room(struct text *t)
 {
-    for (const char *digit = text; *digit != '\0'; digit++)
-        if (!isdigit((unsigned char)*digit))
-            return false;
-    *number = strtoul(text, NULL, 10);
-    return *text != '\0';
-}
-
-static bool add_tile(struct drawing *d, int letter)
-{
-    const char *found = memchr(letters, letter, TILE_CODES);
-
-    if (found == NULL)
+    if (t->len < t->room)
+        return true;
+    if (t->room > SIZE_MAX / 2) {
+        errno = ENOMEM;
         return false;
-    if (d->tiles_len < sizeof d->tiles)
-        d->tiles[d->tiles_len++] = (uint8_t)(found - letters);
+    }
+
+    const size_t room = t->room > 0 ? 2 * t->room : 4096;
+    uint8_t *bytes = realloc(t->bytes, room);
+
+    if (bytes == NULL)
+        return false;
+    t->bytes = bytes;
+    t->room = room;
     return true;
 }
 
-enum row { ROW, NO_ROW, BAD_ROW };
-
-/* One row of the drawing. The last may lack its line feed. */
-static enum row take_row(struct drawing *d, FILE *file, size_t number)
+/* The whole of it, however long. False if it cannot be read; errno says why. */
+static bool take_text(struct text *t, FILE *file)
 {
-    size_t len = 0;
-    int letter = getc(file);
-
-    if (letter == EOF)
-        return NO_ROW;
-    for (; letter != EOF && letter != '\n'; letter = getc(file), len++)
-        if (!add_tile(d, letter)) {
-            fprintf(stderr, "%s: row %zu: letter %zu stands for no tile\n",
-                    tool, number, len + 1);
-            return BAD_ROW;
-        }
-    if (len != d->width) {
-        fprintf(stderr, "%s: row %zu: %zu tiles and not %zu\n", tool, number,
-                len, d->width);
-        return BAD_ROW;
-    }
-    return ROW;
+    do {
+        if (!make_room(t))
+            return false;
+        t->len += fread(t->bytes + t->len, 1, t->room - t->len, file);
+    } while (!feof(file) && !ferror(file));
+    return !ferror(file);
 }
 
-static int take_rows(struct drawing *d, FILE *file)
+static bool take_text_of(struct text *t, const char *path)
 {
-    size_t rows = 0;
-    enum row row;
-
-    while ((row = take_row(d, file, rows + 1)) == ROW)
-        rows++;
-    if (row == BAD_ROW)
-        return REFUSED;
-    if (!ferror(file) && rows != d->height) {
-        fprintf(stderr, "%s: %zu rows and not %zu\n", tool, rows, d->height);
-        return REFUSED;
-    }
-    return FINE;
-}
-
-static int take_drawing(struct drawing *d, const char *path)
-{
-    FILE *file = fopen(path, "r");
+    FILE *file = fopen(path, "rb");
 
     if (file == NULL)
-        return complain(tool, path, strerror(errno));
+        return false;
 
-    int status = take_rows(d, file);
+    const bool taken = take_text(t, file);
+    const int why = errno;
 
-    if (ferror(file))
-        status = complain(tool, path, strerror(errno));
     fclose(file);
-    return status;
+    errno = why;
+    return taken;
 }
 
-static int write_cells(const struct drawing *d)
+/* ---- the strip ---- */
+
+static int write_cells(uint64_t level, const uint8_t *tiles)
 {
+    const size_t width = zav_width(level), height = zav_height(level);
     uint8_t strip[ZAV_STRIP_MAX];
     static const uint8_t marks[ZAV_STRIP_MAX];
     const uint64_t result =
-        zav_strip_write(d->width, d->height, d->par, d->tiles, d->tiles_len,
+        zav_strip_write(width, height, zav_par(level), tiles, width * height,
                         strip, sizeof strip);
 
     if (zav_code(result) != ZAV_DONE) {
@@ -129,21 +103,40 @@ static int write_cells(const struct drawing *d)
     return FINE;
 }
 
+/* Whether the text is a level is the library's to say; where it went wrong is
+ * looked for only then. */
+static int make(const struct text *t, const char *name)
+{
+    uint8_t tiles[ZAV_TILES_MAX];
+    const uint64_t level =
+        zav_text_read(t->bytes, t->len, tiles, sizeof tiles);
+
+    if (zav_code(level) == ZAV_DONE)
+        return write_cells(level, tiles);
+    begin_complaint(tool, name);
+    print_slip(stderr, t->bytes, t->len, zav_code(level));
+    return REFUSED;
+}
+
 int main(int argc, char **argv)
 {
-    struct drawing d = {.tiles_len = 0};
+    const bool named = argc == 2;
+    const char *name = named ? argv[1] : "standard input";
+    struct text t = {NULL, 0, 0};
+    int status;
 
     if (wants_help(argc, argv)) {
         fputs(help, stdout);
         return finish(tool, FINE);
     }
-    if (argc != 5 || !is_number(argv[1], &d.width) ||
-        !is_number(argv[2], &d.height) || !is_number(argv[3], &d.par)) {
+    if (argc > 2 || (named && argv[1][0] == '-')) {
         fputs(help, stderr);
         return NOT_RUN;
     }
-
-    const int status = take_drawing(&d, argv[4]);
-
-    return status != FINE ? status : finish(tool, write_cells(&d));
+    if (named ? take_text_of(&t, name) : take_text(&t, stdin))
+        status = finish(tool, make(&t, name));
+    else
+        status = complain(tool, name, strerror(errno));
+    free(t.bytes);
+    return status;
 }

@@ -1,15 +1,13 @@
 /*
- * fuzz_strip.c - any bytes, through the readers and writers of records and
- * strips and through the second implementation: they must agree in every
+ * fuzz_strip.c - any bytes, through the readers of records and strips, through
+ * the writers and through the second implementation: they must agree in every
  * number and every byte.
  */
 #include "fuzz_strip.h"
 
-#include <stdio.h>
-#include <stdlib.h>
 #include <string.h>
 
-#include "harness.h"
+#include "fuzz.h"
 #include "pictures.h"
 #include "test_record.h"
 #include "test_writer.h"
@@ -38,16 +36,6 @@ static struct input split(const uint8_t *data, size_t size)
 static size_t least(size_t a, size_t b)
 {
     return a < b ? a : b;
-}
-
-/* A length up to 64 to either side of the usual one, as this byte says with
-   its sign. */
-static size_t length_near(size_t usual, uint8_t byte)
-{
-    const size_t more = byte < 128 ? byte / 2 : 0;
-    const size_t less = byte < 128 ? 0 : (257 - byte) / 2u;
-
-    return usual + more > less ? usual + more - less : 0;
 }
 
 /* The body's byte at this place, or zero. */
@@ -110,7 +98,7 @@ static void try_strip(const struct input *in)
 
 /* ---- records ---- */
 
-static void write_both(const struct input *in, const struct board *b)
+static void write_all(const struct input *in, const struct board *b)
 {
     for (size_t i = 0; i < WRITERS; i++)
         check_writing(&writers[i], b,
@@ -135,7 +123,7 @@ static void try_record(const struct input *in)
     b.par = r.par;
     b.tiles_len = (size_t)r.width * r.height;
     if (r.code == 0)
-        write_both(in, &b);
+        write_all(in, &b);
 }
 
 static void try_writers(const struct input *in)
@@ -150,21 +138,14 @@ static void try_writers(const struct input *in)
                         TILES_ROOM);
     for (size_t i = 0; i < b.tiles_len; i++)
         b.tiles[i] = at(in, i) & 7;
-    write_both(in, &b);
+    write_all(in, &b);
 }
 
-int LLVMFuzzerTestOneInput(const uint8_t *data, size_t size)
+void try_input(const uint8_t *data, size_t size)
 {
     const struct input in = split(data, size);
 
-    group_begin("fuzz", "one input");
     try_strip(&in);
     try_record(&in);
     try_writers(&in);
-    if (group_failed()) {
-        group_end();
-        fflush(stdout);
-        abort();
-    }
-    return 0;
 }

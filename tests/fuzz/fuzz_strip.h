@@ -1,14 +1,11 @@
 /*
- * fuzz_strip.h - one input for the fuzz entry: a head of nine bytes, a body.
+ * fuzz_strip.h - one input for fuzz_strip.c: a head of nine bytes, a body.
  *
  * The body's first half are cells, its second half marks: nine zero bytes and
  * a .cells file make an input. README.md has the whole layout.
  */
 #ifndef FUZZ_STRIP_H
 #define FUZZ_STRIP_H
-
-#include <stddef.h>
-#include <stdint.h>
 
 /* Where the bytes of the head stand. */
 enum { FLAGS_AT, MARKS_AT, TILES_AT, SCRATCH_AT, BUFFER_AT, WIDTH_AT,
@@ -20,7 +17,5 @@ enum {
                       what to damage */
     RAW_TILES = 4  /* the writers are lent the whole body, whatever the size */
 };
-
-int LLVMFuzzerTestOneInput(const uint8_t *data, size_t size);
 
 #endif

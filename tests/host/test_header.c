@@ -8,15 +8,18 @@
 #include "harness.h"
 #include "zavullimen.h"
 
-static const struct ref_result all_set = {
-    .code = 31, .mended = 63, .length = 511, .lane = 15,
+/* Readers and writers share bits, so each is unpacked by its own fields. In
+   both the bits of no field are first set and then clear, to see that the
+   unpackers leave them out. */
+
+static const struct ref_result reader_set = {
+    .code = 31, .mended = 63, .lane = 15,
     .width = 31, .height = 31, .par = 1023, .wear = 63};
 
-static struct ref_result draw_result(void)
+static struct ref_result draw_reader_result(void)
 {
     return (struct ref_result){.code = (unsigned)draw_below(32),
                                .mended = (unsigned)draw_below(64),
-                               .length = (unsigned)draw_below(512),
                                .lane = (unsigned)draw_below(16),
                                .width = (unsigned)draw_below(32),
                                .height = (unsigned)draw_below(32),
@@ -24,12 +27,11 @@ static struct ref_result draw_result(void)
                                .wear = (unsigned)draw_below(64)};
 }
 
-static void check_unpackers(struct ref_result r, uint64_t result)
+static void check_reader_result(struct ref_result r, uint64_t result)
 {
     group_case();
     check_number(zav_code(result), r.code, "code");
     check_number(zav_mended(result), r.mended, "mended");
-    check_number(zav_length(result), r.length, "length");
     check_number(zav_lane(result), r.lane, "lane");
     check_number(zav_width(result), r.width, "width");
     check_number(zav_height(result), r.height, "height");
@@ -37,16 +39,37 @@ static void check_unpackers(struct ref_result r, uint64_t result)
     check_number(zav_wear(result), r.wear, "wear");
 }
 
-/* The bits of no field are first set and then clear, to see that the unpackers
-   leave them out. */
-static void test_unpackers(void)
+static void test_reader_fields(void)
 {
-    group_begin("header", "unpackers");
+    group_begin("header", "unpackers of a reader's fields");
     for (size_t k = 0; k < scaled(30000); k++) {
-        const struct ref_result r = draw_result();
+        const struct ref_result r = draw_reader_result();
 
-        check_unpackers(r, packed(r) | ~packed(all_set));
-        check_unpackers(r, packed(r));
+        check_reader_result(r, packed(r) | ~packed(reader_set));
+        check_reader_result(r, packed(r));
+    }
+    group_end();
+}
+
+static const struct ref_result writer_set = {.code = 31, .length = 65535};
+
+static void check_writer_result(struct ref_result r, uint64_t result)
+{
+    group_case();
+    check_number(zav_code(result), r.code, "code");
+    check_number(zav_length(result), r.length, "length");
+}
+
+/* Every length that there is room for. */
+static void test_writer_fields(void)
+{
+    group_begin("header", "unpackers of a writer's fields");
+    for (unsigned length = 0; length <= writer_set.length; length++) {
+        const struct ref_result r = {.code = (unsigned)draw_below(32),
+                                     .length = length};
+
+        check_writer_result(r, packed(r) | ~packed(writer_set));
+        check_writer_result(r, packed(r));
     }
     group_end();
 }
@@ -57,7 +80,7 @@ static void test_texts(void)
     static const char unknown[] = "unknown refusal";
 
     group_begin("header", "refusals in words");
-    for (unsigned code = 0; code <= 10; code++)
+    for (unsigned code = 0; code <= 12; code++)
         for (unsigned other = 0; other <= 300; other++) {
             const bool same = strcmp(zav_refusal_text(code),
                                      zav_refusal_text(other)) == 0;
@@ -66,7 +89,7 @@ static void test_texts(void)
             if (same != (code == other))
                 group_fail("%u and %u: the same words or not", code, other);
         }
-    for (unsigned code = 11; code <= 300; code++)
+    for (unsigned code = 13; code <= 300; code++)
         if (strcmp(zav_refusal_text(code), unknown) != 0)
             group_fail("%u is no refusal, and has words", code);
     if (strcmp(zav_refusal_text(0), "no refusal") != 0)
@@ -91,6 +114,7 @@ static void test_version(void)
 void test_header(void)
 {
     test_version();
-    test_unpackers();
+    test_reader_fields();
+    test_writer_fields();
     test_texts();
 }

@@ -5,7 +5,7 @@
 #include "reference_strip.h"
 #include "test_repair.h"
 #include "test_writer.h"
-#include "zavullimen_strips.h"
+#include "zavullimen.h"
 
 /* Only refused calls: they write nothing, so read-only zeros can be lent. */
 static void check_huge_word(uint8_t *zeros, uint8_t *more, size_t past)
@@ -43,6 +43,20 @@ static void check_huge_record(uint8_t *zeros, uint8_t *more, size_t past)
     check_number(zav_record_read(zeros, 4, more, past + 4),
                  packed(ref_record_read(zeros, 4, more, past + 4)),
                  "record reader, tile buffer");
+}
+
+/* Zeros are no text (11). A length that is cut would make a long tile buffer
+   too short (4). */
+static void check_huge_text(uint8_t *zeros, uint8_t *more, size_t past)
+{
+    group_case();
+    check_number(zav_text_read(zeros, past + 4, more, REF_TILES_MAX),
+                 packed(ref_text_read(zeros, past + 4, more, REF_TILES_MAX)),
+                 "text reader, text");
+    check_number(zav_text_read(zeros, 4, more, past + REF_TILES_MAX - 1),
+                 packed(ref_text_read(zeros, 4, more,
+                                      past + REF_TILES_MAX - 1)),
+                 "text reader, tile buffer");
 }
 
 /* Tiles past the size, and a buffer that is longer than it need be. */
@@ -103,6 +117,7 @@ static void check_past(struct stretch s, size_t past)
         check_huge_repair(&repairs[e], s.strip, len, s.marks, 10);
     }
     check_huge_record(s.strip, s.tiles, past);
+    check_huge_text(s.strip, s.tiles, past);
     for (size_t e = 0; e < WRITERS; e++)
         check_huge_writer(&writers[e], s.strip, s.tiles, past);
     check_huge_lengths_of_strip(s, past);

@@ -56,7 +56,7 @@ static void check_read_back(const struct reader *entry, const struct board *b)
         entry->writer->run(b->width, b->height, b->par, b->tiles, b->tiles_len,
                            written, sizeof written);
 
-    check_number(entry->read(written, (size_t)(result >> 55), tiles),
+    check_number(entry->read(written, (size_t)(result >> 48), tiles),
                  packed(level), what);
     if (memcmp(tiles, b->tiles, b->tiles_len) != 0)
         group_fail("%s: other tiles were read back", what);

@@ -54,8 +54,8 @@ static uint64_t read_written(const uint8_t *written, size_t len, uint8_t *tiles)
     return zav_record_read(written, len, tiles, REF_TILES_MAX);
 }
 
-static const struct reader reader = {"record reader", 1, &writers[0],
-                                     check_data, read_written};
+static const struct reader reader = {
+    "record reader", 1, &writers[RECORD_WRITER], check_data, read_written};
 
 /* Random bytes, and the front of a level before them or before zeros. */
 static void test_lengths(void)

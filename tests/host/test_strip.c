@@ -26,8 +26,9 @@ static uint64_t read_written(const uint8_t *written, size_t len, uint8_t *tiles)
                           scratch, sizeof scratch);
 }
 
-static const struct reader reader = {"strip reader", REF_LANES, &writers[1],
-                                     check_data, read_written};
+static const struct reader reader = {"strip reader", REF_LANES,
+                                     &writers[STRIP_WRITER], check_data,
+                                     read_written};
 
 /* ---- every legal length ---- */
 
@@ -103,14 +104,15 @@ static void expect(const struct picture *p, struct ref_result result)
 
 static void test_worked_strip(void)
 {
-    struct picture whole = {.strip_len = writers[1].worked_len,
-                            .marks_len = writers[1].worked_len,
+    struct picture whole = {.strip_len = writers[STRIP_WRITER].worked_len,
+                            .marks_len = writers[STRIP_WRITER].worked_len,
                             .tiles_len = REF_TILES_MAX,
                             .scratch_len = REF_SCRATCH_MIN};
     struct picture p;
 
     group_begin(reader.name, "the strip of FORMAT, and its refusals");
-    memcpy(whole.strip, writers[1].worked, writers[1].worked_len);
+    memcpy(whole.strip, writers[STRIP_WRITER].worked,
+           writers[STRIP_WRITER].worked_len);
     expect(&whole, (struct ref_result){.width = 2, .height = 1, .par = 5});
     p = whole;
     p.strip_len = 26;

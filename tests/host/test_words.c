@@ -17,6 +17,7 @@
 #include "test_record.h"
 #include "test_repair.h"
 #include "test_strip.h"
+#include "test_text.h"
 #include "test_writer.h"
 #include "zavullimen_words.h"
 
@@ -366,6 +367,8 @@ int main(int argc, char **argv)
     for (size_t e = 0; e < WRITERS; e++)
         test_writer(&writers[e]);
     test_record();
+    test_text_picked();
+    test_text();
     test_strip();
     test_strip_entry();
     test_strip_damage();

@@ -1,5 +1,5 @@
 /*
- * test_writer.c - the record and strip writers against the second
+ * test_writer.c - the record, strip and text writers against the second
  * implementation.
  */
 #include "test_writer.h"
@@ -10,19 +10,23 @@
 #include "boards.h"
 #include "draw.h"
 #include "harness.h"
-#include "zavullimen_strips.h"
+#include "zavullimen.h"
 
 /* Width 2, height 1, par 5, tiles 4 5. */
 static const uint8_t worked_record[] = {0x11, 0x04, 0x05, 0x94};
 static const uint8_t worked_strip[] = {
     0x11, 0x04, 0x05, 0x94, 0xB2, 0x1F, 0xD1, 0xA4, 0x20, 0xBF, 0x59, 0x07,
     0x20, 0xBF, 0x59, 0x07, 0xB2, 0x1F, 0xD1, 0xA4, 0x11, 0x04, 0x05, 0x94};
+static const uint8_t worked_text[] = {'p', 'a', 'r', ' ', '5', '\n',
+                                      '*', '@', '\n'};
 
 const struct writer writers[WRITERS] = {
-    {"record writer", zav_record_write, ref_record_write, REF_RECORD_MAX,
-     worked_record, sizeof worked_record},
-    {"strip writer", zav_strip_write, ref_strip_write, REF_STRIP_MAX,
-     worked_strip, sizeof worked_strip},
+    [RECORD_WRITER] = {"record writer", zav_record_write, ref_record_write,
+                       REF_RECORD_MAX, worked_record, sizeof worked_record},
+    [STRIP_WRITER] = {"strip writer", zav_strip_write, ref_strip_write,
+                      REF_STRIP_MAX, worked_strip, sizeof worked_strip},
+    [TEXT_WRITER] = {"text writer", zav_text_write, ref_text_write,
+                     REF_TEXT_MAX, worked_text, sizeof worked_text},
 };
 
 void check_writing(const struct writer *entry, const struct board *b,

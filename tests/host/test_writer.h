@@ -1,13 +1,14 @@
 /*
- * test_writer.h - the record and strip writers against the second
+ * test_writer.h - the record, strip and text writers against the second
  * implementation.
  */
 #ifndef TEST_WRITER_H
 #define TEST_WRITER_H
 
 #include "boards.h"
+#include "reference_text.h"
 
-/* The two writers differ in what they write, and in the room for it. */
+/* The writers differ in what they write, and in the room for it. */
 struct writer {
     const char *name;
     uint64_t (*run)(size_t, size_t, size_t, const uint8_t *, size_t, uint8_t *,
@@ -15,15 +16,15 @@ struct writer {
     struct ref_result (*reference)(size_t, size_t, size_t, const uint8_t *,
                                    size_t, uint8_t *, size_t);
     size_t room;           /* the least that the buffer must hold */
-    const uint8_t *worked; /* its worked example, FORMAT 12 */
+    const uint8_t *worked; /* its worked example, FORMAT 12 and 13 */
     size_t worked_len;
 };
 
-enum { WRITERS = 2 };
+enum { RECORD_WRITER, STRIP_WRITER, TEXT_WRITER, WRITERS };
 extern const struct writer writers[WRITERS];
 
 /* Room for what is written and for bytes past it. */
-enum { BUFFER_ROOM = REF_STRIP_MAX + 64 };
+enum { BUFFER_ROOM = REF_TEXT_MAX + 64 };
 
 /* Write a board to a buffer of this length and compare with the second
    implementation, buffers included. */

@@ -1,8 +1,10 @@
 /*
  * second.c - what the tools must say, from the second implementation.
  *
- * second show FILE prints what zavshow must print, and ends as it must.
- * second draw FOLDER COUNT writes so many files for the tools to read.
+ * second show FILE prints what zavshow must print, and ends as it must; second
+ * text FILE the same for zavshow --text, and second make FILE for zavmake.
+ * second draw FOLDER COUNT writes so many files for zavshow and zavscan to
+ * read, and second type FOLDER COUNT so many texts for zavmake.
  */
 #include <stdio.h>
 #include <stdlib.h>
@@ -10,8 +12,44 @@
 
 #include "boards.h"
 #include "draw.h"
+#include "typed.h"
 
 enum { BYTES_ROOM = 2 * REF_STRIP_MAX + 1 };
+
+/* ---- files ---- */
+
+static FILE *open_or_stop(const char *path, const char *how)
+{
+    FILE *file = fopen(path, how);
+
+    if (file == NULL) {
+        perror(path);
+        exit(3);
+    }
+    return file;
+}
+
+static size_t take(const char *path, uint8_t *bytes, size_t room)
+{
+    FILE *file = open_or_stop(path, "rb");
+    const size_t len = fread(bytes, 1, room, file);
+
+    fclose(file);
+    return len;
+}
+
+static int put(const char *folder, size_t number, const char *end,
+               const uint8_t *bytes, size_t len)
+{
+    char path[4096];
+
+    snprintf(path, sizeof path, "%s/%zu.%s", folder, number, end);
+
+    FILE *file = open_or_stop(path, "wb");
+
+    fwrite(bytes, 1, len, file);
+    return fclose(file) != 0;
+}
 
 /* ---- show ---- */
 
@@ -45,15 +83,9 @@ static struct ref_result judge(const uint8_t *bytes, size_t len, uint8_t *tiles)
 static int show(const char *path)
 {
     uint8_t bytes[BYTES_ROOM], tiles[REF_TILES_MAX];
-    FILE *file = fopen(path, "rb");
-
-    if (file == NULL)
-        return 3;
-
-    const size_t len = fread(bytes, 1, sizeof bytes, file);
+    const size_t len = take(path, bytes, sizeof bytes);
     const struct ref_result r = judge(bytes, len, tiles);
 
-    fclose(file);
     if (r.code != 0) {
         printf("refused %u lane %u: %s\n", r.code, r.lane, words[r.code]);
         return 1;
@@ -64,6 +96,54 @@ static int show(const char *path)
     printf("width %u, height %u, par %u, mended %u, wear %u\n", r.width,
            r.height, r.par, r.mended, r.wear);
     return 0;
+}
+
+static int show_text(const char *path)
+{
+    uint8_t bytes[BYTES_ROOM], tiles[REF_TILES_MAX], text[REF_TEXT_MAX];
+    const size_t len = take(path, bytes, sizeof bytes);
+    const struct ref_result r = judge(bytes, len, tiles);
+
+    if (r.code != 0)
+        return 1;
+    fwrite(text, 1, ref_text_write(r.width, r.height, r.par, tiles,
+                                   (size_t)r.width * r.height, text,
+                                   sizeof text).length, stdout);
+    return 0;
+}
+
+/* ---- make ---- */
+
+static int make(const char *path)
+{
+    struct typed t;
+    uint8_t tiles[REF_TILES_MAX], strip[2 * REF_STRIP_MAX] = {0};
+
+    t.len = take(path, t.bytes, sizeof t.bytes);
+
+    const struct ref_result r =
+        ref_text_read(t.bytes, t.len, tiles, sizeof tiles);
+
+    if (r.code != 0)
+        return 1;
+    fwrite(strip, 1, 2 * ref_strip_write(r.width, r.height, r.par, tiles,
+                                         (size_t)r.width * r.height, strip,
+                                         REF_STRIP_MAX).length, stdout);
+    return 0;
+}
+
+/* Half of them as they should be, the others with a slip or two. */
+static int type_file(const char *folder, size_t number)
+{
+    struct typed t = {.len = 0};
+    struct board b;
+
+    draw_any_level(&b);
+    type_par(&t, b.par);
+    type_ragged_rows(&t, &b);
+    for (size_t slips = number % 2 * draw_between(1, 2); slips > 0; slips--)
+        mistype(&t);
+    return put(folder, number, "txt", t.bytes, t.len);
 }
 
 /* ---- draw ---- */
@@ -109,31 +189,41 @@ static void damage(struct file *f)
 static int draw_file(const char *folder, size_t number)
 {
     struct file f;
-    char path[4096];
 
     draw_strip(&f);
     if (number % 4 != 0)
         damage(&f);
-    snprintf(path, sizeof path, "%s/%zu.cells", folder, number);
+    return put(folder, number, "cells", f.bytes, f.len);
+}
 
-    FILE *file = fopen(path, "wb");
+static int draw_files(const char *folder, size_t count,
+                      int (*draw)(const char *folder, size_t number))
+{
+    int failed = 0;
 
-    if (file == NULL)
-        return 1;
-    fwrite(f.bytes, 1, f.len, file);
-    return fclose(file) != 0;
+    draw_seed(20240229);
+    for (size_t k = count; k > 0; k--)
+        failed |= draw(folder, k);
+    return failed;
 }
 
 int main(int argc, char **argv)
 {
-    int failed = 0;
+    static const struct {
+        const char *name;
+        int (*say)(const char *path);
+    } sayings[] = {{"show", show}, {"text", show_text}, {"make", make}};
+    static const struct {
+        const char *name;
+        int (*draw)(const char *folder, size_t number);
+    } drawings[] = {{"draw", draw_file}, {"type", type_file}};
 
-    if (argc == 3 && strcmp(argv[1], "show") == 0)
-        return show(argv[2]);
-    if (argc != 4 || strcmp(argv[1], "draw") != 0)
-        return 2;
-    draw_seed(20240229);
-    for (size_t k = strtoul(argv[3], NULL, 10); k > 0; k--)
-        failed |= draw_file(argv[2], k);
-    return failed;
+    for (size_t i = 0; i < 3; i++)
+        if (argc == 3 && strcmp(argv[1], sayings[i].name) == 0)
+            return sayings[i].say(argv[2]);
+    for (size_t i = 0; i < 2; i++)
+        if (argc == 4 && strcmp(argv[1], drawings[i].name) == 0)
+            return draw_files(argv[2], strtoul(argv[3], NULL, 10),
+                              drawings[i].draw);
+    return 2;
 }

@@ -1,0 +1,73 @@
+/* draw_strip.c - inputs for fuzz_strip.c: strips with damage, and noise. */
+#include <string.h>
+
+#include "boards.h"
+#include "draw.h"
+#include "fuzz.h"
+#include "fuzz_strip.h"
+
+/* The lengths are mostly right, or nothing else would be tried. */
+static void draw_head(uint8_t head[HEAD], uint8_t flags)
+{
+    memset(head, 0, HEAD);
+    head[FLAGS_AT] = flags;
+    for (size_t i = MARKS_AT; i <= BUFFER_AT; i++)
+        if (draw_below(12) == 0)
+            head[i] = draw_byte();
+    head[WIDTH_AT] = (uint8_t)draw_below(34);
+    head[HEIGHT_AT] = (uint8_t)draw_below(34);
+    draw_bytes(head + PAR_AT, 2);
+    head[PAR_AT + 1] &= 7;
+}
+
+/* A level's record filled up for a strip, and a few cells to damage. */
+static size_t draw_laid(uint8_t *body)
+{
+    struct board b;
+
+    draw_any_level(&b);
+    memset(body, 0, REF_RECORD_MAX);
+
+    const size_t half = REF_LANES * ref_k_of(record_of(&b, body));
+
+    if (draw_below(4) == 0)
+        body[draw_below(half)] ^= draw_nonzero();
+    memset(body + half, 0, half);
+    for (size_t i = draw_below(9); i > 0 && 3 * i <= half; i--)
+        draw_bytes(body + half + 3 * (i - 1), 3);
+    return 2 * half;
+}
+
+/* A level's strip with wrong and marked cells, or nothing but noise. */
+static size_t draw_halves(uint8_t *body)
+{
+    uint8_t data[REF_RECORD_MAX] = {0};
+    struct board b;
+
+    draw_any_level(&b);
+
+    const size_t cells = ref_lay_strip(data, ref_k_of(record_of(&b, data)),
+                                       body);
+
+    memset(body + cells, 0, cells);
+    for (size_t wrong = draw_below(9); wrong > 0; wrong--)
+        body[draw_below(cells)] = draw_byte();
+    for (size_t marked = draw_below(9); marked > 0; marked--)
+        body[cells + draw_below(cells)] = 1;
+    if (draw_below(16) == 0)
+        draw_bytes(body, 2 * cells);
+    return 2 * cells;
+}
+
+size_t draw_input(size_t number, uint8_t input[INPUT_ROOM])
+{
+    const uint8_t flags = (uint8_t)(number % 8);
+
+    draw_seed(number);
+    draw_head(input, flags);
+
+    const size_t len = HEAD + (flags & LAID ? draw_laid(input + HEAD)
+                                            : draw_halves(input + HEAD));
+
+    return draw_below(16) == 0 ? draw_below(len + 1) : len;
+}

@@ -1,0 +1,61 @@
+/*
+ * numbers.c - the packed results of the examples in docs/C-INTERFACE.md, one a
+ * line, in the order of the page.
+ */
+#include <inttypes.h>
+#include <stdio.h>
+#include <string.h>
+
+#include <zavullimen.h>
+
+static void print(uint64_t result)
+{
+    printf("0x%" PRIX64 "\n", result);
+}
+
+static void print_repairs(void)
+{
+    static const uint8_t marks[6];
+    uint8_t word[6] = {0x00, 0xCE, 0xE6}, other[6] = {0x01, 0xCE, 0xE6};
+
+    print(zav_word_repair(word, sizeof word, marks, sizeof marks));
+    print(zav_word_repair(other, sizeof other, marks, sizeof marks));
+}
+
+/* The strip as it was written, with these cells changed. */
+static void print_read(const uint8_t *strip, size_t len, const size_t *wrong,
+                       size_t count, size_t marks_len)
+{
+    static const uint8_t marks[ZAV_STRIP_MAX];
+    static uint8_t tiles[ZAV_TILES_MAX], scratch[ZAV_SCRATCH_MIN];
+    uint8_t read[ZAV_STRIP_MAX];
+
+    memcpy(read, strip, len);
+    for (size_t i = 0; i < count; i++)
+        read[wrong[i]] ^= 0xFF;
+    print(zav_strip_read(read, len, marks, marks_len, tiles, sizeof tiles,
+                         scratch, sizeof scratch));
+}
+
+int main(void)
+{
+    static const uint8_t level[] = {4, 5};
+    static const size_t first[] = {0}, three[] = {2, 6, 10};
+    uint8_t bytes[ZAV_TEXT_MAX], tiles[ZAV_TILES_MAX];
+    uint64_t written;
+
+    print_repairs();
+    print(written = zav_record_write(2, 1, 5, level, 2, bytes, sizeof bytes));
+    print(zav_record_read(bytes, zav_length(written), tiles, sizeof tiles));
+    print(written = zav_text_write(2, 1, 5, level, 2, bytes, sizeof bytes));
+    print(zav_text_read(bytes, zav_length(written), tiles, sizeof tiles));
+    print(written = zav_strip_write(2, 1, 5, level, 2, bytes, sizeof bytes));
+
+    const size_t len = zav_length(written);
+
+    print_read(bytes, len, first, 0, len);
+    print_read(bytes, len, first, 1, len);
+    print_read(bytes, len, three, 3, len);
+    print_read(bytes, len, first, 0, len - 1);
+    return 0;
+}

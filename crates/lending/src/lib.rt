@@ -12,8 +12,9 @@ ghost use Rattle.level.specs.Writing.{lent};
 ghost use Rattle.fields.specs.Sum.{BoardCode};
 ghost use Rattle.lending.specs.Lending.{RecordPut, InRange, headBytes};
 
-fn ranged(w: usize, h: usize, par: usize) -> bool
-    ensures { λ r. ⌜ Says r (InRange w h par) ⌝ }
+// A size that a level has.
+pub fn sized(w: usize, h: usize) -> bool
+    ensures { λ r. ⌜ Says r (Sized w h) ⌝ }
 {
     if w < 1 {
         return false;
@@ -25,6 +26,15 @@ fn ranged(w: usize, h: usize, par: usize) -> bool
         return false;
     }
     if 31 < h {
+        return false;
+    }
+    true
+}
+
+fn ranged(w: usize, h: usize, par: usize) -> bool
+    ensures { λ r. ⌜ Says r (InRange w h par) ⌝ }
+{
+    if !sized(w, h) {
         return false;
     }
     if 1023 < par {

@@ -5,21 +5,21 @@ use mathlib.Core.List.{List, [], _∷_, _++_, map}
 use Prim.Native.Nat.{ℕ, zero, suc, _+_, _*_, _-_, _≤_, _<_}
 use native.Mathlib.Nat.{mul-le-mul}
 use native.Mathlib.Omega.{arith}
-use lib.ListN.{length, getD, take, drop, replicate, length-append, length-replicate, length-map, getD-replicate, List·getD-append, List·getD-eq-default}
+use lib.ListN.{length, getD, take, drop, replicate, length-append, length-replicate, getD-replicate, List·getD-append, List·getD-eq-default}
 use lib.Seq.{getD-append-add, length-take-le}
 use Rattle.rules.specs.Refusal.{First, asked}
 use Rattle.rules.proofs.Laws.{stops}
 use Rattle.rules.proofs.Numbers.{lt-or-ge}
-use Rattle.level.specs.Level.{Level, Sized, Ranged, Counted, Coded, AllTiles, IsLevel, lending}
+use Rattle.level.specs.Level.{Level, Sized, AllTiles, lending}
 use Rattle.level.specs.Writing.{lent}
 use Rattle.lending.proofs.Lent.{lent-level}
 use Rattle.record.specs.declared.read.RecordRead.the-variants as read
 use Rattle.typed.specs.Letters.{tileOf}
-use Rattle.typed.specs.Text.{joined, Letters, Rows, longest, filled, board, levelTyped}
-use Rattle.typed.specs.Parts.{Shown, unrolled, widest}
+use Rattle.typed.specs.Text.{Letters, Rows, longest, filled, board, levelTyped}
+use Rattle.typed.specs.Parts.{Shown, Lettered, unrolled, widest}
 use Rattle.text.specs.Reading.{typing}
 use Rattle.text.specs.Parts.{RowsReadAs}
-use Rattle.typed.proofs.Unrolling.{rows-unrolled, rows-widest, board-long}
+use Rattle.typed.proofs.Unrolling.{rows-unrolled, rows-widest, rows-lettered, board-long}
 
 -- ---- the tiles of letters are tile codes
 
@@ -67,6 +67,9 @@ module _ (body : List ℕ) (w h par : ℕ) (S : Shown body w h) where
 
   pub few : Sized w h → w * h ≤ 961
   few z = omega (arith, mul-le-mul (z .not-wider) (z .not-higher))
+
+  pub lettered : Lettered body
+  lettered = subst Lettered (sym (S .is)) (rows-lettered rows (S .letters))
 
   pub narrow : widest 0 body ≤ w
   narrow = omega (arith, ap (widest 0) (S .is), rows-widest rows (S .letters), S .width)

@@ -1,14 +1,13 @@
 -- What is promised of texts (FORMAT 8.25, 8.26, 13).
 use mathlib.Core.Path.{_≡_, refl, sym, ap, ap₂, _∙_, subst}
-use mathlib.Core.Logic.{_≢_}
-use mathlib.Core.List.{List, _++_}
-use Prim.Native.Nat.{ℕ, _*_, _≤_}
-use lib.ListN.{length, take, drop, take-append-drop}
+use mathlib.Core.List.{List, [], _∷_}
+use Prim.Native.Nat.{ℕ, _≤_}
+use lib.ListN.{length, take, drop}
 use lib.Seq.{take-at}
 use Rattle.rules.proofs.Laws.{first-fixes, none-first, decided, either}
 use Rattle.level.specs.Level.{Level, IsLevel}
 use Rattle.level.specs.Reading.{returned}
-use Rattle.level.specs.Writing.{writingLevel}
+use Rattle.level.specs.Writing.{lent, writingLevel}
 use Rattle.code.specs.Word.{writtenNumbers}
 use Rattle.code.specs.declared.word.Written.{Written}
 use Rattle.code.proofs.Answers.{written-zero}
@@ -16,7 +15,8 @@ use Rattle.lending.proofs.Lent.{written-level, level-written}
 use Rattle.record.specs.Reading.{recordNumbers}
 use Rattle.record.specs.declared.read.RecordRead.{RecordRead}
 use Rattle.record.proofs.Theorems.{returned-fixes}
-use Rattle.typed.specs.Text.{textOf, rowsOf, SaysLevel}
+use Rattle.typed.specs.Letters.{letterOf}
+use Rattle.typed.specs.Text.{decimal, textOf, rowsOf, SaysLevel}
 use Rattle.typed.proofs.Unique.{one-level}
 use Rattle.text.specs.Writing.{TextWritesAs}
 use Rattle.text.specs.Reading.{OfText, readingText, TextReadsAs}
@@ -31,6 +31,11 @@ text-says l il = record { par = l .par; rows = rowsOf (l .width) (l .height) (l 
 -- Two levels with one text are one level.
 pub text-injective : (l m : Level) → IsLevel l → IsLevel m → textOf l ≡ textOf m → l ≡ m
 text-injective l m il im e = one-level (textOf m) l m (subst (λ (t : List ℕ). SaysLevel t l) e (text-says l il)) (text-says m im)
+
+-- FORMAT 13.11: the text of the level of 12.5, `par 5` and `*@`, each with its line feed.
+pub text-cell : textOf (lent 2 1 5 (4 ∷ 5 ∷ [])) ≡ 112 ∷ 97 ∷ 114 ∷ 32 ∷ 53 ∷ 10 ∷ 42 ∷ 64 ∷ 10 ∷ []
+unfolding decimal letterOf
+text-cell = refl
 
 -- ---- writing
 

@@ -1,39 +1,19 @@
 // Reading a text: judged first, and its tiles written only where nothing is refused.
 ghost use Prim.Native.Nat.{_≤_};
 ghost use lib.ListN.{length};
-ghost use Rattle.rules.specs.Says.{Says};
 ghost use Rattle.level.specs.Sizes.{tilesMost};
-ghost use Rattle.level.specs.Level.{Sized};
 ghost use Rattle.typed.specs.Parts.{Shown};
 ghost use Rattle.text.specs.Reading.{TextReadsAs};
 ghost use Rattle.text.specs.Parts.{RowsReadAs};
 use level::TILES_MOST;
 use record::read::RecordRead;
 
-fn sized(w: usize, h: usize) -> bool
-    ensures { λ r. ⌜ Says r (Sized w h) ⌝ }
-{
-    if w < 1 {
-        return false;
-    }
-    if 31 < w {
-        return false;
-    }
-    if h < 1 {
-        return false;
-    }
-    if 31 < h {
-        return false;
-    }
-    true
-}
-
 // Refusals 12 and 10, and the tiles where there is none.
 fn accept(body: &[u8], par: usize, w: usize, h: usize, tiles: &mut [u8]) -> RecordRead
     requires { ⌜ Shown (now body) w h × (par ≤ 1023) × (tilesMost ≤ length (now tiles)) ⌝ }
     ensures { λ r. ⌜ RowsReadAs par (now (body .entry)) (now (tiles .entry)) (now (tiles .exit)) r ⌝ }
 {
-    if !sized(w, h) {
+    if !lending::sized(w, h) {
         return RecordRead::Refused(12);
     }
     let mut board = [0u8; TILES_MOST];

@@ -1,12 +1,12 @@
 -- Tiles put one after the other on a board that is floor.
-use mathlib.Core.Path.{_≡_, refl, sym, ap, ap₂, _∙_, subst}
+use mathlib.Core.Path.{_≡_, refl, sym, ap, ap₂, _∙_}
 use mathlib.Core.List.{List, [], _∷_, _++_, append-nil, append-assoc}
 use Prim.Native.Nat.{ℕ, zero, suc, _+_, _-_, _≤_, _<_}
 use native.Mathlib.Decide.{ℕ-discrete}
 use native.Mathlib.Numerals.{add-one}
 use native.Mathlib.Omega.{arith}
 use lib.ListN.{length, getD, take, drop, set, replicate, length-append, length-replicate, length-set, drop-of-length-le}
-use lib.Seq.{drop-cons, take-suc-set, append-snoc, take-add, length-take-le, getD-set-other, getD-drop, take-at}
+use lib.Seq.{drop-cons, take-suc-set, append-snoc, take-add, length-take-le, getD-set-other, getD-drop}
 use Rattle.typed.specs.Letters.{tileOf}
 use Rattle.typed.specs.Parts.{unrolled, widest, PlacedAs}
 use Rattle.typed.specs.declared.rows.Spot.{Spot}

@@ -1,39 +1,24 @@
 -- The bytes of rows, seen one after the other: what comes out tells whether they are rows, how many, and the longest.
-use mathlib.Core.Path.{_≡_, refl, sym, ap, ap₂, _∙_, subst}
+use mathlib.Core.Path.{_≡_, refl, sym, ap, ap₂, _∙_}
 use mathlib.Core.Bool.{Bool, cond}
-use mathlib.Core.Logic.{⊎-elim}
 use mathlib.Core.List.{List, [], _∷_, _++_, append-nil, append-assoc}
-use Prim.Native.Nat.{ℕ, zero, suc, _+_, _≤_, _<_, max}
+use Prim.Native.Nat.{ℕ, _+_, _≤_, _<_, max}
 use native.Mathlib.Decide.{ℕ-discrete}
 use native.Mathlib.Omega.{arith}
 use native.Mathlib.Numerals.{add-one}
-use borrow.Author.Tests.{lt-ltb, le-ltb, eq-eqb, ne-eqb}
+use borrow.Author.Tests.{eq-eqb, ne-eqb}
 use lib.ListN.{length, getD, drop, length-append, drop-of-length-le}
 use lib.Seq.{drop-cons}
-use Rattle.rules.proofs.Numbers.{lt-or-ge}
 use Rattle.typed.specs.Letters.{tileOf}
 use Rattle.typed.specs.Text.{joined, Letters, Rows, longest}
 use Rattle.typed.specs.Parts.{foreign, seenNext, seenIn, Shown, SeenAs}
 use Rattle.typed.specs.declared.rows.Seen.{Seen}
-use Rattle.typed.proofs.Tiles.{no-feed}
+use Rattle.typed.proofs.Tiles.{no-feed, letter-known, known-letter, foreign-one}
 
 abbrev pub seen : ℕ → ℕ → ℕ → ℕ → Seen
 seen f n c l = record { foreign = f; rows = n; column = c; longest = l }
 
 -- ---- one byte
-
--- letters are not foreign, and what is not foreign is a letter
-pub letter-known : (c : ℕ) → tileOf c ≤ 6 → foreign c ≡ 0
-letter-known c h = ap (λ (b : Bool). cond b 0 1) (lt-ltb (tileOf c) 7 (omega arith))
-
-pub other-foreign : (c : ℕ) → 7 ≤ tileOf c → foreign c ≡ 1
-other-foreign c h = ap (λ (b : Bool). cond b 0 1) (le-ltb (tileOf c) 7 h)
-
-known-letter : (c : ℕ) → foreign c ≡ 0 → tileOf c ≤ 6
-known-letter c e = ⊎-elim (λ h. omega (arith, h)) (λ h. absurd (omega (arith, e, other-foreign c h))) (lt-or-ge (tileOf c) 7)
-
-pub foreign-one : (c : ℕ) → foreign c ≤ 1
-foreign-one c = ⊎-elim (λ h. omega (arith, letter-known c (omega (arith, h)))) (λ h. omega (arith, other-foreign c h)) (lt-or-ge (tileOf c) 7)
 
 pub next-feed : (s : Seen) (c : ℕ) → c ≡ 10 → seenNext s c ≡ seen (s .foreign) (s .rows + 1) 0 (max (s .longest) (s .column))
 next-feed s c e =

@@ -2,7 +2,7 @@
 use mathlib.Core.Path.{_≡_, refl, sym, ap, ap₂, _∙_}
 use mathlib.Core.Bool.{Bool, cond}
 use mathlib.Core.List.{List, [], _∷_, _++_, map, append-assoc}
-use Prim.Native.Nat.{ℕ, zero, suc, _+_, _*_, _-_, _≤_, _<_, max}
+use Prim.Native.Nat.{ℕ, zero, suc, _+_, _*_, _-_, _≤_, max}
 use native.Mathlib.Nat.{mul-suc}
 use native.Mathlib.Decide.{ℕ-discrete}
 use native.Mathlib.Omega.{arith}
@@ -10,7 +10,7 @@ use borrow.Author.Tests.{eq-eqb, ne-eqb}
 use lib.ListN.{length, replicate, length-append, length-replicate, length-map}
 use Rattle.typed.specs.Letters.{tileOf}
 use Rattle.typed.specs.Text.{joined, Letters, Rows, longest, filled, board}
-use Rattle.typed.specs.Parts.{unrolled, widest}
+use Rattle.typed.specs.Parts.{Lettered, unrolled, widest}
 use Rattle.typed.proofs.Tiles.{no-feed}
 
 -- ---- one byte
@@ -77,3 +77,15 @@ widest-least (c ∷ cs) column = go (ℕ-discrete c 10) (widest-least cs (column
     go : Dec (c ≡ 10) → column + 1 ≤ widest (column + 1) cs → column ≤ widest column (c ∷ cs)
     go (yes e) h = omega (arith, widest-feed column column c cs e)
     go (no n) h = omega (arith, widest-letter column column c cs n, h)
+
+-- ---- letters
+
+row-lettered : (r s : List ℕ) → Letters r → Lettered s → Lettered (r ++ 10 ∷ s)
+row-lettered [] s h L zero k n = absurd (n refl)
+row-lettered [] s h L (suc i) k n = L i (omega (arith, k)) n
+row-lettered (c ∷ r) s (t, h) L zero k n = t
+row-lettered (c ∷ r) s (t, h) L (suc i) k n = row-lettered r s h L i (omega (arith, k)) n
+
+pub rows-lettered : (rows : List (List ℕ)) → Rows rows → Lettered (joined rows)
+rows-lettered [] h = λ i k n. absurd (omega (arith, k))
+rows-lettered (r ∷ rs) (a, h) = row-lettered r (joined rs) a (rows-lettered rs h)

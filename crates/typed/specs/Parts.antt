@@ -2,9 +2,9 @@
 use mathlib.Core.Path.{_≡_}
 use mathlib.Core.Bool.{cond}
 use mathlib.Core.List.{List, [], _∷_, _++_}
-use Prim.Native.Nat.{ℕ, zero, suc, _+_, _*_, _-_, _≤_, max}
+use Prim.Native.Nat.{ℕ, zero, suc, _+_, _*_, _-_, _≤_, _<_, max}
 use lib.Dec.{eqb, ltb}
-use lib.ListN.{length, take, set, replicate}
+use lib.ListN.{length, getD, take, set, replicate}
 use Rattle.typed.specs.Letters.{tileOf}
 use Rattle.typed.specs.Text.{joined, firstLine, Rows, longest}
 use Rattle.typed.specs.declared.line.Line.{Line}
@@ -71,6 +71,10 @@ pub record SeenAs (body : List ℕ) (r : Seen) : Type 0 where
   pub none : (rows : List (List ℕ)) → Rows rows → body ≡ joined rows → (r .foreign ≡ 0) × (r .column ≡ 0)
 
 -- ---- rows laid out
+
+-- each byte but a line feed is a letter
+abbrev pub Lettered : List ℕ → Type 0
+Lettered body = (i : ℕ) → i < length body → (getD body i 0 ≡ 10 → ⊥) → tileOf (getD body i 0) ≤ 6
 
 -- the tiles of rows, each filled to a width, the first after column letters of it
 abbrev pub unrolled : ℕ → ℕ → List ℕ → List ℕ

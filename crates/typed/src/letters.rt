@@ -2,21 +2,40 @@
 ghost use mathlib.Core.Path.{_≡_};
 ghost use Prim.Native.Nat.{_≤_};
 ghost use Rattle.typed.specs.Letters.{tileOf, letterOf};
+ghost use Rattle.typed.specs.Parts.{foreign};
 
-// The tile of a letter, and 7 for any other byte.
-pub fn tile_of(c: u8) -> u8
-    ensures { λ r. ⌜ r ≡ tileOf c ⌝ }
+// 1 for a byte that is no letter, else 0.
+pub fn is_foreign(c: u8) -> usize
+    ensures { λ r. ⌜ r ≡ foreign c ⌝ }
 {
     match c {
         45 => 0,
-        35 => 1,
-        36 => 2,
-        46 => 3,
-        42 => 4,
-        64 => 5,
-        43 => 6,
+        35 => 0,
+        36 => 0,
+        46 => 0,
+        42 => 0,
+        64 => 0,
+        43 => 0,
         32 => 0,
-        _ => 7,
+        _ => 1,
+    }
+}
+
+// The tile of a letter. With 64 moved next to 32 the letters differ in their last four bits, so that the arms lie close enough to become a
+// table, and no jump has to be guessed.
+pub fn tile_of(c: u8) -> u8
+    requires { ⌜ tileOf c ≤ 6 ⌝ }
+    ensures { λ r. ⌜ r ≡ tileOf c ⌝ }
+{
+    match (c + c / 64) % 16 {
+        0 => 0,
+        1 => 5,
+        3 => 1,
+        4 => 2,
+        10 => 4,
+        11 => 6,
+        13 => 0,
+        _ => 3,
     }
 }
 

@@ -2,7 +2,8 @@
 ghost use mathlib.Core.Path.{_≡_};
 ghost use Prim.Native.Nat.{ℕ, _+_, _≤_, _<_, max};
 ghost use lib.ListN.{length, getD, take};
-ghost use Rattle.typed.specs.Parts.{foreign, seenNext, SeenAs, PlacedAs, unrolled, widest};
+ghost use Rattle.typed.specs.Letters.{tileOf};
+ghost use Rattle.typed.specs.Parts.{seenNext, SeenAs, Lettered, PlacedAs, unrolled, widest};
 
 // What was seen: bytes that are no letters, rows ended, letters since, the longest row that ended.
 pub struct Seen {
@@ -21,16 +22,6 @@ fn larger(a: usize, b: usize) -> usize
     a
 }
 
-// 1 for a byte that is no letter.
-fn is_foreign(c: u8) -> usize
-    ensures { λ r. ⌜ r ≡ foreign c ⌝ }
-{
-    if super::letters::tile_of(c) < 7 {
-        return 0;
-    }
-    1
-}
-
 // One byte more.
 fn step(s: Seen, c: u8) -> Seen
     requires { ⌜ (s .foreign < 9223372036854775808) × (s .rows < 9223372036854775808) × (s .column < 9223372036854775808) ⌝ }
@@ -45,7 +36,7 @@ fn step(s: Seen, c: u8) -> Seen
         };
     }
     Seen {
-        foreign: s.foreign + is_foreign(c),
+        foreign: s.foreign + super::letters::is_foreign(c),
         rows: s.rows,
         column: s.column + 1,
         longest: s.longest,
@@ -78,7 +69,7 @@ pub struct Spot {
 
 // One byte placed in rows of width w.
 fn place(at: Spot, c: u8, w: usize, board: &mut [u8]) -> Spot
-    requires { ⌜ (at .base + w < 9223372036854775808) × ((c ≡ 10 → ⊥) → at .base + at .column < length (now board)) ⌝ }
+    requires { ⌜ (at .base + at .column + w < 9223372036854775808) × ((c ≡ 10 → ⊥) → (tileOf c ≤ 6) × (at .base + at .column < length (now board))) ⌝ }
     ensures { λ r. ⌜ PlacedAs c w at (now (board .entry)) (now (board .exit)) r ⌝ }
 {
     if c == 10 {
@@ -96,7 +87,7 @@ fn place(at: Spot, c: u8, w: usize, board: &mut [u8]) -> Spot
 
 // The tiles of all rows, in front of a board that is floor: so that short rows are filled.
 pub fn put(body: &[u8], w: usize, board: &mut [u8])
-    requires { ⌜ ((p : ℕ) → getD (now board) p 0 ≡ 0) × (widest 0 (now body) ≤ w) × (w ≤ 31) × (length (unrolled w 0 (now body)) ≤ length (now board)) × (length (now board) ≤ 961) ⌝ }
+    requires { ⌜ Lettered (now body) × ((p : ℕ) → getD (now board) p 0 ≡ 0) × (widest 0 (now body) ≤ w) × (w ≤ 31) × (length (unrolled w 0 (now body)) ≤ length (now board)) × (length (now board) ≤ 961) ⌝ }
     ensures { λ _. ⌜ take (length (unrolled w 0 (now (body .entry)))) (now (board .exit)) ≡ unrolled w 0 (now (body .entry)) ⌝ }
 {
     let mut at = Spot { base: 0, column: 0 };

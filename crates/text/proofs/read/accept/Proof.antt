@@ -6,7 +6,7 @@ use borrow.Author.Tests.{not-true, not-false}
 use borrow.Author.Needs.{needs}
 use Rattle.rules.proofs.Tests.{said, denied}
 use Rattle.level.specs.Level.{Sized}
-use Rattle.text.proofs.Judging.{all-floor, laid-long, few, narrow, rows-refused, rows-read, rows-12}
+use Rattle.text.proofs.Judging.{all-floor, laid-long, few, lettered, narrow, rows-refused, rows-read, rows-12}
 use Rattle.text.proofs.read.accept.Statement.{statement}
 use Rattle.text.proofs.read.accept.Tie as tie
 
@@ -28,6 +28,7 @@ put-requires c κs =
     let o = c .before .before .before .before .before in
     let t = c .before .before .sized in
     let z = said (Sized (o .args .w) (o .args .h)) (t .result) (not-false (t .result) (c .before .if1 .left)) (t .ensures) in (
+      lettered (o .args .body .now) (o .args .w) (o .args .h) (o .args .par) (o .pre .0),
       λ p. all-floor 961 p,
       narrow (o .args .body .now) (o .args .w) (o .args .h) (o .args .par) (o .pre .0),
       z .not-wider,

@@ -1,48 +1,40 @@
-use mathlib.Core.Path.{sym, ap}
-use Rattle.typed.specs.Letters.{tileOf}
-use Rattle.typed.proofs.Tiles.{no-letter}
+use native.Mathlib.Omega.{arith}
+use Rattle.typed.proofs.Tiles.{letter-low, tile-at, tile-last}
 use Rattle.typed.proofs.letters.tile_of.Statement.{statement}
 use Rattle.typed.proofs.letters.tile_of.Tie as tie
 
+add-match : tie.Need-add-match
+add-match c = omega (arith, letter-low (c .args .c) (c .pre))
+
 returns : tie.Need-returns
-unfolding tileOf
-returns c = ap tileOf (sym (c .match .keys1))
+returns c = tile-at 0 (c .before .args .c) (c .before .pre) (c .match .keys1)
 
 returns-2 : tie.Need-returns-2
-unfolding tileOf
-returns-2 c = ap tileOf (sym (c .match .keys2))
+returns-2 c = tile-at 1 (c .before .args .c) (c .before .pre) (c .match .keys2)
 
 returns-3 : tie.Need-returns-3
-unfolding tileOf
-returns-3 c = ap tileOf (sym (c .match .keys3))
+returns-3 c = tile-at 3 (c .before .args .c) (c .before .pre) (c .match .keys3)
 
 returns-4 : tie.Need-returns-4
-unfolding tileOf
-returns-4 c = ap tileOf (sym (c .match .keys4))
+returns-4 c = tile-at 4 (c .before .args .c) (c .before .pre) (c .match .keys4)
 
 returns-5 : tie.Need-returns-5
-unfolding tileOf
-returns-5 c = ap tileOf (sym (c .match .keys5))
+returns-5 c = tile-at 10 (c .before .args .c) (c .before .pre) (c .match .keys5)
 
 returns-6 : tie.Need-returns-6
-unfolding tileOf
-returns-6 c = ap tileOf (sym (c .match .keys6))
+returns-6 c = tile-at 11 (c .before .args .c) (c .before .pre) (c .match .keys6)
 
 returns-7 : tie.Need-returns-7
-unfolding tileOf
-returns-7 c = ap tileOf (sym (c .match .keys7))
+returns-7 c = tile-at 13 (c .before .args .c) (c .before .pre) (c .match .keys7)
 
 returns-8 : tie.Need-returns-8
-unfolding tileOf
-returns-8 c = ap tileOf (sym (c .match .keys8))
-
-returns-9 : tie.Need-returns-9
-returns-9 c = no-letter (c .before .args .c) (c .match .rest)
+returns-8 c = tile-last (c .before .args .c) (c .before .pre) (c .match .rest)
 
 pub tile-of-spec : {M : Type 1} → statement M
 tile-of-spec =
     tie.close
     (tie.spec
+    add-match
     returns
     returns-2
     returns-3
@@ -50,5 +42,4 @@ tile-of-spec =
     returns-5
     returns-6
     returns-7
-    returns-8
-    returns-9)
+    returns-8)

@@ -1,5 +1,4 @@
-use mathlib.Core.Path.{_≡_, refl, ap, _∙_}
-use mathlib.Core.List.{List}
+use mathlib.Core.Path.{refl, ap}
 use Prim.Native.Nat.{ℕ, _+_}
 use native.Mathlib.Omega.{arith}
 use borrow.Author.Needs.{needs}
@@ -14,16 +13,16 @@ returns : tie.Need-returns
 returns c = record { feed = λ e. (refl, refl); letter = λ n. absurd (n (omega (arith, c .before .if1 .taken))) }
 
 tile-of-requires : tie.Need-tile-of-requires
-tile-of-requires c κs = search needs
+tile-of-requires c κs = c .before .before .pre .1 (c .if1 .left) .0
 
 add-board : tie.Need-add-board
-add-board c = omega (arith, c .before .before .before .before .pre .1 (c .before .before .if1 .left))
+add-board c = omega (arith, c .before .before .before .before .pre .1 (c .before .before .if1 .left) .1)
 
 slice-write-board : tie.Need-slice-write-board
-slice-write-board c = c .before .before .before .before .pre .1 (c .before .before .if1 .left)
+slice-write-board c = c .before .before .before .before .pre .1 (c .before .before .if1 .left) .1
 
 add-t8 : tie.Need-add-t8
-add-t8 c = omega (arith, c .before .before .before .before .before .pre .1 (c .before .before .before .if1 .left))
+add-t8 c = omega (arith, c .before .before .before .before .before .pre .1 (c .before .before .before .if1 .left) .1)
 
 same-length : tie.Need-same-length
 same-length c = search needs

@@ -15,7 +15,7 @@ abbrev μ-loop : tie.MeasureT-loop
 loop-holds : tie.Need-loop-holds Inv-loop μ-loop
 loop-holds c =
     let o = c .before .before in
-    (omega arith, laid-none (o .args .body .now) (o .args .board .now) (o .args .w) (o .pre .0) (o .pre .1))
+    (omega arith, laid-none (o .args .body .now) (o .args .board .now) (o .args .w) (o .pre .1) (o .pre .2))
 
 shared-slice-read-place : tie.Need-shared-slice-read-place Inv-loop μ-loop
 shared-slice-read-place c = search needs
@@ -25,11 +25,14 @@ place-requires c κs =
     let o = c .before .before .before .before .before .before in
     let l = c .before .before .before .loop in
     let L = l .inv .1 in (
-      omega (arith, L .inside, o .pre .2, o .pre .4),
-      λ k. omega (
-        arith,
-        next-free (o .args .body .now) (l .board) (o .args .w) (length (o .args .board .now)) (l .i) (l .at) L (o .pre .3) (omega arith) k,
-        L .long,
+      omega (arith, L .inside, o .pre .3, o .pre .5),
+      λ k. (
+        o .pre .0 (l .i) (omega arith) k,
+        omega (
+          arith,
+          next-free (o .args .body .now) (l .board) (o .args .w) (length (o .args .board .now)) (l .i) (l .at) L (o .pre .4) (omega arith) k,
+          L .long,
+        ),
       ),
     )
 
@@ -44,7 +47,7 @@ loop-again c =
     let o = c .before .before .before .before .before .before .before .before .before in
     let l = c .before .before .before .before .before .before .loop in (
       omega arith,
-      laid-more (o .args .body .now) (l .board) (o .args .w) (length (o .args .board .now)) (l .i) (l .at) (l .inv .1) (o .pre .3) (omega arith) _ _
+      laid-more (o .args .body .now) (l .board) (o .args .w) (length (o .args .board .now)) (l .i) (l .at) (l .inv .1) (o .pre .4) (omega arith) _ _
           (c .before .before .place .ensures),
     )
 

@@ -1,10 +1,7 @@
-use mathlib.Core.Path.{_≡_, refl, sym, ap, _∙_}
-use mathlib.Core.List.{List}
-use Prim.Native.Nat.{ℕ, _-_, _≤_}
+use Prim.Native.Nat.{_-_, _≤_}
 use native.Mathlib.Omega.{arith}
 use borrow.Author.Needs.{needs}
-use lib.ListN.{length, getD, drop}
-use Rattle.typed.specs.Parts.{seenIn}
+use lib.ListN.{length}
 use Rattle.typed.proofs.Seeing.{seen, SeenTo, seen-none, seen-more, seen-all}
 use Rattle.typed.proofs.rows.see.Statement.{statement}
 use Rattle.typed.proofs.rows.see.Tie as tie

@@ -1,8 +1,9 @@
-use mathlib.Core.Path.{_≡_, sym, ap, _∙_}
+use mathlib.Core.Path.{sym, ap, _∙_}
 use Prim.Native.Nat.{ℕ, _+_}
 use native.Mathlib.Omega.{arith}
 use borrow.Author.Needs.{needs}
-use Rattle.typed.proofs.Seeing.{seen, foreign-one, next-feed, next-other}
+use Rattle.typed.proofs.Tiles.{foreign-one}
+use Rattle.typed.proofs.Seeing.{seen, next-feed, next-other}
 use Rattle.typed.proofs.rows.step.Statement.{statement}
 use Rattle.typed.proofs.rows.step.Tie as tie
 

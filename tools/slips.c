@@ -37,11 +37,6 @@ static bool next_line(const uint8_t *text, size_t text_len, struct line *l)
 
 /* ---- words ---- */
 
-static void print_line(FILE *out, const struct line *l)
-{
-    fprintf(out, "line %zu: ", l->number);
-}
-
 static void print_place(FILE *out, const struct line *l, size_t place)
 {
     fprintf(out, "line %zu, column %zu: ", l->number, place + 1);
@@ -83,7 +78,7 @@ static bool says_no_feed(FILE *out, const struct line *l)
 {
     if (l->ended)
         return false;
-    print_line(out, l);
+    print_place(out, l, l->len);
     fputs("the last line has no line feed; end it with one\n", out);
     return true;
 }
@@ -178,7 +173,7 @@ static bool says_bad_text(FILE *out, const uint8_t *text, size_t len)
 static bool says_too_much(FILE *out, const struct line *l)
 {
     if (l->number > SIDE_MAX + 1) {
-        print_line(out, l);
+        print_place(out, l, 0);
         fprintf(out, "more than %d rows\n", SIDE_MAX);
         return true;
     }
@@ -203,8 +198,9 @@ static bool says_bad_rows(FILE *out, const uint8_t *text, size_t len)
     }
     if (tiles)
         return false;
-    fputs(l.number == 1 ? "there is no row after the first line\n"
-                        : "line 2: there is no tile in any row\n", out);
+    fprintf(out, "line 2, column 1: %s\n",
+            l.number == 1 ? "there is no row after the first line"
+                          : "there is no tile in any row");
     return true;
 }
 

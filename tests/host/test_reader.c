@@ -1,4 +1,4 @@
-/* test_reader.c - the judging of a record, in both readers. */
+/* test_reader.c - bytes read into a tile buffer; the judging of a record. */
 #include "test_reader.h"
 
 #include <stdio.h>
@@ -7,6 +7,41 @@
 #include "boards.h"
 #include "draw.h"
 #include "harness.h"
+
+struct ref_result check_bytes(const struct bytes_reader *entry,
+                              const uint8_t *bytes, size_t len,
+                              size_t tiles_len)
+{
+    static struct lent lent_bytes, lent_tiles;
+    uint8_t before[TILES_ROOM], expected[TILES_ROOM];
+    char what[HEX_TEXT + 80], digits[HEX_TEXT];
+
+    group_case();
+    draw_bytes(before, tiles_len);
+    memcpy(expected, before, tiles_len);
+
+    const struct ref_result r =
+        entry->ref_read(bytes, len, expected, tiles_len);
+
+    lend(&lent_bytes, bytes, len);
+    lend(&lent_tiles, before, tiles_len);
+    seal(&lent_bytes);
+    if (r.code != 0)
+        seal(&lent_tiles);
+
+    const uint64_t got =
+        entry->read(lent_bytes.bytes, len, lent_tiles.bytes, tiles_len);
+
+    if (got == packed(r) && is_kept(&lent_tiles, expected) &&
+        is_kept(&lent_bytes, bytes))
+        return r;
+    sprintf(what, "%zu bytes %s, tile buffer %zu", len,
+            hex(digits, bytes, len), tiles_len);
+    check_number(got, packed(r), what);
+    check_buffer(&lent_tiles, expected, what);
+    check_buffer(&lent_bytes, bytes, what);
+    return r;
+}
 
 /* A record and the zero bytes that fill it; what is past them is zero too. */
 struct data {

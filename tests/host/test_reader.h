@@ -1,12 +1,26 @@
 /*
- * test_reader.h - what the record and strip readers have in common: the
- * judging of a record.
+ * test_reader.h - what readers have in common: bytes read into a tile buffer,
+ * for records and texts, and the judging of a record, for records and strips.
  */
 #ifndef TEST_READER_H
 #define TEST_READER_H
 
 #include "reference.h"
 #include "test_writer.h"
+
+/* The record or text reader, and its second implementation. */
+struct bytes_reader {
+    uint64_t (*read)(const uint8_t *bytes, size_t len, uint8_t *tiles,
+                     size_t tiles_len);
+    struct ref_result (*ref_read)(const uint8_t *bytes, size_t len,
+                                  uint8_t *tiles, size_t tiles_len);
+};
+
+/* Read these bytes with both and compare, buffers included. Returns what the
+   second one says. */
+struct ref_result check_bytes(const struct bytes_reader *entry,
+                              const uint8_t *bytes, size_t len,
+                              size_t tiles_len);
 
 struct reader {
     const char *name;

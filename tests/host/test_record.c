@@ -13,35 +13,10 @@
 struct ref_result check_record(const uint8_t *record, size_t len,
                                size_t tiles_len)
 {
-    static struct lent lent_record, lent_tiles;
-    uint8_t before[TILES_ROOM], expected[TILES_ROOM];
-    char what[HEX_TEXT + 80], text[HEX_TEXT];
+    static const struct bytes_reader entry = {zav_record_read,
+                                              ref_record_read};
 
-    group_case();
-    draw_bytes(before, tiles_len);
-    memcpy(expected, before, tiles_len);
-
-    const struct ref_result r =
-        ref_record_read(record, len, expected, tiles_len);
-
-    lend(&lent_record, record, len);
-    lend(&lent_tiles, before, tiles_len);
-    seal(&lent_record);
-    if (r.code != 0)
-        seal(&lent_tiles);
-
-    const uint64_t got = zav_record_read(lent_record.bytes, len,
-                                         lent_tiles.bytes, tiles_len);
-
-    if (got == packed(r) && is_kept(&lent_tiles, expected) &&
-        is_kept(&lent_record, record))
-        return r;
-    sprintf(what, "%zu bytes %s, tile buffer %zu", len, hex(text, record, len),
-            tiles_len);
-    check_number(got, packed(r), what);
-    check_buffer(&lent_tiles, expected, what);
-    check_buffer(&lent_record, record, what);
-    return r;
+    return check_bytes(&entry, record, len, tiles_len);
 }
 
 static struct ref_result check_data(const uint8_t *data, size_t len)

@@ -6,6 +6,7 @@
 
 #include "draw.h"
 #include "harness.h"
+#include "test_reader.h"
 #include "typed.h"
 #include "zavullimen_texts.h"
 
@@ -13,34 +14,9 @@ static const char name[] = "text reader";
 
 struct ref_result check_text(const uint8_t *text, size_t len, size_t tiles_len)
 {
-    static struct lent lent_text, lent_tiles;
-    uint8_t before[TILES_ROOM], expected[TILES_ROOM];
-    char what[HEX_TEXT + 80], digits[HEX_TEXT];
+    static const struct bytes_reader entry = {zav_text_read, ref_text_read};
 
-    group_case();
-    draw_bytes(before, tiles_len);
-    memcpy(expected, before, tiles_len);
-
-    const struct ref_result r = ref_text_read(text, len, expected, tiles_len);
-
-    lend(&lent_text, text, len);
-    lend(&lent_tiles, before, tiles_len);
-    seal(&lent_text);
-    if (r.code != 0)
-        seal(&lent_tiles);
-
-    const uint64_t got = zav_text_read(lent_text.bytes, len, lent_tiles.bytes,
-                                       tiles_len);
-
-    if (got == packed(r) && is_kept(&lent_tiles, expected) &&
-        is_kept(&lent_text, text))
-        return r;
-    sprintf(what, "%zu bytes %s, tile buffer %zu", len, hex(digits, text, len),
-            tiles_len);
-    check_number(got, packed(r), what);
-    check_buffer(&lent_tiles, expected, what);
-    check_buffer(&lent_text, text, what);
-    return r;
+    return check_bytes(&entry, text, len, tiles_len);
 }
 
 static struct ref_result check_typed(const struct typed *t)

@@ -7,7 +7,7 @@ use Prim.Native.Nat.{ℕ, zero, suc, _+_, _*_, _/_, _-_, _<_, _≤_}
 use native.Mathlib.Decide.{ℕ-discrete}
 use native.Mathlib.Numerals.{add-one}
 use native.Mathlib.Omega.{arith}
-use lib.ListN.{length, getD, take, length-set, length-append}
+use lib.ListN.{length, getD, take, length-set, length-append, drop-of-length-le}
 use lib.Seq.{take-suc-set, take-set-le, length-take-le}
 use borrow.Author.Tests.{eq-eqb, ne-eqb}
 use Rattle.account.specs.Lanes.{lane}
@@ -144,15 +144,11 @@ list-ends R l marks p k i z L = record {
     all =
         sym (append-nil (take k p)) ∙ ap (λ (j : ℕ). take k p ++ places (isMarked (lane R l marks)) j) (sym z) ∙ L .list
 
-empty : (l : List ℕ) → length l ≡ 0 → l ≡ []
-empty [] q = refl
-empty (x ∷ l) q = absurd (omega arith)
-
 -- where none is marked, nothing is to be listed
 pub none-listed : (marks p : List ℕ) (f : ℕ) → f ≡ countTo (isMarked marks) (length marks) → f ≡ 0 → length p ≡ 5 → Gathered marks p f
 none-listed marks p f e z h = record {
   room = h;
-  list = ap (λ (k : ℕ). take k p) z ∙ sym (empty (erasures marks) (count-places (isMarked marks) (length marks) ∙ sym e ∙ z));
+  list = ap (λ (k : ℕ). take k p) z ∙ sym (drop-of-length-le (erasures marks) {i = zero} (omega (arith, count-places (isMarked marks) (length marks), e, z)));
 }
 
 -- ---- all f of a word
@@ -181,7 +177,7 @@ module _ (marks p : List ℕ) (k i f : ℕ) (L : Listing marks p k i) (is : f �
     where
       all : take k p ≡ erasures marks
       all =
-          sym (append-nil (take k p)) ∙ ap (λ (l : List ℕ). take k p ++ l) (sym (empty (places (isMarked marks) i) (omega (arith, counted, e)))) ∙ L .list
+          sym (append-nil (take k p)) ∙ ap (λ (l : List ℕ). take k p ++ l) (sym (drop-of-length-le (places (isMarked marks) i) {i = zero} (omega (arith, counted, e)))) ∙ L .list
 
   -- one cell more
   module _ (q : List ℕ) (r : ℕ) (h : 0 < i) (u : Pushed (getD marks (i - 1) 0) (i - 1) p k q r) where

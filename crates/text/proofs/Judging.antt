@@ -1,25 +1,25 @@
 -- Rows judged: refusals 12 and 10, and the tiles where there is none.
-use mathlib.Core.Path.{_≡_, refl, sym, ap, ap₂, _∙_, subst}
+use mathlib.Core.Path.{_≡_, refl, ap, ap₂, _∙_, subst}
 use mathlib.Core.Logic.{inl, inr, ⊎-elim}
 use mathlib.Core.List.{List, [], _∷_, _++_, map}
 use Prim.Native.Nat.{ℕ, zero, suc, _+_, _*_, _-_, _≤_, _<_}
-use native.Mathlib.Nat.{mul-le-mul}
 use native.Mathlib.Omega.{arith}
 use lib.ListN.{length, getD, take, drop, replicate, length-append, length-replicate, getD-replicate, List·getD-append, List·getD-eq-default}
-use lib.Seq.{getD-append-add, length-take-le}
+use lib.Seq.{getD-append-add}
 use Rattle.rules.specs.Refusal.{First, asked}
 use Rattle.rules.proofs.Laws.{stops}
 use Rattle.rules.proofs.Numbers.{lt-or-ge}
 use Rattle.level.specs.Level.{Level, Sized, AllTiles, lending}
 use Rattle.level.specs.Writing.{lent}
+use Rattle.fields.proofs.Tiles.{area-small}
 use Rattle.lending.proofs.Lent.{lent-level}
 use Rattle.record.specs.declared.read.RecordRead.the-variants as read
 use Rattle.typed.specs.Letters.{tileOf}
 use Rattle.typed.specs.Text.{Letters, Rows, longest, filled, board, levelTyped}
-use Rattle.typed.specs.Parts.{Shown, Lettered, unrolled, widest}
+use Rattle.typed.specs.Parts.{Shown, Layable, LaidOut}
 use Rattle.text.specs.Reading.{typing}
 use Rattle.text.specs.Parts.{RowsReadAs}
-use Rattle.typed.proofs.Unrolling.{rows-unrolled, rows-widest, rows-lettered, board-long}
+use Rattle.typed.proofs.Unrolling.{board-long}
 
 -- ---- the tiles of letters are tile codes
 
@@ -39,7 +39,7 @@ coded-row [] h i k = absurd (omega (arith, k))
 coded-row (c ∷ r) (t, h) zero k = t
 coded-row (c ∷ r) (t, h) (suc i) k = coded-row r h i (omega (arith, k))
 
-pub coded : (w : ℕ) (rows : List (List ℕ)) → Rows rows → AllTiles 1 (board w rows)
+coded : (w : ℕ) (rows : List (List ℕ)) → Rows rows → AllTiles 1 (board w rows)
 coded w [] h = λ i k. absurd (omega (arith, k))
 coded w (r ∷ rs) (a, h) =
     coded-both (filled w r) (board w rs)
@@ -49,7 +49,7 @@ coded w (r ∷ rs) (a, h) =
 
 -- ---- floor
 
-pub all-floor : (n p : ℕ) → getD (replicate {A = ℕ} n 0) p 0 ≡ 0
+all-floor : (n p : ℕ) → getD (replicate {A = ℕ} n 0) p 0 ≡ 0
 all-floor n p =
     ⊎-elim (λ h. getD-replicate {A = ℕ} n p 0 0 h) (λ h. List·getD-eq-default (replicate {A = ℕ} n 0) 0 (omega (arith, h, length-replicate {A = ℕ} n 0))) (lt-or-ge p n)
 
@@ -59,86 +59,12 @@ module _ (body : List ℕ) (w h par : ℕ) (S : Shown body w h) where
   abbrev rows : List (List ℕ)
   rows = S .rows
 
-  laid : unrolled w 0 body ≡ board w rows
-  laid = ap (unrolled w 0) (S .is) ∙ rows-unrolled w rows (S .letters)
-
-  pub laid-long : length (unrolled w 0 body) ≡ w * h
-  laid-long = ap length laid ∙ board-long w rows (omega (arith, S .width)) ∙ ap (λ (k : ℕ). w * k) (sym (S .height))
-
-  pub few : Sized w h → w * h ≤ 961
-  few z = omega (arith, mul-le-mul (z .not-wider) (z .not-higher))
-
-  pub lettered : Lettered body
-  lettered = subst Lettered (sym (S .is)) (rows-lettered rows (S .letters))
-
-  pub narrow : widest 0 body ≤ w
-  narrow = omega (arith, ap (widest 0) (S .is), rows-widest rows (S .letters), S .width)
-
-  -- the level that is lent to be asked is the one that the rows say
-  said : (tiles : List ℕ) → take (length (unrolled w 0 body)) tiles ≡ unrolled w 0 body → lent w h par (take (w * h - 0) tiles) ≡ levelTyped par rows
-  said tiles e =
-      ap (λ (t : List ℕ). lent w h par t) (ap (λ (k : ℕ). take k tiles) same ∙ e ∙ laid)
-      ∙ ap₂ (λ (a b : ℕ). lent a b par (board a rows)) (S .width) (S .height)
-    where
-      same : w * h - 0 ≡ length (unrolled w 0 body)
-      same = omega (arith, laid-long)
-
-  module _ (sized : Sized w h) (par-small : par ≤ 1023) where
-    size : Sized (longest rows) (length rows)
-    size = subst (λ (k : ℕ). Sized (longest rows) k) (S .height) (subst (λ (k : ℕ). Sized k h) (S .width) sized)
-
-    -- of all that a writer asks, only the rule is left
-    asked-typing : (c : ℕ) → First (asked (λ ask. ask (levelTyped par rows)) lending) c → First (asked (λ ask. ask (levelTyped par rows)) typing) c
-    asked-typing c (inl p) = absurd (p .0 (record { known = refl; sized = size; par-small = par-small }))
-    asked-typing c (inr (r, inl p)) = absurd (p .0 (board-long (longest rows) rows (omega arith)))
-    asked-typing c (inr (r, inr (n, inl p))) = absurd (p .0 (coded (longest rows) rows (S .letters)))
-    asked-typing c (inr (r, inr (n, inr (k, f)))) = inr (size, f)
-
-    module _ (tiles : List ℕ) (e : take (length (unrolled w 0 body)) tiles ≡ unrolled w 0 body) (c : ℕ)
-        (f : First (asked (λ ask. ask (lent w h par (take (w * h - 0) tiles))) lending) c) where
-      first : First (asked (λ ask. ask (levelTyped par rows)) lending) c
-      first = subst (λ (l : Level). First (asked (λ ask. ask l) lending) c) (said tiles e) f
-
-      pub rows-refused : (old : List ℕ) → (c ≡ 0 → ⊥) → RowsReadAs par body old old (read.Refused c)
-      rows-refused old n = record {
-        rows = rows;
-        letters = S .letters;
-        is = S .is;
-        code = asked-typing c first;
-        is-level = λ z. absurd (n z);
-        width = λ z. absurd (n z);
-        height = λ z. absurd (n z);
-        par-is = λ z. absurd (n z);
-        tiles = λ z. absurd (n z);
-        kept = λ _. refl;
-      }
-
-      pub rows-read : (old new : List ℕ) → c ≡ 0 → length tiles ≡ 961 → new ≡ take (w * h - 0) tiles ++ drop (length (take (w * h - 0) tiles)) old
-          → RowsReadAs par body old new (read.Level w h par)
-      rows-read old new z long put = record {
-        rows = rows;
-        letters = S .letters;
-        is = S .is;
-        code = subst (First (asked (λ ask. ask (levelTyped par rows)) typing)) z (asked-typing c first);
-        is-level = λ _. lent-level (levelTyped par rows) c z first;
-        width = λ _. S .width;
-        height = λ _. S .height;
-        par-is = λ _. refl;
-        tiles = λ _. put ∙ ap₂ (λ (t : List ℕ) (k : ℕ). t ++ drop k old) (ap (λ (l : Level). l .tiles) (said tiles e)) count;
-        kept = λ n. absurd (n refl);
-      }
-        where
-          count : length (take (w * h - 0) tiles) ≡ longest rows * length rows
-          count =
-              length-take-le (w * h - 0) tiles (omega (arith, few sized, long))
-              ∙ omega (arith, ap₂ (λ (a b : ℕ). a * b) (S .width) (S .height))
-
   pub rows-12 : (old : List ℕ) → (Sized w h → ⊥) → RowsReadAs par body old old (read.Refused 12)
   rows-12 old n = record {
     rows = rows;
     letters = S .letters;
     is = S .is;
-    code = stops 0 (asked (λ ask. ask (levelTyped par rows)) typing) 12 ((λ z. n (subst (λ (k : ℕ). Sized k h) (sym (S .width)) (subst (λ (k : ℕ). Sized (longest rows) k) (sym (S .height)) z))), refl);
+    code = stops 0 (asked (λ ask. ask (levelTyped par rows)) typing) 12 ((λ z. n (rw (S .width, S .height) z)), refl);
     is-level = λ z. absurd (omega (arith, z));
     width = λ z. absurd (omega (arith, z));
     height = λ z. absurd (omega (arith, z));
@@ -146,3 +72,73 @@ module _ (body : List ℕ) (w h par : ℕ) (S : Shown body w h) where
     tiles = λ z. absurd (omega (arith, z));
     kept = λ _. refl;
   }
+
+  module _ (sized : Sized w h) where
+    pub few : w * h ≤ 961
+    few = area-small w h (sized .not-wider) (sized .not-higher)
+
+    -- a board of floor has room for the rows
+    pub layable : Layable body w (replicate 961 0)
+    layable = record {
+      rows = rows;
+      letters = S .letters;
+      is = S .is;
+      narrow = omega (arith, S .width);
+      not-wider = sized .not-wider;
+      room = omega (arith, few, ap (λ (k : ℕ). w * k) (S .height), length-replicate {A = ℕ} 961 0);
+      few = omega (arith, length-replicate {A = ℕ} 961 0);
+      is-floor = λ p. all-floor 961 p;
+    }
+
+    module _ (par-small : par ≤ 1023) where
+      -- of all that a writer asks, only the rule is left
+      asked-typing : (c : ℕ) → First (asked (λ ask. ask (levelTyped par rows)) lending) c → First (asked (λ ask. ask (levelTyped par rows)) typing) c
+      asked-typing c (inl p) = absurd (p .0 (record { known = refl; sized = rw (← S .width, ← S .height) sized; par-small = par-small }))
+      asked-typing c (inr (r, inl p)) = absurd (p .0 (board-long (longest rows) rows (omega arith)))
+      asked-typing c (inr (r, inr (n, inl p))) = absurd (p .0 (coded (longest rows) rows (S .letters)))
+      asked-typing c (inr (r, inr (n, inr (k, f)))) = inr (r .sized, f)
+
+      module _ (tiles : List ℕ) (L : LaidOut body w tiles) (c : ℕ) (f : First (asked (λ ask. ask (lent w h par (take (w * h - 0) tiles))) lending) c) where
+        -- the level that was asked is the one that the rows say
+        said : lent w h par (take (w * h - 0) tiles) ≡ levelTyped par rows
+        said =
+            ap (λ (t : List ℕ). lent w h par t) (ap (λ (k : ℕ). take k tiles) same ∙ L .laid rows (S .letters) (S .is))
+            ∙ ap₂ (λ (a b : ℕ). lent a b par (board a rows)) (S .width) (S .height)
+          where
+            same : w * h - 0 ≡ w * length rows
+            same = omega (arith, ap (λ (k : ℕ). w * k) (S .height))
+
+        first : First (asked (λ ask. ask (levelTyped par rows)) lending) c
+        first = subst (λ (l : Level). First (asked (λ ask. ask l) lending) c) said f
+
+        pub rows-refused : (old : List ℕ) → (c ≡ 0 → ⊥) → RowsReadAs par body old old (read.Refused c)
+        rows-refused old n = record {
+          rows = rows;
+          letters = S .letters;
+          is = S .is;
+          code = asked-typing c first;
+          is-level = λ z. absurd (n z);
+          width = λ z. absurd (n z);
+          height = λ z. absurd (n z);
+          par-is = λ z. absurd (n z);
+          tiles = λ z. absurd (n z);
+          kept = λ _. refl;
+        }
+
+        pub rows-read : (old new : List ℕ) → c ≡ 0 → new ≡ take (w * h - 0) tiles ++ drop (length (take (w * h - 0) tiles)) old
+            → RowsReadAs par body old new (read.Level w h par)
+        rows-read old new z put = record {
+          rows = rows;
+          letters = S .letters;
+          is = S .is;
+          code = subst (First (asked (λ ask. ask (levelTyped par rows)) typing)) z (asked-typing c first);
+          is-level = λ _. lent-level (levelTyped par rows) c z first;
+          width = λ _. S .width;
+          height = λ _. S .height;
+          par-is = λ _. refl;
+          tiles = λ _. put ∙ ap₂ (λ (t : List ℕ) (k : ℕ). t ++ drop k old) laid (ap length laid ∙ board-long (longest rows) rows (omega arith));
+          kept = λ n. absurd (n refl);
+        }
+          where
+            laid : take (w * h - 0) tiles ≡ board (longest rows) rows
+            laid = ap (λ (l : Level). l .tiles) said

@@ -36,7 +36,7 @@ module _ (text old : List ℕ) where
   module _ (room : 961 ≤ length old) (h : Head) (H : HeadIs text h) where
     -- no first line
     pub no-line : h .from ≡ 0 → TextReadsAs text old old (read.Refused 11)
-    no-line z = not-read-11 room (λ t. H .none z (t .par) (t .typed .par-small) (typed-starts text (t .par) (t .rows) (t .typed)))
+    no-line z = not-read-11 room (λ t. H .none z (t .par) (t .has .par-small) (typed-starts text (t .par) (t .rows) (t .has)))
 
     module _ (some : h .from ≡ 0 → ⊥) where
       -- what is behind the first line, as it is lent
@@ -54,15 +54,15 @@ module _ (text old : List ℕ) where
       rows-behind t =
           behind
           ∙ ap (λ (k : ℕ). drop (length (lineOf k)) text)
-          (one-par text (h .par) (t .par) (H .small some) (t .typed .par-small) (H .starts some) (typed-starts text (t .par) (t .rows) (t .typed)))
-          ∙ typed-rows text (t .par) (t .rows) (t .typed)
+          (one-par text (h .par) (t .par) (H .small some) (t .has .par-small) (H .starts some) (typed-starts text (t .par) (t .rows) (t .has)))
+          ∙ typed-rows text (t .par) (t .rows) (t .has)
 
       pub not-rows : (s : Seen) → SeenAs body s → ((s .foreign ≡ 0) × (s .column ≡ 0) → ⊥) → TextReadsAs text old old (read.Refused 11)
-      not-rows s S n = not-read-11 room (λ t. n (S .none (t .rows) (t .typed .letters) (rows-behind t)))
+      not-rows s S n = not-read-11 room (λ t. n (S .none (t .rows) (t .has .letters) (rows-behind t)))
 
       module _ (new : List ℕ) (a : RecordRead) (R : RowsReadAs (h .par) body old new a) where
-        typed : Typed text (h .par) (R .rows)
-        typed =
+        has : Typed text (h .par) (R .rows)
+        has =
             typed-by text (h .par) (R .rows) (H .small some) (R .letters)
             (started (lineOf (h .par)) text (H .starts some) ∙ ap (λ (l : List ℕ). lineOf (h .par) ++ l) (sym behind ∙ R .is))
 
@@ -70,7 +70,7 @@ module _ (text old : List ℕ) where
         level = levelTyped (h .par) (R .rows)
 
         says-level : SaysLevel text level
-        says-level = record { par = h .par; rows = R .rows; typed = typed; says = refl }
+        says-level = record { typed = record { par = h .par; rows = R .rows; has = has }; says = refl }
 
         count : length (board (longest (R .rows)) (R .rows)) ≡ longest (R .rows) * length (R .rows)
         count = board-long (longest (R .rows)) (R .rows) (omega arith)
@@ -104,7 +104,7 @@ module _ (text old : List ℕ) where
               inr (
                 room,
                 inr (
-                  record { par = h .par; rows = R .rows; typed = typed },
+                  says-level .typed,
                   first-alike (asked (λ ask. ask level) typing) (asked (OfText text) typing) (recordNumbers a .code)
                       (asked-alike (λ ask. ask level) (OfText text) typing (λ P p l s. subst P (one-level text level l says-level s) p) (λ P p. p level says-level)) (R .code),
                 ),

@@ -26,7 +26,10 @@ use Rattle.text.proofs.Written.{text-typed, typed-level}
 
 -- A level's text says it.
 pub text-says : (l : Level) → IsLevel l → SaysLevel (textOf l) l
-text-says l il = record { par = l .par; rows = rowsOf (l .width) (l .height) (l .tiles); typed = text-typed l il; says = sym (typed-level l il) }
+text-says l il = record {
+  typed = record { par = l .par; rows = rowsOf (l .width) (l .height) (l .tiles); has = text-typed l il };
+  says = sym (typed-level l il);
+}
 
 -- Two levels with one text are one level.
 pub text-injective : (l m : Level) → IsLevel l → IsLevel m → textOf l ≡ textOf m → l ≡ m
@@ -78,7 +81,7 @@ said-is-read text l old new a il s room A = (zero-code, one-level text (returned
     zero-code : recordNumbers a .code ≡ 0
     zero-code =
         none-first (readingText text (length old)) (recordNumbers a .code)
-        (room, (record { par = s .par; rows = s .rows; typed = s .typed }, (of (λ m. _) (il .ranged .sized), (of (λ m. _) (il .playable), tt)))) (A .code)
+        (room, (s .typed, (of (λ m. _) (il .ranged .sized), (of (λ m. _) (il .playable), tt)))) (A .code)
 
 -- And nothing else is.
 pub read-is-said : (text old new : List ℕ) (a : RecordRead) → TextReadsAs text old new a → recordNumbers a .code ≡ 0

@@ -19,19 +19,20 @@ use Rattle.typed.specs.Parts.{LineIs, lineOf}
 use Rattle.text.specs.Parts.{TextPut}
 use Rattle.text.specs.Writing.{TextWritesAs}
 use Rattle.typed.specs.declared.line.Line.{Line}
+use Rattle.typed.proofs.Lines.{line-part}
 use Rattle.text.proofs.Written.{joined-long, text-size, text-short}
 
 -- ---- stores
 
 -- a run of stores, and then another
-pub sets-append : (o xs ys : List ℕ) (a : ℕ) → sets o a (xs ++ ys) ≡ sets (sets o a xs) (a + length xs) ys
+sets-append : (o xs ys : List ℕ) (a : ℕ) → sets o a (xs ++ ys) ≡ sets (sets o a xs) (a + length xs) ys
 sets-append o [] ys a = ap (λ (k : ℕ). sets o k ys) (sym (add-zero a))
 sets-append o (x ∷ xs) ys a =
     let e : suc a + length xs ≡ a + suc (length xs) = omega arith in
     sets-append (set o a x) xs ys (suc a) ∙ ap (λ (k : ℕ). sets (sets (set o a x) (suc a) xs) k ys) e
 
 -- stores right behind a front
-pub sets-behind : (o f vs : List ℕ) → length f + length vs ≤ length o
+sets-behind : (o f vs : List ℕ) → length f + length vs ≤ length o
     → sets (f ++ drop (length f) o) (length f) vs ≡ f ++ vs ++ drop (length f + length vs) o
 sets-behind o f vs room =
     sets-eq vs (f ++ drop (length f) o) (length f) (omega (arith, length-append f (drop (length f) o), length-drop (length f) o))
@@ -45,7 +46,7 @@ abbrev pub lettered : List ℕ → ℕ → ℕ → List ℕ
 lettered ts k n = map letterOf (take n (drop k ts))
 
 module _ (ts : List ℕ) (k : ℕ) where
-  pub lettered-long : (n : ℕ) → k + n ≤ length ts → length (lettered ts k n) ≡ n
+  lettered-long : (n : ℕ) → k + n ≤ length ts → length (lettered ts k n) ≡ n
   lettered-long n h = length-map (take n (drop k ts)) letterOf ∙ length-take-le n (drop k ts) (omega (arith, length-drop k ts))
 
   lettered-next : (n : ℕ) → k + n < length ts → lettered ts k (n + 1) ≡ lettered ts k n ++ letterOf (getD ts (k + n) 0) ∷ []
@@ -112,10 +113,6 @@ module _ (w h par : ℕ) (ts o : List ℕ) (il : IsLevel (lent w h par ts)) (roo
   pub rows-fit : r .len + h * (w + 1) ≤ length o
   rows-fit = omega (arith, sized, text-short (lent w h par ts) il)
 
-  -- a part `[0..n]` arrives as n - 0 bytes
-  part : take (r .len - 0) (r .bytes) ≡ lineOf par
-  part = let z : r .len - 0 ≡ r .len = omega arith in ap (λ (n : ℕ). take n (r .bytes)) z ∙ line .is
-
   long : length body ≡ h * (w + 1)
   long = joined-long w h ts (omega (arith, il .count, mul-comm w h))
 
@@ -124,7 +121,7 @@ module _ (w h par : ℕ) (ts o : List ℕ) (il : IsLevel (lent w h par ts)) (roo
   text-put t u et eu = record {
     size = sized;
     text = eu
-        ∙ ap₂ (λ (v : List ℕ) (n : ℕ). sets v n body) (et ∙ ap (λ (f : List ℕ). f ++ drop (length f) o) part) (line .size)
+        ∙ ap₂ (λ (v : List ℕ) (n : ℕ). sets v n body) (et ∙ ap (λ (f : List ℕ). f ++ drop (length f) o) (line-part par r line)) (line .size)
         ∙ sets-behind o (lineOf par) body (omega (arith, line .size, long, rows-fit))
         ∙ ap₂ (λ (a : List ℕ) (n : ℕ). a ++ drop n o) (append-assoc (firstLine par) (10 ∷ []) body) end;
   }

@@ -4,7 +4,7 @@ use mathlib.Core.List.{List, [], _∷_, _++_, map, append-nil}
 use Prim.Native.Nat.{ℕ, zero, suc, _+_, _*_, _-_, _≤_, max}
 use native.Mathlib.Nat.{zero-mul, suc-mul, mul-comm, mul-le-mul, max-zero, max-eq-left, le-refl}
 use native.Mathlib.Omega.{arith}
-use lib.ListN.{length, getD, take, drop, replicate, length-append, length-drop, length-map, take-append-drop}
+use lib.ListN.{length, getD, take, drop, replicate, length-append, length-drop, length-map, take-append-drop, drop-of-length-le}
 use lib.Seq.{getD-drop, length-take-le}
 use Rattle.level.specs.Level.{Level, IsLevel}
 use Rattle.lending.proofs.Writing.{codes-all}
@@ -15,10 +15,7 @@ use Rattle.typed.proofs.Lines.{decimal-short}
 
 -- ---- sizes
 
--- all tiles, and the bytes of all rows
-pub tiles-few : (w h : ℕ) → w ≤ 31 → h ≤ 31 → w * h ≤ 961
-tiles-few w h a b = mul-le-mul a b
-
+-- the bytes of all rows
 pub rows-few : (w h : ℕ) → w ≤ 31 → h ≤ 31 → h * (w + 1) ≤ 992
 rows-few w h a b = mul-le-mul {n₁ = h} {m₁ = w + 1} {n₂ = 31} {m₂ = 32} b (omega arith)
 
@@ -44,11 +41,11 @@ module _ (w : ℕ) where
       )
 
   -- there are h rows, and the longest has w letters
-  pub rows-high : (h : ℕ) (ts : List ℕ) → length (rowsOf w h ts) ≡ h
+  rows-high : (h : ℕ) (ts : List ℕ) → length (rowsOf w h ts) ≡ h
   rows-high zero ts = refl
   rows-high (suc h) ts = ap suc (rows-high h (drop w ts))
 
-  pub rows-wide : (h : ℕ) (ts : List ℕ) → suc h * w ≤ length ts → longest (rowsOf w (suc h) ts) ≡ w
+  rows-wide : (h : ℕ) (ts : List ℕ) → suc h * w ≤ length ts → longest (rowsOf w (suc h) ts) ≡ w
   rows-wide zero ts k = ap (λ (n : ℕ). max n 0) (row-long zero ts k) ∙ max-zero w
   rows-wide (suc h) ts k =
       ap₂ max (row-long (suc h) ts k) (rows-wide h (drop w ts) (rest-long (suc h) ts k)) ∙ max-eq-left (le-refl w)
@@ -72,18 +69,14 @@ row-back zero ts s = refl
 row-back (suc n) [] s = refl
 row-back (suc n) (t ∷ ts) s = ap₂ (λ (c : ℕ) (cs : List ℕ). c ∷ cs) (letter-tile t (s 0)) (row-back n ts (λ q. s (suc q)))
 
-none-left : (ts : List ℕ) → length ts ≡ 0 → [] ≡ ts
-none-left [] e = refl
-none-left (t ∷ ts) e = absurd (omega arith)
-
 module _ (w : ℕ) where
-  pub rows-letters : (h : ℕ) (ts : List ℕ) → Small ts → Rows (rowsOf w h ts)
+  rows-letters : (h : ℕ) (ts : List ℕ) → Small ts → Rows (rowsOf w h ts)
   rows-letters zero ts s = tt
   rows-letters (suc h) ts s = (row-letters w ts s, rows-letters h (drop w ts) (small-rest w ts s))
 
   -- rows of full width are the board's tiles
-  pub rows-board : (h : ℕ) (ts : List ℕ) → Small ts → length ts ≡ h * w → board w (rowsOf w h ts) ≡ ts
-  rows-board zero ts s e = none-left ts (e ∙ zero-mul w)
+  rows-board : (h : ℕ) (ts : List ℕ) → Small ts → length ts ≡ h * w → board w (rowsOf w h ts) ≡ ts
+  rows-board zero ts s e = sym (drop-of-length-le ts {i = zero} (omega (arith, e, zero-mul w)))
   rows-board (suc h) ts s e =
       ap₂ (λ (a b : List ℕ). a ++ b) front (rows-board h (drop w ts) (small-rest w ts s) (omega (arith, suc-mul h w, length-drop w ts)))
       ∙ take-append-drop w ts

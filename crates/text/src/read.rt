@@ -2,20 +2,18 @@
 ghost use Prim.Native.Nat.{_≤_};
 ghost use lib.ListN.{length};
 ghost use Rattle.level.specs.Sizes.{tilesMost};
+ghost use Rattle.level.specs.Level.{Sized};
 ghost use Rattle.typed.specs.Parts.{Shown};
 ghost use Rattle.text.specs.Reading.{TextReadsAs};
 ghost use Rattle.text.specs.Parts.{RowsReadAs};
 use level::TILES_MOST;
 use record::read::RecordRead;
 
-// Refusals 12 and 10, and the tiles where there is none.
-fn accept(body: &[u8], par: usize, w: usize, h: usize, tiles: &mut [u8]) -> RecordRead
-    requires { ⌜ Shown (now body) w h × (par ≤ 1023) × (tilesMost ≤ length (now tiles)) ⌝ }
+// Refusal 10 of rows that have the size of a level, and their tiles where it is none. The board is floor until the rows are laid out on it.
+fn judge(body: &[u8], par: usize, w: usize, h: usize, tiles: &mut [u8]) -> RecordRead
+    requires { ⌜ Shown (now body) w h × Sized w h × (par ≤ 1023) × (tilesMost ≤ length (now tiles)) ⌝ }
     ensures { λ r. ⌜ RowsReadAs par (now (body .entry)) (now (tiles .entry)) (now (tiles .exit)) r ⌝ }
 {
-    if !lending::sized(w, h) {
-        return RecordRead::Refused(12);
-    }
     let mut board = [0u8; TILES_MOST];
     typed::rows::put(body, w, &mut board);
     let m = w * h;
@@ -29,6 +27,17 @@ fn accept(body: &[u8], par: usize, w: usize, h: usize, tiles: &mut [u8]) -> Reco
         height: h,
         par: par,
     }
+}
+
+// Refusals 12 and 10 of rows, and their tiles where there is none.
+fn accept(body: &[u8], par: usize, w: usize, h: usize, tiles: &mut [u8]) -> RecordRead
+    requires { ⌜ Shown (now body) w h × (par ≤ 1023) × (tilesMost ≤ length (now tiles)) ⌝ }
+    ensures { λ r. ⌜ RowsReadAs par (now (body .entry)) (now (tiles .entry)) (now (tiles .exit)) r ⌝ }
+{
+    if !lending::sized(w, h) {
+        return RecordRead::Refused(12);
+    }
+    judge(body, par, w, h, tiles)
 }
 
 // Reads a text.

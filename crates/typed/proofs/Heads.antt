@@ -111,7 +111,7 @@ four-digits n h =
     let d : n / 10 * 10 + n % 10 ≡ n = omega arith in
     rw (a) (omega (arith, b, c, d))
 
-pub decimal-spelled : (n : ℕ) (s : List ℕ) → n ≤ 1023 → spelled 4 0 (decimal n ++ 10 ∷ s) ≡ n
+decimal-spelled : (n : ℕ) (s : List ℕ) → n ≤ 1023 → spelled 4 0 (decimal n ++ 10 ∷ s) ≡ n
 decimal-spelled n s h =
     decimal-by n (λ ds. spelled 4 0 (ds ++ 10 ∷ s) ≡ n)
     (λ a. digit 3 0 n (10 ∷ s) ∙ feed 3 (0 * 10 + n % 10) s ∙ omega arith)
@@ -158,11 +158,3 @@ module _ (text : List ℕ) (n : ℕ) (told : n ≡ spelled 4 0 (drop 4 text)) wh
 
 pub head-read : (text : List ℕ) (n m : ℕ) → n ≤ 1023 → m ≡ length (lineOf n) → Starts (lineOf n) text → HeadIs text record { par = n; from = m }
 head-read text n m h e s = record { small = λ _. h; size = λ _. e; starts = λ _. s; none = λ z. absurd (omega (arith, z, e)) }
-
--- a line lent as a part of its bytes
-pub lent-line : (par n : ℕ) (bytes text : List ℕ) → take n bytes ≡ lineOf par → (Starts (take (n - 0) bytes) text → Starts (lineOf par) text)
-    × (Starts (lineOf par) text → Starts (take (n - 0) bytes) text)
-lent-line par n bytes text e =
-    let z : n - 0 ≡ n = omega arith in
-    let p = ap (λ (k : ℕ). take k bytes) z ∙ e in
-    (subst (λ (l : List ℕ). Starts l text) p, subst (λ (l : List ℕ). Starts l text) (sym p))

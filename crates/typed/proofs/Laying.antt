@@ -1,16 +1,17 @@
 -- Tiles put one after the other on a board that is floor.
-use mathlib.Core.Path.{_≡_, refl, sym, ap, ap₂, _∙_}
+use mathlib.Core.Path.{_≡_, refl, sym, ap, ap₂, _∙_, subst}
 use mathlib.Core.List.{List, [], _∷_, _++_, append-nil, append-assoc}
-use Prim.Native.Nat.{ℕ, zero, suc, _+_, _-_, _≤_, _<_}
+use Prim.Native.Nat.{ℕ, zero, suc, _+_, _*_, _-_, _≤_, _<_}
 use native.Mathlib.Decide.{ℕ-discrete}
 use native.Mathlib.Numerals.{add-one}
 use native.Mathlib.Omega.{arith}
-use lib.ListN.{length, getD, take, drop, set, replicate, length-append, length-replicate, length-set, drop-of-length-le}
+use lib.ListN.{length, getD, take, drop, set, replicate, length-append, length-replicate, length-set, length-drop, drop-of-length-le}
 use lib.Seq.{drop-cons, take-suc-set, append-snoc, take-add, length-take-le, getD-set-other, getD-drop}
 use Rattle.typed.specs.Letters.{tileOf}
-use Rattle.typed.specs.Parts.{unrolled, widest, PlacedAs}
+use Rattle.typed.specs.Text.{joined, Rows}
+use Rattle.typed.specs.Parts.{Layable, LaidOut, PlacedAs}
 use Rattle.typed.specs.declared.rows.Spot.{Spot}
-use Rattle.typed.proofs.Unrolling.{unrolled-feed, unrolled-letter, widest-feed, widest-letter, widest-least}
+use Rattle.typed.proofs.Unrolling.{Lettered, unrolled, widest, unrolled-feed, unrolled-letter, widest-feed, widest-letter, widest-least, rows-unrolled, rows-widest, rows-lettered, board-long}
 
 -- floor, and floor again
 floor-front : (k : ℕ) (l : List ℕ) → ((p : ℕ) → getD l p 0 ≡ 0) → k ≤ length l → take k l ≡ replicate k 0
@@ -25,13 +26,6 @@ pub record LaidTo (body : List ℕ) (w n : ℕ) (board : List ℕ) (at : Spot) (
   pub floor : (p : ℕ) → at .base + at .column ≤ p → getD board p 0 ≡ 0
   pub narrow : widest (at .column) (drop i body) ≤ w
   pub laid : take (at .base + at .column) board ++ unrolled w (at .column) (drop i body) ≡ unrolled w 0 body
-
-spot : ℕ → ℕ → Spot
-spot b c = record { base = b; column = c }
-
-pub laid-none : (body board : List ℕ) (w : ℕ) → ((p : ℕ) → getD board p 0 ≡ 0) → widest 0 body ≤ w
-    → LaidTo body w (length board) board (record { base = 0; column = 0 }) 0
-laid-none body board w z h = record { long = refl; inside = omega arith; floor = λ p _. z p; narrow = h; laid = refl }
 
 module _ (body board : List ℕ) (w n i : ℕ) (at : Spot) (L : LaidTo body w n board at i) (room : length (unrolled w 0 body) ≤ n) (more : i < length body) where
   abbrev here : ℕ
@@ -60,7 +54,7 @@ module _ (body board : List ℕ) (w n i : ℕ) (at : Spot) (L : LaidTo body w n 
   pub next-free : (byte ≡ 10 → ⊥) → here < n
   next-free k = omega (arith, fits, ap length (unrolled-letter w (at .column) byte rest k))
 
-  pub laid-feed : byte ≡ 10 → LaidTo body w n board (record { base = at .base + w; column = 0 }) (i + 1)
+  laid-feed : byte ≡ 10 → LaidTo body w n board (record { base = at .base + w; column = 0 }) (i + 1)
   laid-feed e = record {
     long = L .long;
     inside = omega (arith, room-row);
@@ -97,9 +91,9 @@ module _ (body board : List ℕ) (w n i : ℕ) (at : Spot) (L : LaidTo body w n 
       filling : take (w - at .column) (drop here board) ≡ replicate (w - at .column) 0
       filling =
           floor-front (w - at .column) (drop here board) (λ p. getD-drop here board p 0 ∙ L .floor (here + p) (omega arith))
-          (omega (arith, room-row, L .long, lib.ListN.length-drop here board))
+          (omega (arith, room-row, L .long, length-drop here board))
 
-  pub laid-letter : (byte ≡ 10 → ⊥) → LaidTo body w n (set board here (tileOf byte)) (record { base = at .base; column = at .column + 1 }) (i + 1)
+  laid-letter : (byte ≡ 10 → ⊥) → LaidTo body w n (set board here (tileOf byte)) (record { base = at .base; column = at .column + 1 }) (i + 1)
   laid-letter k = record {
     long = length-set board here (tileOf byte) ∙ L .long;
     inside = omega (arith, next-free k);
@@ -131,16 +125,40 @@ module _ (body board : List ℕ) (w n i : ℕ) (at : Spot) (L : LaidTo body w n 
       go (yes e) = rw (P .feed e .0, P .feed e .1) (laid-feed e)
       go (no k) = rw (P .letter k .0, P .letter k .1) (laid-letter k)
 
--- all bytes are placed
-pub laid-all : (body board : List ℕ) (w n i : ℕ) (at : Spot) → length body ≤ i → LaidTo body w n board at i
-    → take (length (unrolled w 0 body)) board ≡ unrolled w 0 body
-laid-all body board w n i at h L = ap (λ (k : ℕ). take k board) (sym size) ∙ all
-  where
-    all : take (at .base + at .column) board ≡ unrolled w 0 body
-    all =
-        sym (append-nil (take (at .base + at .column) board))
-        ∙ sym (ap (λ (l : List ℕ). take (at .base + at .column) board ++ unrolled w (at .column) l) (drop-of-length-le body h))
-        ∙ L .laid
+-- ---- rows that can be laid out
 
-    size : at .base + at .column ≡ length (unrolled w 0 body)
-    size = sym (length-take-le (at .base + at .column) board (omega (arith, L .long, L .inside))) ∙ ap length all
+module _ (body floor : List ℕ) (w : ℕ) (L : Layable body w floor) where
+  pub lettered : Lettered body
+  lettered = subst Lettered (sym (L .is)) (rows-lettered (L .rows) (L .letters))
+
+  wide : widest 0 body ≤ w
+  wide = omega (arith, ap (widest 0) (L .is), rows-widest (L .rows) (L .letters), L .narrow)
+
+  pub fits-board : length (unrolled w 0 body) ≤ length floor
+  fits-board =
+      omega (
+        arith,
+        ap (λ (s : List ℕ). length (unrolled w 0 s)) (L .is),
+        ap length (rows-unrolled w (L .rows) (L .letters)),
+        board-long w (L .rows) (L .narrow),
+        L .room,
+      )
+
+  pub laid-none : LaidTo body w (length floor) floor (record { base = 0; column = 0 }) 0
+  laid-none = record { long = refl; inside = omega arith; floor = λ p _. L .is-floor p; narrow = wide; laid = refl }
+
+  -- all bytes are placed
+  pub laid-all : (new : List ℕ) (i : ℕ) (at : Spot) → length body ≤ i → LaidTo body w (length floor) new at i → LaidOut body w new
+  laid-all new i at h A = record { laid = λ rows k e. ap (λ (n : ℕ). take n new) (size rows k e) ∙ all ∙ ap (unrolled w 0) e ∙ rows-unrolled w rows k }
+    where
+      all : take (at .base + at .column) new ≡ unrolled w 0 body
+      all =
+          sym (append-nil (take (at .base + at .column) new))
+          ∙ sym (ap (λ (l : List ℕ). take (at .base + at .column) new ++ unrolled w (at .column) l) (drop-of-length-le body h))
+          ∙ A .laid
+
+      size : (rows : List (List ℕ)) → Rows rows → body ≡ joined rows → w * length rows ≡ at .base + at .column
+      size rows k e =
+          sym (board-long w rows (omega (arith, wide, ap (widest 0) e, rows-widest rows k)))
+          ∙ sym (ap length (all ∙ ap (unrolled w 0) e ∙ rows-unrolled w rows k))
+          ∙ length-take-le (at .base + at .column) new (omega (arith, A .long, A .inside))

@@ -2,7 +2,7 @@
 use mathlib.Core.Path.{_≡_, refl, sym, ap, ap₂, _∙_}
 use mathlib.Core.Bool.{Bool, cond}
 use mathlib.Core.List.{List, [], _∷_, _++_, append-nil, append-assoc}
-use Prim.Native.Nat.{ℕ, _+_, _≤_, _<_, max}
+use Prim.Native.Nat.{ℕ, zero, _+_, _≤_, _<_, max}
 use native.Mathlib.Decide.{ℕ-discrete}
 use native.Mathlib.Omega.{arith}
 use native.Mathlib.Numerals.{add-one}
@@ -40,7 +40,7 @@ row-seen (x ∷ r) (t, h) f n c l rest =
     ∙ row-seen r h f n (c + 1) l rest
     ∙ ap (λ (k : ℕ). seenIn (seen f (n + 1) 0 (max l k)) rest) (omega arith)
 
-pub rows-seen : (rows : List (List ℕ)) → Rows rows → (n l : ℕ) → seenIn (seen 0 n 0 l) (joined rows) ≡ seen 0 (n + length rows) 0 (max l (longest rows))
+rows-seen : (rows : List (List ℕ)) → Rows rows → (n l : ℕ) → seenIn (seen 0 n 0 l) (joined rows) ≡ seen 0 (n + length rows) 0 (max l (longest rows))
 rows-seen [] h n l = ap₂ (λ (a b : ℕ). seen 0 a 0 b) (omega arith) (omega arith)
 rows-seen (r ∷ rs) (a, h) n l =
     row-seen r a 0 n 0 l (joined rs)
@@ -50,7 +50,7 @@ rows-seen (r ∷ rs) (a, h) n l =
 -- ---- and nothing else is
 
 -- the count of foreign bytes never falls
-pub foreign-grows : (cs : List ℕ) (s : Seen) → s .foreign ≤ seenIn s cs .foreign
+foreign-grows : (cs : List ℕ) (s : Seen) → s .foreign ≤ seenIn s cs .foreign
 foreign-grows [] s = omega arith
 foreign-grows (c ∷ cs) s = go (ℕ-discrete c 10) (foreign-grows cs (seenNext s c))
   where
@@ -67,12 +67,8 @@ record Cut (acc cs : List ℕ) : Type 0 where
   pub letters : Rows rows
   pub is : acc ++ cs ≡ joined rows
 
-empty : (r : List ℕ) → length r ≡ 0 → r ≡ []
-empty [] e = refl
-empty (x ∷ r) e = absurd (omega (arith, e))
-
 cut : (cs : List ℕ) (s : Seen) (acc : List ℕ) → Letters acc → s .column ≡ length acc → seenIn s cs .foreign ≡ 0 → seenIn s cs .column ≡ 0 → Cut acc cs
-cut [] s acc h k f z = record { rows = []; letters = tt; is = append-nil acc ∙ empty acc (omega (arith, k, z)) }
+cut [] s acc h k f z = record { rows = []; letters = tt; is = append-nil acc ∙ drop-of-length-le acc {i = zero} (omega (arith, k, z)) }
 cut (c ∷ cs) s acc h k f z = go (ℕ-discrete c 10) (λ a b i. cut cs (seenNext s c) a b i f z)
   where
     go : Dec (c ≡ 10) → ((a : List ℕ) → Letters a → seenNext s c .column ≡ length a → Cut a cs) → Cut acc (c ∷ cs)
@@ -88,7 +84,7 @@ cut (c ∷ cs) s acc h k f z = go (ℕ-discrete c 10) (λ a b i. cut cs (seenNex
 
 -- ---- what is told of all bytes
 
-pub seen-as : (body : List ℕ) (r : Seen) → r ≡ seenIn (seen 0 0 0 0) body → SeenAs body r
+seen-as : (body : List ℕ) (r : Seen) → r ≡ seenIn (seen 0 0 0 0) body → SeenAs body r
 seen-as body r e = record { shown = shown; none = none }
   where
     told : (rows : List (List ℕ)) → Rows rows → body ≡ joined rows → r ≡ seen 0 (length rows) 0 (longest rows)

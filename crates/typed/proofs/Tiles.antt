@@ -71,7 +71,7 @@ letters-all (l ∷ ls) P (p, a) c h = go (ℕ-discrete (l .letter) c) (λ k. let
     go (yes e) more = subst P e p
     go (no n) more = more (subst (λ (b : Bool). cond b (l .tile) (tileIn ls c) ≤ 6) (ne-eqb (l .letter) c n) h)
 
-pub each-letter : (P : ℕ → Type 0) → All letters P → (c : ℕ) → tileOf c ≤ 6 → P c
+each-letter : (P : ℕ → Type 0) → All letters P → (c : ℕ) → tileOf c ≤ 6 → P c
 unfolding tileOf
 each-letter P a c h = letters-all letters P a c h
 

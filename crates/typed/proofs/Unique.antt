@@ -6,7 +6,7 @@ use native.Mathlib.Omega.{arith}
 use lib.ListN.{length, getD, take, drop, length-append}
 use lib.Seq.{append-snoc, take-at, drop-at}
 use Rattle.level.specs.Level.{Level}
-use Rattle.typed.specs.Text.{joined, firstLine, Letters, Rows, Typed, levelTyped, SaysLevel}
+use Rattle.typed.specs.Text.{joined, firstLine, Letters, Rows, Typed, IsText, levelTyped, SaysLevel}
 use Rattle.typed.specs.Parts.{lineOf, spelled, Starts}
 use Rattle.typed.proofs.Tiles.{no-feed}
 use Rattle.typed.proofs.Heads.{line-spelled}
@@ -25,7 +25,7 @@ row-same (c ∷ r) (c' ∷ r') s s' (t, h) (t', h') e =
 some : (r s : List ℕ) → [] ≡ r ++ 10 ∷ s → ⊥
 some r s e = omega (arith, ap length e, length-append r (10 ∷ s))
 
-pub rows-same : (rows rows' : List (List ℕ)) → Rows rows → Rows rows' → joined rows ≡ joined rows' → rows ≡ rows'
+rows-same : (rows rows' : List (List ℕ)) → Rows rows → Rows rows' → joined rows ≡ joined rows' → rows ≡ rows'
 rows-same [] [] h h' e = refl
 rows-same [] (r ∷ rs) h h' e = absurd (some r (joined rs) e)
 rows-same (r ∷ rs) [] h h' e = absurd (some r (joined rs) (sym e))
@@ -36,7 +36,7 @@ rows-same (r ∷ rs) (r' ∷ rs') (a, h) (a', h') e =
 -- ---- the first line, and the rows behind it
 
 -- the first line of a text with its line feed, and what is behind
-pub typed-line : (text : List ℕ) (par : ℕ) (rows : List (List ℕ)) → Typed text par rows → text ≡ lineOf par ++ joined rows
+typed-line : (text : List ℕ) (par : ℕ) (rows : List (List ℕ)) → Typed text par rows → text ≡ lineOf par ++ joined rows
 typed-line text par rows T = T .is ∙ sym (append-snoc (firstLine par) 10 (joined rows))
 
 pub typed-starts : (text : List ℕ) (par : ℕ) (rows : List (List ℕ)) → Typed text par rows → Starts (lineOf par) text
@@ -58,15 +58,18 @@ pub one-par : (text : List ℕ) (par par' : ℕ) → par ≤ 1023 → par' ≤ 1
 one-par text par par' p p' s s' = sym (line-spelled par text p s) ∙ line-spelled par' text p' s'
 
 pub one-level : (text : List ℕ) (l l' : Level) → SaysLevel text l → SaysLevel text l' → l ≡ l'
-one-level text l l' S S' = S .says ∙ ap₂ levelTyped par (rows-same (S .rows) (S' .rows) (S .typed .letters) (S' .typed .letters) same) ∙ sym (S' .says)
+one-level text l l' S S' = S .says ∙ same (S .typed) (S' .typed) ∙ sym (S' .says)
   where
-    par : S .par ≡ S' .par
-    par =
-        one-par text (S .par) (S' .par) (S .typed .par-small) (S' .typed .par-small) (typed-starts text (S .par) (S .rows) (S .typed))
-        (typed-starts text (S' .par) (S' .rows) (S' .typed))
+    same : (t u : IsText text) → levelTyped (t .par) (t .rows) ≡ levelTyped (u .par) (u .rows)
+    same t u = ap₂ levelTyped par (rows-same (t .rows) (u .rows) (t .has .letters) (u .has .letters) rows)
+      where
+        par : t .par ≡ u .par
+        par =
+            one-par text (t .par) (u .par) (t .has .par-small) (u .has .par-small) (typed-starts text (t .par) (t .rows) (t .has))
+            (typed-starts text (u .par) (u .rows) (u .has))
 
-    same : joined (S .rows) ≡ joined (S' .rows)
-    same =
-        sym (typed-rows text (S .par) (S .rows) (S .typed))
-        ∙ ap (λ (k : ℕ). drop (length (lineOf k)) text) par
-        ∙ typed-rows text (S' .par) (S' .rows) (S' .typed)
+        rows : joined (t .rows) ≡ joined (u .rows)
+        rows =
+            sym (typed-rows text (t .par) (t .rows) (t .has))
+            ∙ ap (λ (k : ℕ). drop (length (lineOf k)) text) par
+            ∙ typed-rows text (u .par) (u .rows) (u .has)

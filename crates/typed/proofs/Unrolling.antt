@@ -2,16 +2,32 @@
 use mathlib.Core.Path.{_≡_, refl, sym, ap, ap₂, _∙_}
 use mathlib.Core.Bool.{Bool, cond}
 use mathlib.Core.List.{List, [], _∷_, _++_, map, append-assoc}
-use Prim.Native.Nat.{ℕ, zero, suc, _+_, _*_, _-_, _≤_, max}
+use Prim.Native.Nat.{ℕ, zero, suc, _+_, _*_, _-_, _≤_, _<_, max}
 use native.Mathlib.Nat.{mul-suc}
 use native.Mathlib.Decide.{ℕ-discrete}
 use native.Mathlib.Omega.{arith}
 use borrow.Author.Tests.{eq-eqb, ne-eqb}
-use lib.ListN.{length, replicate, length-append, length-replicate, length-map}
+use lib.Dec.{eqb}
+use lib.ListN.{length, getD, replicate, length-append, length-replicate, length-map}
 use Rattle.typed.specs.Letters.{tileOf}
 use Rattle.typed.specs.Text.{joined, Letters, Rows, longest, filled, board}
-use Rattle.typed.specs.Parts.{Lettered, unrolled, widest}
 use Rattle.typed.proofs.Tiles.{no-feed}
+
+-- ---- what is laid out
+
+-- each byte but a line feed is a letter
+abbrev pub Lettered : List ℕ → Type 0
+Lettered body = (i : ℕ) → i < length body → (getD body i 0 ≡ 10 → ⊥) → tileOf (getD body i 0) ≤ 6
+
+-- the tiles of rows, each filled to a width, the first after column letters of it
+abbrev pub unrolled : ℕ → ℕ → List ℕ → List ℕ
+unrolled w column [] = []
+unrolled w column (c ∷ cs) = cond (eqb c 10) (replicate (w - column) 0 ++ unrolled w 0 cs) (tileOf c ∷ unrolled w (column + 1) cs)
+
+-- the longest row, the first after column letters of it
+abbrev pub widest : ℕ → List ℕ → ℕ
+widest column [] = column
+widest column (c ∷ cs) = cond (eqb c 10) (max column (widest 0 cs)) (widest (column + 1) cs)
 
 -- ---- one byte
 

@@ -2,11 +2,12 @@
 use mathlib.Core.Path.{_≡_}
 use mathlib.Core.Bool.{cond}
 use mathlib.Core.List.{List, [], _∷_, _++_}
-use Prim.Native.Nat.{ℕ, zero, suc, _+_, _*_, _-_, _≤_, _<_, max}
+use Prim.Native.Nat.{ℕ, zero, suc, _+_, _*_, _-_, _≤_, max}
 use lib.Dec.{eqb, ltb}
-use lib.ListN.{length, getD, take, set, replicate}
+use lib.ListN.{length, getD, take, set}
+use Rattle.level.specs.Sizes.{tilesMost}
 use Rattle.typed.specs.Letters.{tileOf}
-use Rattle.typed.specs.Text.{joined, firstLine, Rows, longest}
+use Rattle.typed.specs.Text.{joined, firstLine, Rows, longest, board}
 use Rattle.typed.specs.declared.line.Line.{Line}
 use Rattle.typed.specs.declared.head.Head.{Head}
 use Rattle.typed.specs.declared.rows.Seen.{Seen}
@@ -72,19 +73,20 @@ pub record SeenAs (body : List ℕ) (r : Seen) : Type 0 where
 
 -- ---- rows laid out
 
--- each byte but a line feed is a letter
-abbrev pub Lettered : List ℕ → Type 0
-Lettered body = (i : ℕ) → i < length body → (getD body i 0 ≡ 10 → ⊥) → tileOf (getD body i 0) ≤ 6
+-- rows that no board of that width is too narrow for, and one that has room for them and is floor
+pub record Layable (body : List ℕ) (w : ℕ) (floor : List ℕ) : Type 0 where
+  pub rows : List (List ℕ)
+  pub letters : Rows rows
+  pub is : body ≡ joined rows
+  pub narrow : longest rows ≤ w
+  pub not-wider : w ≤ 31
+  pub room : w * length rows ≤ length floor
+  pub few : length floor ≤ tilesMost
+  pub is-floor : (p : ℕ) → getD floor p 0 ≡ 0
 
--- the tiles of rows, each filled to a width, the first after column letters of it
-abbrev pub unrolled : ℕ → ℕ → List ℕ → List ℕ
-unrolled w column [] = []
-unrolled w column (c ∷ cs) = cond (eqb c 10) (replicate (w - column) 0 ++ unrolled w 0 cs) (tileOf c ∷ unrolled w (column + 1) cs)
-
--- the longest row, the first after column letters of it
-abbrev pub widest : ℕ → List ℕ → ℕ
-widest column [] = column
-widest column (c ∷ cs) = cond (eqb c 10) (max column (widest 0 cs)) (widest (column + 1) cs)
+-- the tiles of the rows stand in front
+pub record LaidOut (body : List ℕ) (w : ℕ) (new : List ℕ) : Type 0 where
+  pub laid : (rows : List (List ℕ)) → Rows rows → body ≡ joined rows → take (w * length rows) new ≡ board w rows
 
 -- a byte placed: a line feed goes to the next row, a letter puts its tile
 pub record PlacedAs (c w : ℕ) (at : Spot) (old new : List ℕ) (r : Spot) : Type 0 where

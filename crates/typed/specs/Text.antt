@@ -67,7 +67,7 @@ pub record Typed (text : List ℕ) (par : ℕ) (rows : List (List ℕ)) : Type 0
 pub record IsText (text : List ℕ) : Type 0 where
   pub par : ℕ
   pub rows : List (List ℕ)
-  pub typed : Typed text par rows
+  pub has : Typed text par rows
 
 -- FORMAT 13.4, 13.5: the level of a par and rows, as far as it is one
 abbrev pub levelTyped : ℕ → List (List ℕ) → Level
@@ -75,10 +75,8 @@ levelTyped par rows = record { version = 1; width = longest rows; height = lengt
 
 -- FORMAT 13.8: the text says the level
 pub record SaysLevel (text : List ℕ) (l : Level) : Type 0 where
-  pub par : ℕ
-  pub rows : List (List ℕ)
-  pub typed : Typed text par rows
-  pub says : l ≡ levelTyped par rows
+  pub typed : IsText text
+  pub says : l ≡ levelTyped (typed .par) (typed .rows)
 
 -- ---- the text of a level
 

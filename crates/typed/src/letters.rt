@@ -5,7 +5,7 @@ ghost use Rattle.typed.specs.Letters.{tileOf, letterOf};
 ghost use Rattle.typed.specs.Parts.{foreign};
 
 // 1 for a byte that is no letter, else 0.
-pub fn is_foreign(c: u8) -> usize
+pub(crate) fn is_foreign(c: u8) -> usize
     ensures { λ r. ⌜ r ≡ foreign c ⌝ }
 {
     match c {
@@ -23,7 +23,7 @@ pub fn is_foreign(c: u8) -> usize
 
 // The tile of a letter. With 64 moved next to 32 the letters differ in their last four bits, so that the arms lie close enough to become a
 // table, and no jump has to be guessed.
-pub fn tile_of(c: u8) -> u8
+pub(crate) fn tile_of(c: u8) -> u8
     requires { ⌜ tileOf c ≤ 6 ⌝ }
     ensures { λ r. ⌜ r ≡ tileOf c ⌝ }
 {

@@ -1,9 +1,9 @@
 // The rows of a text: seen once for their number and the longest, and laid out once that is known.
 ghost use mathlib.Core.Path.{_≡_};
-ghost use Prim.Native.Nat.{ℕ, _+_, _≤_, _<_, max};
-ghost use lib.ListN.{length, getD, take};
+ghost use Prim.Native.Nat.{_+_, _≤_, _<_, max};
+ghost use lib.ListN.{length};
 ghost use Rattle.typed.specs.Letters.{tileOf};
-ghost use Rattle.typed.specs.Parts.{seenNext, SeenAs, Lettered, PlacedAs, unrolled, widest};
+ghost use Rattle.typed.specs.Parts.{seenNext, SeenAs, Layable, LaidOut, PlacedAs};
 
 // What was seen: bytes that are no letters, rows ended, letters since, the longest row that ended.
 pub struct Seen {
@@ -87,8 +87,8 @@ fn place(at: Spot, c: u8, w: usize, board: &mut [u8]) -> Spot
 
 // The tiles of all rows, in front of a board that is floor: so that short rows are filled.
 pub fn put(body: &[u8], w: usize, board: &mut [u8])
-    requires { ⌜ Lettered (now body) × ((p : ℕ) → getD (now board) p 0 ≡ 0) × (widest 0 (now body) ≤ w) × (w ≤ 31) × (length (unrolled w 0 (now body)) ≤ length (now board)) × (length (now board) ≤ 961) ⌝ }
-    ensures { λ _. ⌜ take (length (unrolled w 0 (now (body .entry)))) (now (board .exit)) ≡ unrolled w 0 (now (body .entry)) ⌝ }
+    requires { ⌜ Layable (now body) w (now board) ⌝ }
+    ensures { λ _. ⌜ LaidOut (now (body .entry)) w (now (board .exit)) ⌝ }
 {
     let mut at = Spot { base: 0, column: 0 };
     let mut i: usize = 0;

@@ -1,5 +1,6 @@
 use Rattle.text.proofs.Writing.{row-tiles, row-bytes, rows-next}
-use Rattle.text.proofs.Written.{tiles-few, rows-few}
+use Rattle.fields.proofs.Tiles.{area-small}
+use Rattle.text.proofs.Written.{rows-few}
 use Rattle.typed.specs.Text.{joined, rowsOf}
 use mathlib.Core.Path.{_≡_, refl, ap, _∙_}
 use Prim.Native.Nat.{ℕ, _-_, _≤_}
@@ -24,7 +25,7 @@ mul-put-letters c =
     let a = c .before .before .before .before .args in
     let p = c .before .before .before .before .pre in
     let L = c .before .loop in
-    omega (arith, row-tiles (a .w) (a .h) (L .y) (omega arith), tiles-few (a .w) (a .h) (p .2) (p .3))
+    omega (arith, row-tiles (a .w) (a .h) (L .y) (omega arith), area-small (a .w) (a .h) (p .2) (p .3))
 
 add-put-letters : tie.Need-add-put-letters Inv-loop μ-loop
 add-put-letters c = search needs
@@ -52,7 +53,7 @@ put-letters-requires c κs =
       p .0,
       omega (arith, p .1, row-tiles (a .w) (a .h) (L .y) (omega arith)),
       omega (arith, long, row-bytes (a .w) (a .h) (L .y) (omega arith)),
-      omega (arith, p .1, tiles-few (a .w) (a .h) (p .2) (p .3)),
+      omega (arith, p .1, area-small (a .w) (a .h) (p .2) (p .3)),
     )
 
 add-y : tie.Need-add-y Inv-loop μ-loop

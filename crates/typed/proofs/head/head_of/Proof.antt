@@ -1,11 +1,14 @@
-use mathlib.Core.Path.{_≡_}
+use mathlib.Core.Path.{_≡_, sym, subst}
+use mathlib.Core.List.{List}
+use Prim.Native.Nat.{ℕ}
 use native.Mathlib.Omega.{arith}
 use lib.ListN.{length}
 use borrow.Author.Tests.{not-true, not-false}
 use borrow.Author.Needs.{needs}
 use Rattle.rules.proofs.Tests.{said, denied}
 use Rattle.typed.specs.Parts.{Starts}
-use Rattle.typed.proofs.Heads.{head-large, head-other, head-read, lent-line}
+use Rattle.typed.proofs.Lines.{line-part}
+use Rattle.typed.proofs.Heads.{head-large, head-other, head-read}
 use Rattle.typed.proofs.head.head_of.Statement.{statement}
 use Rattle.typed.proofs.head.head_of.Tie as tie
 
@@ -48,7 +51,8 @@ returns-2 c =
     let t = c .before .before .starts in
     let text = c .before .before .before .before .before .before .before .before .before .before .args .text .now in
     head-other text (n .result) (n .ensures)
-    (λ s. denied (Starts _ text) (t .result) (not-true (t .result) (c .before .if2 .taken)) (t .ensures) (lent-line (n .result) (l .result .len) (l .result .bytes) text (l .ensures .is) .1 s))
+    (λ s. denied (Starts _ text) (t .result) (not-true (t .result) (c .before .if2 .taken)) (t .ensures)
+    (subst (λ (x : List ℕ). Starts x text) (sym (line-part (n .result) (l .result) (l .ensures))) s))
     (c .none2 .result) (c .none2 .ensures)
 
 returns-3 : tie.Need-returns-3
@@ -58,7 +62,7 @@ returns-3 c =
     let t = c .before .starts in
     let text = c .before .before .before .before .before .before .before .before .before .args .text .now in
     head-read text (n .result) (l .result .len) (omega (arith, c .before .before .before .before .before .before .if1 .left)) (l .ensures .size)
-    (lent-line (n .result) (l .result .len) (l .result .bytes) text (l .ensures .is) .0
+    (subst (λ (x : List ℕ). Starts x text) (line-part (n .result) (l .result) (l .ensures))
     (said (Starts _ text) (t .result) (not-false (t .result) (c .if2 .left)) (t .ensures)))
 
 pub head-of-spec : {M : Type 1} → statement M

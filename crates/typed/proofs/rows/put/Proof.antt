@@ -2,7 +2,7 @@ use Prim.Native.Nat.{_-_, _≤_}
 use native.Mathlib.Omega.{arith}
 use borrow.Author.Needs.{needs}
 use lib.ListN.{length}
-use Rattle.typed.proofs.Laying.{LaidTo, laid-none, next-free, laid-more, laid-all}
+use Rattle.typed.proofs.Laying.{LaidTo, lettered, fits-board, laid-none, next-free, laid-more, laid-all}
 use Rattle.typed.proofs.rows.put.Statement.{statement}
 use Rattle.typed.proofs.rows.put.Tie as tie
 
@@ -15,7 +15,7 @@ abbrev μ-loop : tie.MeasureT-loop
 loop-holds : tie.Need-loop-holds Inv-loop μ-loop
 loop-holds c =
     let o = c .before .before in
-    (omega arith, laid-none (o .args .body .now) (o .args .board .now) (o .args .w) (o .pre .1) (o .pre .2))
+    (omega arith, laid-none (o .args .body .now) (o .args .board .now) (o .args .w) (o .pre))
 
 shared-slice-read-place : tie.Need-shared-slice-read-place Inv-loop μ-loop
 shared-slice-read-place c = search needs
@@ -24,13 +24,14 @@ place-requires : tie.Need-place-requires Inv-loop μ-loop
 place-requires c κs =
     let o = c .before .before .before .before .before .before in
     let l = c .before .before .before .loop in
-    let L = l .inv .1 in (
-      omega (arith, L .inside, o .pre .3, o .pre .5),
+    let L = l .inv .1 in
+    let room = fits-board (o .args .body .now) (o .args .board .now) (o .args .w) (o .pre) in (
+      omega (arith, L .inside, o .pre .not-wider, o .pre .few),
       λ k. (
-        o .pre .0 (l .i) (omega arith) k,
+        lettered (o .args .body .now) (o .args .board .now) (o .args .w) (o .pre) (l .i) (omega arith) k,
         omega (
           arith,
-          next-free (o .args .body .now) (l .board) (o .args .w) (length (o .args .board .now)) (l .i) (l .at) L (o .pre .4) (omega arith) k,
+          next-free (o .args .body .now) (l .board) (o .args .w) (length (o .args .board .now)) (l .i) (l .at) L room (omega arith) k,
           L .long,
         ),
       ),
@@ -47,7 +48,8 @@ loop-again c =
     let o = c .before .before .before .before .before .before .before .before .before in
     let l = c .before .before .before .before .before .before .loop in (
       omega arith,
-      laid-more (o .args .body .now) (l .board) (o .args .w) (length (o .args .board .now)) (l .i) (l .at) (l .inv .1) (o .pre .4) (omega arith) _ _
+      laid-more (o .args .body .now) (l .board) (o .args .w) (length (o .args .board .now)) (l .i) (l .at) (l .inv .1)
+          (fits-board (o .args .body .now) (o .args .board .now) (o .args .w) (o .pre)) (omega arith) _ _
           (c .before .before .place .ensures),
     )
 
@@ -58,7 +60,7 @@ returns : tie.Need-returns Inv-loop μ-loop
 returns c =
     let o = c .before .before .before .before in
     let l = c .before .loop in
-    laid-all (o .args .body .now) (l .board) (o .args .w) (length (o .args .board .now)) (l .i) (l .at) (omega arith) (l .inv .1)
+    laid-all (o .args .body .now) (o .args .board .now) (o .args .w) (o .pre) (l .board) (l .i) (l .at) (omega arith) (l .inv .1)
 
 pub put-spec : {M : Type 1} → statement M
 put-spec =

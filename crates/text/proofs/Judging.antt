@@ -1,11 +1,11 @@
 -- Rows judged: refusals 12 and 10, and the tiles where there is none.
-use mathlib.Core.Path.{_≡_, refl, ap, ap₂, _∙_, subst}
+use mathlib.Core.Path.{_≡_, refl, sym, ap, ap₂, _∙_, subst}
 use mathlib.Core.Logic.{inl, inr, ⊎-elim}
 use mathlib.Core.List.{List, [], _∷_, _++_, map}
 use Prim.Native.Nat.{ℕ, zero, suc, _+_, _*_, _-_, _≤_, _<_}
 use native.Mathlib.Omega.{arith}
 use lib.ListN.{length, getD, take, drop, replicate, length-append, length-replicate, getD-replicate, List·getD-append, List·getD-eq-default}
-use lib.Seq.{getD-append-add}
+use lib.Seq.{getD-append-add, take-at, drop-at}
 use Rattle.rules.specs.Refusal.{First, asked}
 use Rattle.rules.proofs.Laws.{stops}
 use Rattle.rules.proofs.Numbers.{lt-or-ge}
@@ -57,19 +57,15 @@ all-floor n p =
 
 module _ (body : List ℕ) (w h par : ℕ) (S : Shown body w h) where
   abbrev rows : List (List ℕ)
-  rows = S .rows
+  rows = S .has .rows
 
   pub rows-12 : (old : List ℕ) → (Sized w h → ⊥) → RowsReadAs par body old old (read.Refused 12)
   rows-12 old n = record {
-    rows = rows;
-    letters = S .letters;
-    is = S .is;
+    has = S .has;
     code = stops 0 (asked (λ ask. ask (levelTyped par rows)) typing) 12 ((λ z. n (rw (S .width, S .height) z)), refl);
     is-level = λ z. absurd (omega (arith, z));
-    width = λ z. absurd (omega (arith, z));
-    height = λ z. absurd (omega (arith, z));
-    par-is = λ z. absurd (omega (arith, z));
-    tiles = λ z. absurd (omega (arith, z));
+    says = λ z. absurd (omega (arith, z));
+    past = λ z. absurd (omega (arith, z));
     kept = λ _. refl;
   }
 
@@ -80,9 +76,7 @@ module _ (body : List ℕ) (w h par : ℕ) (S : Shown body w h) where
     -- a board of floor has room for the rows
     pub layable : Layable body w (replicate 961 0)
     layable = record {
-      rows = rows;
-      letters = S .letters;
-      is = S .is;
+      has = S .has;
       narrow = omega (arith, S .width);
       not-wider = sized .not-wider;
       room = omega (arith, few, ap (λ (k : ℕ). w * k) (S .height), length-replicate {A = ℕ} 961 0);
@@ -95,14 +89,14 @@ module _ (body : List ℕ) (w h par : ℕ) (S : Shown body w h) where
       asked-typing : (c : ℕ) → First (asked (λ ask. ask (levelTyped par rows)) lending) c → First (asked (λ ask. ask (levelTyped par rows)) typing) c
       asked-typing c (inl p) = absurd (p .0 (record { known = refl; sized = rw (← S .width, ← S .height) sized; par-small = par-small }))
       asked-typing c (inr (r, inl p)) = absurd (p .0 (board-long (longest rows) rows (omega arith)))
-      asked-typing c (inr (r, inr (n, inl p))) = absurd (p .0 (coded (longest rows) rows (S .letters)))
+      asked-typing c (inr (r, inr (n, inl p))) = absurd (p .0 (coded (longest rows) rows (S .has .letters)))
       asked-typing c (inr (r, inr (n, inr (k, f)))) = inr (r .sized, f)
 
       module _ (tiles : List ℕ) (L : LaidOut body w tiles) (c : ℕ) (f : First (asked (λ ask. ask (lent w h par (take (w * h - 0) tiles))) lending) c) where
         -- the level that was asked is the one that the rows say
         said : lent w h par (take (w * h - 0) tiles) ≡ levelTyped par rows
         said =
-            ap (λ (t : List ℕ). lent w h par t) (ap (λ (k : ℕ). take k tiles) same ∙ L .laid rows (S .letters) (S .is))
+            ap (λ (t : List ℕ). lent w h par t) (ap (λ (k : ℕ). take k tiles) same ∙ L .laid (S .has))
             ∙ ap₂ (λ (a b : ℕ). lent a b par (board a rows)) (S .width) (S .height)
           where
             same : w * h - 0 ≡ w * length rows
@@ -113,32 +107,28 @@ module _ (body : List ℕ) (w h par : ℕ) (S : Shown body w h) where
 
         pub rows-refused : (old : List ℕ) → (c ≡ 0 → ⊥) → RowsReadAs par body old old (read.Refused c)
         rows-refused old n = record {
-          rows = rows;
-          letters = S .letters;
-          is = S .is;
+          has = S .has;
           code = asked-typing c first;
           is-level = λ z. absurd (n z);
-          width = λ z. absurd (n z);
-          height = λ z. absurd (n z);
-          par-is = λ z. absurd (n z);
-          tiles = λ z. absurd (n z);
+          says = λ z. absurd (n z);
+          past = λ z. absurd (n z);
           kept = λ _. refl;
         }
 
+        -- the tiles copied in front are all of the board
         pub rows-read : (old new : List ℕ) → c ≡ 0 → new ≡ take (w * h - 0) tiles ++ drop (length (take (w * h - 0) tiles)) old
             → RowsReadAs par body old new (read.Level w h par)
         rows-read old new z put = record {
-          rows = rows;
-          letters = S .letters;
-          is = S .is;
+          has = S .has;
           code = subst (First (asked (λ ask. ask (levelTyped par rows)) typing)) z (asked-typing c first);
           is-level = λ _. lent-level (levelTyped par rows) c z first;
-          width = λ _. S .width;
-          height = λ _. S .height;
-          par-is = λ _. refl;
-          tiles = λ _. put ∙ ap₂ (λ (t : List ℕ) (k : ℕ). t ++ drop k old) laid (ap length laid ∙ board-long (longest rows) rows (omega arith));
+          says = λ _. ap (λ (t : List ℕ). lent w h par t) (ap (take (w * h)) put ∙ take-at (take (w * h - 0) tiles) _ (w * h) count) ∙ said;
+          past = λ _. ap (drop (w * h)) put ∙ drop-at (take (w * h - 0) tiles) _ (w * h) count ∙ ap (λ (k : ℕ). drop k old) count;
           kept = λ n. absurd (n refl);
         }
           where
-            laid : take (w * h - 0) tiles ≡ board (longest rows) rows
-            laid = ap (λ (l : Level). l .tiles) said
+            count : length (take (w * h - 0) tiles) ≡ w * h
+            count =
+                ap (λ (l : Level). length (l .tiles)) said
+                ∙ board-long (longest rows) rows (omega arith)
+                ∙ sym (ap₂ (λ (a b : ℕ). a * b) (S .width) (S .height))

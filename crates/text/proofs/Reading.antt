@@ -1,26 +1,24 @@
 -- The answers of the reader.
-use mathlib.Core.Path.{_≡_, refl, sym, ap, ap₂, _∙_, subst}
+use mathlib.Core.Path.{_≡_, refl, sym, ap, _∙_, subst}
 use mathlib.Core.Logic.{inr}
 use mathlib.Core.List.{List, _++_}
-use Prim.Native.Nat.{ℕ, _*_, _-_, _≤_}
+use Prim.Native.Nat.{ℕ, _-_, _≤_}
 use native.Mathlib.Omega.{arith}
 use lib.ListN.{length, take, drop, length-drop, length-take}
-use lib.Seq.{take-all, take-at, drop-at}
+use lib.Seq.{take-all}
 use Rattle.rules.specs.Refusal.{First, asked}
 use Rattle.rules.proofs.Laws.{stops, first-alike, asked-alike}
 use Rattle.level.specs.Level.{Level, IsLevel}
-use Rattle.level.specs.Reading.{returned}
 use Rattle.record.specs.Reading.{recordNumbers}
 use Rattle.record.specs.declared.read.RecordRead.{RecordRead}
 use Rattle.record.specs.declared.read.RecordRead.the-variants as read
-use Rattle.typed.specs.Text.{joined, longest, board, Typed, IsText, levelTyped, SaysLevel}
+use Rattle.typed.specs.Text.{joined, Typed, IsText, levelTyped, SaysLevel}
 use Rattle.typed.specs.Parts.{lineOf, HeadIs, SeenAs}
 use Rattle.text.specs.Reading.{OfText, typing, readingText, TextReadsAs}
 use Rattle.text.specs.Parts.{RowsReadAs}
 use Rattle.typed.specs.declared.head.Head.{Head}
 use Rattle.typed.specs.declared.rows.Seen.{Seen}
 use Rattle.typed.proofs.Heads.{started}
-use Rattle.typed.proofs.Unrolling.{board-long}
 use Rattle.typed.proofs.Unique.{typed-starts, typed-rows, typed-by, one-par, one-level}
 
 module _ (text old : List ℕ) where
@@ -58,45 +56,19 @@ module _ (text old : List ℕ) where
           ∙ typed-rows text (t .par) (t .rows) (t .has)
 
       pub not-rows : (s : Seen) → SeenAs body s → ((s .foreign ≡ 0) × (s .column ≡ 0) → ⊥) → TextReadsAs text old old (read.Refused 11)
-      not-rows s S n = not-read-11 room (λ t. n (S .none (t .rows) (t .has .letters) (rows-behind t)))
+      not-rows s S n = not-read-11 room (λ t. n (S .none (record { rows = t .rows; letters = t .has .letters; is = rows-behind t })))
 
       module _ (new : List ℕ) (a : RecordRead) (R : RowsReadAs (h .par) body old new a) where
-        has : Typed text (h .par) (R .rows)
+        has : Typed text (h .par) (R .has .rows)
         has =
-            typed-by text (h .par) (R .rows) (H .small some) (R .letters)
-            (started (lineOf (h .par)) text (H .starts some) ∙ ap (λ (l : List ℕ). lineOf (h .par) ++ l) (sym behind ∙ R .is))
+            typed-by text (h .par) (R .has .rows) (H .small some) (R .has .letters)
+            (started (lineOf (h .par)) text (H .starts some) ∙ ap (λ (l : List ℕ). lineOf (h .par) ++ l) (sym behind ∙ R .has .is))
 
         abbrev level : Level
-        level = levelTyped (h .par) (R .rows)
+        level = levelTyped (h .par) (R .has .rows)
 
         says-level : SaysLevel text level
-        says-level = record { typed = record { par = h .par; rows = R .rows; has = has }; says = refl }
-
-        count : length (board (longest (R .rows)) (R .rows)) ≡ longest (R .rows) * length (R .rows)
-        count = board-long (longest (R .rows)) (R .rows) (omega arith)
-
-        module _ (z : recordNumbers a .code ≡ 0) where
-          area : recordNumbers a .width * recordNumbers a .height ≡ longest (R .rows) * length (R .rows)
-          area = ap₂ (λ (x y : ℕ). x * y) (R .width z) (R .height z)
-
-          tiles : take (recordNumbers a .width * recordNumbers a .height) new ≡ board (longest (R .rows)) (R .rows)
-          tiles =
-              ap₂ (λ (k : ℕ) (l : List ℕ). take k l) area (R .tiles z)
-              ∙ take-at (board (longest (R .rows)) (R .rows)) (drop (longest (R .rows) * length (R .rows)) old) (longest (R .rows) * length (R .rows)) count
-
-          past : drop (recordNumbers a .width * recordNumbers a .height) new ≡ drop (recordNumbers a .width * recordNumbers a .height) old
-          past =
-              ap₂ (λ (k : ℕ) (l : List ℕ). drop k l) area (R .tiles z)
-              ∙ drop-at (board (longest (R .rows)) (R .rows)) (drop (longest (R .rows) * length (R .rows)) old) (longest (R .rows) * length (R .rows)) count
-              ∙ sym (ap (λ (k : ℕ). drop k old) area)
-
-          back : level ≡ returned (recordNumbers a) new
-          back = sym (
-              ap₂ (λ (x y : ℕ). made x y (recordNumbers a .par) (take (recordNumbers a .width * recordNumbers a .height) new)) (R .width z) (R .height z)
-              ∙ ap₂ (λ (p : ℕ) (l : List ℕ). made (longest (R .rows)) (length (R .rows)) p l) (R .par-is z) tiles)
-            where
-              made : ℕ → ℕ → ℕ → List ℕ → Level
-              made w h p l = record { version = 1; width = w; height = h; par = p; tiles = l }
+        says-level = record { typed = record { par = h .par; rows = R .has .rows; has = has }; says = refl }
 
         pub text-read : TextReadsAs text old new a
         text-read = record {
@@ -109,8 +81,8 @@ module _ (text old : List ℕ) where
                       (asked-alike (λ ask. ask level) (OfText text) typing (λ P p l s. subst P (one-level text level l says-level s) p) (λ P p. p level says-level)) (R .code),
                 ),
               );
-          is-level = λ z. subst IsLevel (back z) (R .is-level z);
-          says = λ z. subst (SaysLevel text) (back z) says-level;
-          past = past;
+          is-level = λ z. subst IsLevel (sym (R .says z)) (R .is-level z);
+          says = λ z. subst (SaysLevel text) (sym (R .says z)) says-level;
+          past = R .past;
           kept = R .kept;
         }

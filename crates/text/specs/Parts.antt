@@ -7,20 +7,19 @@ use Rattle.rules.specs.Refusal.{First, asked}
 use Rattle.level.specs.Level.{Level, IsLevel}
 use Rattle.record.specs.declared.read.RecordRead.{RecordRead}
 use Rattle.record.specs.Reading.{recordNumbers}
-use Rattle.typed.specs.Text.{joined, Rows, longest, board, levelTyped, textOf}
+use Rattle.level.specs.Reading.{returned}
+use Rattle.typed.specs.Text.{levelTyped, textOf}
+use Rattle.typed.specs.Parts.{IsRows}
 use Rattle.text.specs.Reading.{typing}
 
 -- rows judged, and their tiles written where nothing is refused
 pub record RowsReadAs (par : ℕ) (body old new : List ℕ) (a : RecordRead) : Type 0 where
-  pub rows : List (List ℕ)
-  pub letters : Rows rows
-  pub is : body ≡ joined rows
-  pub code : First (asked (λ ask. ask (levelTyped par rows)) typing) (recordNumbers a .code)
-  pub is-level : recordNumbers a .code ≡ 0 → IsLevel (levelTyped par rows)
-  pub width : recordNumbers a .code ≡ 0 → recordNumbers a .width ≡ longest rows
-  pub height : recordNumbers a .code ≡ 0 → recordNumbers a .height ≡ length rows
-  pub par-is : recordNumbers a .code ≡ 0 → recordNumbers a .par ≡ par
-  pub tiles : recordNumbers a .code ≡ 0 → new ≡ board (longest rows) rows ++ drop (longest rows * length rows) old
+  pub has : IsRows body
+  pub code : First (asked (λ ask. ask (levelTyped par (has .rows))) typing) (recordNumbers a .code)
+  pub is-level : recordNumbers a .code ≡ 0 → IsLevel (levelTyped par (has .rows))
+  pub says : recordNumbers a .code ≡ 0 → returned (recordNumbers a) new ≡ levelTyped par (has .rows)
+  pub past : recordNumbers a .code ≡ 0
+      → drop (recordNumbers a .width * recordNumbers a .height) new ≡ drop (recordNumbers a .width * recordNumbers a .height) old
   pub kept : (recordNumbers a .code ≡ 0 → ⊥) → new ≡ old
 
 -- the text of a level put in front of a buffer, its length told

@@ -8,8 +8,8 @@ use native.Mathlib.Omega.{arith}
 use lib.ListN.{length, getD, take, drop, set, replicate, length-append, length-replicate, length-set, length-drop, drop-of-length-le}
 use lib.Seq.{drop-cons, take-suc-set, append-snoc, take-add, length-take-le, getD-set-other, getD-drop}
 use Rattle.typed.specs.Letters.{tileOf}
-use Rattle.typed.specs.Text.{joined, Rows}
-use Rattle.typed.specs.Parts.{Layable, LaidOut, PlacedAs}
+use Rattle.typed.specs.Text.{board}
+use Rattle.typed.specs.Parts.{IsRows, Layable, LaidOut, PlacedAs}
 use Rattle.typed.specs.declared.rows.Spot.{Spot}
 use Rattle.typed.proofs.Unrolling.{Lettered, unrolled, widest, unrolled-feed, unrolled-letter, widest-feed, widest-letter, widest-least, rows-unrolled, rows-widest, rows-lettered, board-long}
 
@@ -129,18 +129,18 @@ module _ (body board : List ℕ) (w n i : ℕ) (at : Spot) (L : LaidTo body w n 
 
 module _ (body floor : List ℕ) (w : ℕ) (L : Layable body w floor) where
   pub lettered : Lettered body
-  lettered = subst Lettered (sym (L .is)) (rows-lettered (L .rows) (L .letters))
+  lettered = subst Lettered (sym (L .has .is)) (rows-lettered (L .has .rows) (L .has .letters))
 
   wide : widest 0 body ≤ w
-  wide = omega (arith, ap (widest 0) (L .is), rows-widest (L .rows) (L .letters), L .narrow)
+  wide = omega (arith, ap (widest 0) (L .has .is), rows-widest (L .has .rows) (L .has .letters), L .narrow)
 
   pub fits-board : length (unrolled w 0 body) ≤ length floor
   fits-board =
       omega (
         arith,
-        ap (λ (s : List ℕ). length (unrolled w 0 s)) (L .is),
-        ap length (rows-unrolled w (L .rows) (L .letters)),
-        board-long w (L .rows) (L .narrow),
+        ap (λ (s : List ℕ). length (unrolled w 0 s)) (L .has .is),
+        ap length (rows-unrolled w (L .has .rows) (L .has .letters)),
+        board-long w (L .has .rows) (L .narrow),
         L .room,
       )
 
@@ -149,7 +149,7 @@ module _ (body floor : List ℕ) (w : ℕ) (L : Layable body w floor) where
 
   -- all bytes are placed
   pub laid-all : (new : List ℕ) (i : ℕ) (at : Spot) → length body ≤ i → LaidTo body w (length floor) new at i → LaidOut body w new
-  laid-all new i at h A = record { laid = λ rows k e. ap (λ (n : ℕ). take n new) (size rows k e) ∙ all ∙ ap (unrolled w 0) e ∙ rows-unrolled w rows k }
+  laid-all new i at h A = record { laid = λ b. ap (λ (n : ℕ). take n new) (size b) ∙ same b }
     where
       all : take (at .base + at .column) new ≡ unrolled w 0 body
       all =
@@ -157,8 +157,11 @@ module _ (body floor : List ℕ) (w : ℕ) (L : Layable body w floor) where
           ∙ sym (ap (λ (l : List ℕ). take (at .base + at .column) new ++ unrolled w (at .column) l) (drop-of-length-le body h))
           ∙ A .laid
 
-      size : (rows : List (List ℕ)) → Rows rows → body ≡ joined rows → w * length rows ≡ at .base + at .column
-      size rows k e =
-          sym (board-long w rows (omega (arith, wide, ap (widest 0) e, rows-widest rows k)))
-          ∙ sym (ap length (all ∙ ap (unrolled w 0) e ∙ rows-unrolled w rows k))
+      same : (b : IsRows body) → take (at .base + at .column) new ≡ board w (b .rows)
+      same b = all ∙ ap (unrolled w 0) (b .is) ∙ rows-unrolled w (b .rows) (b .letters)
+
+      size : (b : IsRows body) → w * length (b .rows) ≡ at .base + at .column
+      size b =
+          sym (board-long w (b .rows) (omega (arith, wide, ap (widest 0) (b .is), rows-widest (b .rows) (b .letters))))
+          ∙ sym (ap length (same b))
           ∙ length-take-le (at .base + at .column) new (omega (arith, A .long, A .inside))

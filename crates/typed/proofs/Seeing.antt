@@ -11,7 +11,7 @@ use lib.ListN.{length, getD, drop, length-append, drop-of-length-le}
 use lib.Seq.{drop-cons}
 use Rattle.typed.specs.Letters.{tileOf}
 use Rattle.typed.specs.Text.{joined, Letters, Rows, longest}
-use Rattle.typed.specs.Parts.{foreign, seenNext, seenIn, Shown, SeenAs}
+use Rattle.typed.specs.Parts.{foreign, seenNext, seenIn, IsRows, Shown, SeenAs}
 use Rattle.typed.specs.declared.rows.Seen.{Seen}
 use Rattle.typed.proofs.Tiles.{no-feed, letter-known, known-letter, foreign-one}
 
@@ -62,16 +62,11 @@ letters-more : (r : List ℕ) (c : ℕ) → Letters r → tileOf c ≤ 6 → Let
 letters-more [] c h t = (t, tt)
 letters-more (x ∷ r) c (a, h) t = (a, letters-more r c h t)
 
-record Cut (acc cs : List ℕ) : Type 0 where
-  pub rows : List (List ℕ)
-  pub letters : Rows rows
-  pub is : acc ++ cs ≡ joined rows
-
-cut : (cs : List ℕ) (s : Seen) (acc : List ℕ) → Letters acc → s .column ≡ length acc → seenIn s cs .foreign ≡ 0 → seenIn s cs .column ≡ 0 → Cut acc cs
+cut : (cs : List ℕ) (s : Seen) (acc : List ℕ) → Letters acc → s .column ≡ length acc → seenIn s cs .foreign ≡ 0 → seenIn s cs .column ≡ 0 → IsRows (acc ++ cs)
 cut [] s acc h k f z = record { rows = []; letters = tt; is = append-nil acc ∙ drop-of-length-le acc {i = zero} (omega (arith, k, z)) }
 cut (c ∷ cs) s acc h k f z = go (ℕ-discrete c 10) (λ a b i. cut cs (seenNext s c) a b i f z)
   where
-    go : Dec (c ≡ 10) → ((a : List ℕ) → Letters a → seenNext s c .column ≡ length a → Cut a cs) → Cut acc (c ∷ cs)
+    go : Dec (c ≡ 10) → ((a : List ℕ) → Letters a → seenNext s c .column ≡ length a → IsRows (a ++ cs)) → IsRows (acc ++ c ∷ cs)
     go (yes e) more =
         let r = more [] tt (ap (λ (x : Seen). x .column) (next-feed s c e)) in
         record { rows = acc ∷ r .rows; letters = (h, r .letters); is = ap₂ (λ (x : ℕ) (y : List ℕ). acc ++ x ∷ y) e (r .is) }
@@ -87,23 +82,17 @@ cut (c ∷ cs) s acc h k f z = go (ℕ-discrete c 10) (λ a b i. cut cs (seenNex
 seen-as : (body : List ℕ) (r : Seen) → r ≡ seenIn (seen 0 0 0 0) body → SeenAs body r
 seen-as body r e = record { shown = shown; none = none }
   where
-    told : (rows : List (List ℕ)) → Rows rows → body ≡ joined rows → r ≡ seen 0 (length rows) 0 (longest rows)
-    told rows h is = e ∙ ap (seenIn (seen 0 0 0 0)) is ∙ rows-seen rows h 0 0 ∙ ap₂ (λ (a b : ℕ). seen 0 a 0 b) (omega arith) (omega arith)
+    told : (b : IsRows body) → r ≡ seen 0 (length (b .rows)) 0 (longest (b .rows))
+    told b =
+        e ∙ ap (seenIn (seen 0 0 0 0)) (b .is) ∙ rows-seen (b .rows) (b .letters) 0 0 ∙ ap₂ (λ (n l : ℕ). seen 0 n 0 l) (omega arith) (omega arith)
 
     shown : r .foreign ≡ 0 → r .column ≡ 0 → Shown body (r .longest) (r .rows)
     shown f z =
-        let c = cut body (seen 0 0 0 0) [] tt refl (sym (ap (λ (x : Seen). x .foreign) e) ∙ f) (sym (ap (λ (x : Seen). x .column) e) ∙ z) in
-        let t = told (c .rows) (c .letters) (c .is) in
-        record {
-          rows = c .rows;
-          letters = c .letters;
-          is = c .is;
-          width = ap (λ (x : Seen). x .longest) t;
-          height = ap (λ (x : Seen). x .rows) t;
-        }
+        let b = cut body (seen 0 0 0 0) [] tt refl (sym (ap (λ (x : Seen). x .foreign) e) ∙ f) (sym (ap (λ (x : Seen). x .column) e) ∙ z) in
+        record { has = b; width = ap (λ (x : Seen). x .longest) (told b); height = ap (λ (x : Seen). x .rows) (told b) }
 
-    none : (rows : List (List ℕ)) → Rows rows → body ≡ joined rows → (r .foreign ≡ 0) × (r .column ≡ 0)
-    none rows h is = let t = told rows h is in (ap (λ (x : Seen). x .foreign) t, ap (λ (x : Seen). x .column) t)
+    none : IsRows body → (r .foreign ≡ 0) × (r .column ≡ 0)
+    none b = (ap (λ (x : Seen). x .foreign) (told b), ap (λ (x : Seen). x .column) (told b))
 
 -- ---- the bytes seen so far
 

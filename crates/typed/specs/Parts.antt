@@ -58,35 +58,37 @@ abbrev pub seenIn : Seen → List ℕ → Seen
 seenIn s [] = s
 seenIn s (c ∷ cs) = seenIn (seenNext s c) cs
 
--- the bytes are rows of that width and height
-pub record Shown (body : List ℕ) (w h : ℕ) : Type 0 where
+-- the bytes are rows
+pub record IsRows (body : List ℕ) : Type 0 where
   pub rows : List (List ℕ)
   pub letters : Rows rows
   pub is : body ≡ joined rows
-  pub width : w ≡ longest rows
-  pub height : h ≡ length rows
+
+-- of that width and height
+pub record Shown (body : List ℕ) (w h : ℕ) : Type 0 where
+  pub has : IsRows body
+  pub width : w ≡ longest (has .rows)
+  pub height : h ≡ length (has .rows)
 
 -- what was seen of bytes: rows, or none
 pub record SeenAs (body : List ℕ) (r : Seen) : Type 0 where
   pub shown : r .foreign ≡ 0 → r .column ≡ 0 → Shown body (r .longest) (r .rows)
-  pub none : (rows : List (List ℕ)) → Rows rows → body ≡ joined rows → (r .foreign ≡ 0) × (r .column ≡ 0)
+  pub none : IsRows body → (r .foreign ≡ 0) × (r .column ≡ 0)
 
 -- ---- rows laid out
 
--- rows that no board of that width is too narrow for, and one that has room for them and is floor
+-- rows that are not wider than w, and a board that has room for them and is floor
 pub record Layable (body : List ℕ) (w : ℕ) (floor : List ℕ) : Type 0 where
-  pub rows : List (List ℕ)
-  pub letters : Rows rows
-  pub is : body ≡ joined rows
-  pub narrow : longest rows ≤ w
+  pub has : IsRows body
+  pub narrow : longest (has .rows) ≤ w
   pub not-wider : w ≤ 31
-  pub room : w * length rows ≤ length floor
+  pub room : w * length (has .rows) ≤ length floor
   pub few : length floor ≤ tilesMost
   pub is-floor : (p : ℕ) → getD floor p 0 ≡ 0
 
 -- the tiles of the rows stand in front
 pub record LaidOut (body : List ℕ) (w : ℕ) (new : List ℕ) : Type 0 where
-  pub laid : (rows : List (List ℕ)) → Rows rows → body ≡ joined rows → take (w * length rows) new ≡ board w rows
+  pub laid : (b : IsRows body) → take (w * length (b .rows)) new ≡ board w (b .rows)
 
 -- a byte placed: a line feed goes to the next row, a letter puts its tile
 pub record PlacedAs (c w : ℕ) (at : Spot) (old new : List ℕ) (r : Spot) : Type 0 where

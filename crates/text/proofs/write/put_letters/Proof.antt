@@ -66,7 +66,7 @@ same-length : tie.Need-same-length Inv-loop μ-loop
 same-length c =
     let L = c .before .loop in
     let a = c .before .before .before .before .args in
-    length-set (L .text) (a .j + a .w) 10 ∙ ap length (L .inv .1) ∙ length-sets (a .text .now) (a .j) (lettered (a .tiles .now) (a .k) (L .x))
+    length-set (L .text) (a .j + a .w) _ ∙ ap length (L .inv .1) ∙ length-sets (a .text .now) (a .j) (lettered (a .tiles .now) (a .k) (L .x))
 
 returns : tie.Need-returns Inv-loop μ-loop
 returns c =

@@ -8,7 +8,7 @@ use native.Mathlib.Omega.{arith}
 use native.Mathlib.Decide.{ℕ-discrete}
 use lib.Dec.{T, eqb, eqb→eq, eqb-refl}
 use lib.ListN.{length, getD}
-use Rattle.account.specs.Reach.{oneIf, and, countTo, isMarked, differsAt}
+use Rattle.account.specs.Reach.{oneIf, and, countTo, isMarked, differs, differsAt}
 use Rattle.account.specs.Errata.{Outside, Below, Distinct}
 use Rattle.account.specs.Search.{addIf, places}
 
@@ -128,6 +128,16 @@ count-none f (suc n) h = ap₂ (λ (a b : ℕ). a + b) (count-none f n (λ j l. 
     none true t = absurd t
     none false t = refl
 
+-- of two tests, one of which asks more
+pub count-both : (f g : ℕ → Bool) (n : ℕ) → countTo (λ j. and (f j) (g j)) n ≤ countTo f n
+unfolding countTo
+count-both f g zero = omega arith
+count-both f g (suc n) = omega (arith, count-both f g n, one (f n))
+  where
+    one : (b : Bool) → oneIf (and b (g n)) ≤ oneIf b
+    one true = one-most (g n)
+    one false = omega arith
+
 -- f, but not at p
 abbrev pub less : ℕ → (ℕ → Bool) → ℕ → Bool
 less p f j = and (not (eqb j p)) (f j)
@@ -196,15 +206,19 @@ same-at marks r w j = go (isMarked marks j) (eqb (getD w j 0) (getD r j 0)) refl
     go true e q t u = absurd t
     go false e q t u = eqb→eq (getD w j 0) (getD r j 0) (subst T (sym q) (not-not e u))
 
--- a cell that is the same does not differ
-pub not-differs : (marks r w : List ℕ) (j : ℕ) → getD w j 0 ≡ getD r j 0 → T (not (differsAt marks r w j))
-not-differs marks r w j e = go (isMarked marks j)
+-- a cell that is the same does not differ, marked or not
+pub not-differs : (f : ℕ → Bool) (r w : List ℕ) (j : ℕ) → getD w j 0 ≡ getD r j 0 → T (not (and (f j) (differs r w j)))
+not-differs f r w j e = go (f j)
   where
-    go : (m : Bool) → T (not (and (not m) (not (eqb (getD w j 0) (getD r j 0)))))
-    go true = tt
-    go false = subst (λ (x : ℕ). T (not (not (eqb x (getD r j 0))))) (sym e) (twice-not (eqb (getD r j 0) (getD r j 0)) (eqb-refl (getD r j 0)))
+    go : (b : Bool) → T (not (and b (differs r w j)))
+    go true = subst (λ (x : ℕ). T (not (not (eqb x (getD r j 0))))) (sym e) (twice-not (eqb (getD r j 0) (getD r j 0)) (eqb-refl (getD r j 0)))
+    go false = tt
 
--- nor does a marked one
+-- and a word differs from itself nowhere
+pub none-differ : (f : ℕ → Bool) (r : List ℕ) (n : ℕ) → countTo (λ j. and (f j) (differs r r j)) n ≡ 0
+none-differ f r n = count-none (λ j. and (f j) (differs r r j)) n (λ j l. not-differs f r r j refl)
+
+-- a marked cell does not count as one that differs
 pub marked-differs : (marks r w : List ℕ) (j : ℕ) → T (isMarked marks j) → T (not (differsAt marks r w j))
 marked-differs marks r w j t = go (isMarked marks j) t
   where

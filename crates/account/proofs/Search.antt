@@ -11,7 +11,7 @@ use Rattle.account.specs.Field.{Ops, In, IsField}
 use Rattle.account.specs.Code.{Cells, Clean}
 use Rattle.account.specs.Errata.{Outside, Below, Distinct, place, filt, added, Applied}
 use Rattle.account.specs.Search.{places, erasures, Free, Zeros, Fits}
-use Rattle.account.specs.Reach.{countTo, isMarked, differsAt, marked, differing, Reach}
+use Rattle.account.specs.Reach.{countTo, isMarked, isRead, differsAt, marked, differing, Reach}
 use Rattle.account.proofs.Cells.{outside-left, outside-right, outside-append, outside-places, places-outside}
 use Rattle.account.proofs.Cells.{below-append, below-places, distinct-places}
 use Rattle.account.proofs.Cells.{Falling, falling-places, count-places, count-most, marked-differs, differs-unmarked, same-at, not-differs}
@@ -101,7 +101,7 @@ module _ (O : Ops) (F : IsField O) where
             go : (b : Bool) → isMarked marks p ≡ b → T (not (differsAt marks r w p))
             go true e = marked-differs marks r w p (subst T (sym e) tt)
             go false e =
-                not-differs marks r w p
+                not-differs (isRead marks) r w p
                 (a .cell p l
                 ∙ ap (λ (x : ℕ). getD r p 0 ⊕ x)
                 (solve.added-off O F (erasures marks ++ bs) (values O F (erasures marks ++ bs) r) p

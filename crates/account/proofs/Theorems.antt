@@ -11,16 +11,20 @@ use lib.ListN.{length, getD, take, length-append, replicate, getD-replicate, Lis
 use lib.Seq.{ext-getD, getD-take, length-take-le, getD-append-add}
 use Rattle.account.specs.Field.{Ops, In, IsField}
 use Rattle.account.specs.Code.{Cells, Clean, WordOf}
-use Rattle.account.specs.Reach.{countTo, isMarked, and, differsAt, marked, differing, Reach, SameRead}
+use Rattle.account.specs.Reach.{countTo, isMarked, isRead, and, differs, differsAt, marked, differing, repainted, Reach, SameRead}
 use Rattle.account.specs.Lists.{listOf}
 use Rattle.account.specs.Errata.{Outside, Below, added, Applied}
 use Rattle.account.specs.Search.{places}
 use Rattle.account.proofs.Lists.{length-listOf, getD-listOf}
 use Rattle.account.proofs.Cells.{outside-left, outside-right, below-append, below-places, outside-places}
-use Rattle.account.proofs.Cells.{count-places, count-cong, count-none, same-at, not-differs}
+use Rattle.account.proofs.Cells.{count-places, count-cong, count-none, count-both, same-at, none-differ}
 use Rattle.account.proofs.Solve as solve
 use Rattle.account.proofs.Decode as decode
 use Rattle.account.proofs.Decode.{values}
+
+-- FORMAT 3.11: no more cells are repainted than are marked.
+pub repainted-marked : (marks r w : List ℕ) → repainted marks r w ≤ marked marks r
+repainted-marked marks r w = count-both (isMarked marks) (differs r w) (length r)
 
 -- ---- FORMAT 3.6: what stands under a mark does not matter
 
@@ -120,7 +124,7 @@ module _ (O : Ops) (F : IsField O) where
       go : Dec (differing [] v w < 6) → (v ≡ w) ⊎ (6 ≤ differing [] v w)
       go (yes h) =
           inl (near [] v v w short iv iw refl e
-          (omega (arith, count-none (differsAt [] v v) (length v) (λ p l. not-differs [] v v p refl), count-none (isMarked []) (length v) (λ p l. tt))) cv cw)
+          (omega (arith, none-differ (isRead []) v (length v), count-none (isMarked []) (length v) (λ p l. tt))) cv cw)
       go (no h) = inr (omega arith)
 
   -- FORMAT 3.5: at most one clean word is within reach of a word with its marks.

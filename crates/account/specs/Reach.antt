@@ -29,9 +29,20 @@ GoodMarks marks = (p : ℕ) → p < length marks → getD marks p 0 ≤ 1
 abbrev pub isMarked : List ℕ → ℕ → Bool
 isMarked marks p = not (eqb (getD marks p 0) 0)
 
--- cell p is not marked, and w and r differ there
+abbrev pub isRead : List ℕ → ℕ → Bool
+isRead marks p = not (isMarked marks p)
+
+-- w and r differ in cell p
+abbrev pub differs : List ℕ → List ℕ → ℕ → Bool
+differs r w p = not (eqb (getD w p 0) (getD r p 0))
+
+-- and the cell is not marked
 abbrev pub differsAt : List ℕ → List ℕ → List ℕ → ℕ → Bool
-differsAt marks r w p = and (not (isMarked marks p)) (not (eqb (getD w p 0) (getD r p 0)))
+differsAt marks r w p = and (isRead marks p) (differs r w p)
+
+-- or it is: it was painted over
+abbrev pub repaintedAt : List ℕ → List ℕ → List ℕ → ℕ → Bool
+repaintedAt marks r w p = and (isMarked marks p) (differs r w p)
 
 -- FORMAT 3.2: f, how many cells are marked
 abbrev pub marked : List ℕ → List ℕ → ℕ
@@ -40,6 +51,10 @@ marked marks r = countTo (isMarked marks) (length r)
 -- FORMAT 3.3: e, how many of the others differ
 abbrev pub differing : List ℕ → List ℕ → List ℕ → ℕ
 differing marks r w = countTo (differsAt marks r w) (length r)
+
+-- FORMAT 3.11: how many of the marked differ
+abbrev pub repainted : List ℕ → List ℕ → List ℕ → ℕ
+repainted marks r w = countTo (repaintedAt marks r w) (length r)
 
 -- FORMAT 3.4: w is within reach of r: a marked cell counts one, a wrong one two, and five are mended
 pub record Reach (marks r w : List ℕ) : Type 0 where

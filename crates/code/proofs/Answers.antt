@@ -4,7 +4,7 @@ use mathlib.Core.Logic.{_≢_, _⊎_, inl, inr}
 use mathlib.Core.List.{List, _++_}
 use Prim.Native.Nat.{ℕ, _≤_}
 use lib.ListN.{length, take, drop, take-append-drop}
-use Rattle.account.specs.Reach.{differing, SameRead, Reachable}
+use Rattle.account.specs.Reach.{differing, repainted, SameRead, Reachable}
 use Rattle.account.proofs.Theorems as theorems
 use Rattle.gf256.specs.Gf256.{gf256}
 use Rattle.gf256.proofs.Field256.{field256}
@@ -36,21 +36,17 @@ tested-bit (tested.Refused c) = inl refl
 
 -- ---- repair
 
--- nothing is mended with a refusal
-pub repaired-zero : (a : Repaired) → repairedNumbers a .code ≢ 0 → repairedNumbers a .mended ≡ 0
-repaired-zero (repaired.Mended e) h = absurd (h refl)
-repaired-zero (repaired.Refused c) h = refl
+-- nothing is mended or repainted with a refusal
+pub repaired-zero : (a : Repaired) → repairedNumbers a .code ≢ 0 → (repairedNumbers a .mended ≡ 0) × (repairedNumbers a .repainted ≡ 0)
+repaired-zero (repaired.Mended e d) h = absurd (h refl)
+repaired-zero (repaired.Refused c) h = (refl, refl)
 
--- answers agree where their codes do, and what is mended with no refusal
-pub repaired-same : (a b : Repaired) → repairedNumbers a .code ≡ repairedNumbers b .code
-    → (repairedNumbers a .code ≡ 0 → repairedNumbers a .mended ≡ repairedNumbers b .mended) → repairedNumbers a ≡ repairedNumbers b
-repaired-same a b e m =
-    ap₂ (λ (c v : ℕ). made c v) e
-    (either (repairedNumbers a .mended ≡ repairedNumbers b .mended) (repairedNumbers a .code) m
-    (λ n. repaired-zero a n ∙ sym (repaired-zero b (λ z. n (e ∙ z)))))
+same-repair : (x y : RepairNumbers) → x .code ≡ y .code → x .mended ≡ y .mended → x .repainted ≡ y .repainted → x ≡ y
+same-repair x y c m p =
+    ap₂ (λ (i j : ℕ). made i j (x .repainted)) c m ∙ ap (λ (k : ℕ). made (y .code) (y .mended) k) p
   where
-    made : ℕ → ℕ → RepairNumbers
-    made c v = record { code = c; mended = v }
+    made : ℕ → ℕ → ℕ → RepairNumbers
+    made i j k = record { code = i; mended = j; repainted = k }
 
 other-side : (marks r s : List ℕ) → SameRead marks r s → SameRead marks s r
 other-side marks r s same = record { same-length = sym (same .same-length); read = λ p e. sym (same .read p e) }
@@ -90,10 +86,11 @@ module _ (most n m : ℕ) (marks r s v w : List ℕ) (a b : Repaired) (same : Sa
       theorems.one-in-reach gf256 field256 marks r v w (short (all-hold 6 (repairing gf256 most n m marks r) (repairedNumbers a .code) tt (A .code) z .0 .to))
       (A .cells z) (B .cells y) (A .clean z) (B .clean y) (A .reach z) (theorems.same-reach marks s r w (other-side marks r s same) (B .reach y))
 
-  pub one-numbers : repairedNumbers a ≡ repairedNumbers b
-  one-numbers =
-      repaired-same a b one-code (λ z.
-      A .mended z ∙ ap (differing marks r) (one-word z) ∙ theorems.same-differing marks r s w same ∙ sym (B .mended (sym one-code ∙ z)))
+  pub one-mended : repairedNumbers a .mended ≡ repairedNumbers b .mended
+  one-mended =
+      either (repairedNumbers a .mended ≡ repairedNumbers b .mended) (repairedNumbers a .code)
+      (λ z. A .mended z ∙ ap (differing marks r) (one-word z) ∙ theorems.same-differing marks r s w same ∙ sym (B .mended (sym one-code ∙ z)))
+      (λ n. repaired-zero a n .0 ∙ sym (repaired-zero b (λ z. n (one-code ∙ z)) .0))
 
 -- two repairs of one word
 module _ (most n m : ℕ) (marks old v w : List ℕ) (a b : Repaired) (short : n ≤ most → length old ≤ wordMost)
@@ -101,11 +98,22 @@ module _ (most n m : ℕ) (marks old v w : List ℕ) (a b : Repaired) (short : n
   itself : SameRead marks old old
   itself = record { same-length = refl; read = λ p e. refl }
 
+  codes : repairedNumbers a .code ≡ repairedNumbers b .code
+  codes = one-code most n m marks old old v w a b itself short A B
+
+  words : repairedNumbers a .code ≡ 0 → v ≡ w
+  words = one-word most n m marks old old v w a b itself short A B
+
+  one-repainted : repairedNumbers a .repainted ≡ repairedNumbers b .repainted
+  one-repainted =
+      either (repairedNumbers a .repainted ≡ repairedNumbers b .repainted) (repairedNumbers a .code)
+      (λ z. A .repainted-is z ∙ ap (repainted marks old) (words z) ∙ sym (B .repainted-is (sym codes ∙ z)))
+      (λ n. repaired-zero a n .1 ∙ sym (repaired-zero b (λ z. n (codes ∙ z)) .1))
+
   pub one-repair : (v ≡ w) × (repairedNumbers a ≡ repairedNumbers b)
   one-repair = (
-    either (v ≡ w) (repairedNumbers a .code) (one-word most n m marks old old v w a b itself short A B)
-        (λ k. A .kept k ∙ sym (B .kept (λ z. k (one-code most n m marks old old v w a b itself short A B ∙ z)))),
-    one-numbers most n m marks old old v w a b itself short A B,
+    either (v ≡ w) (repairedNumbers a .code) words (λ k. A .kept k ∙ sym (B .kept (λ z. k (codes ∙ z)))),
+    same-repair (repairedNumbers a) (repairedNumbers b) codes (one-mended most n m marks old old v w a b itself short A B) one-repainted,
   )
 
 -- ---- a lane

@@ -9,8 +9,8 @@ use lib.ListN.{length, getD}
 use lib.Seq.{ext-getD, length-take-le}
 use Rattle.account.specs.Field.{Ops}
 use Rattle.account.specs.Code.{Cells, Clean, syndrome}
-use Rattle.account.specs.Reach.{countTo, isMarked, differsAt, marked, Reach, GoodMarks, Reachable}
-use Rattle.account.proofs.Cells.{count-none, not-differs}
+use Rattle.account.specs.Reach.{countTo, isMarked, isRead, differing, repainted, marked, Reach, GoodMarks, Reachable}
+use Rattle.account.proofs.Cells.{none-differ}
 use Rattle.account.proofs.Words as words
 use Rattle.account.specs.Errata.{Applied}
 use Rattle.gf256.specs.Gf256.{gf256}
@@ -23,9 +23,10 @@ use Rattle.code.specs.declared.repair.Entered.{Entered}
 use Rattle.rules.specs.Refusal.{Rule, unless, First, Hold, Within}
 use Rattle.rules.proofs.Laws.{stops, hold-first, all-hold, before, after, Alike, first-alike}
 use Rattle.code.specs.Word.{wordMost}
-use Rattle.marks.specs.Marks.{countedOf}
+use Rattle.marks.specs.declared.Counts.{Counts}
+use Rattle.marks.specs.Marks.{CountsAll}
 use Rattle.code.specs.Repair.{repairedNumbers, enteringWord, repairing, Repairs, RepairsAs, WordEntersAs, Searchable}
-use Rattle.marks.proofs.Counting.{count-is}
+use Rattle.marks.proofs.Counting.{counts-are}
 
 -- ---- a syndrome's bytes
 
@@ -56,7 +57,7 @@ as-is marks w f cells values en ef h cw kw lc lv = record {
     reach : Reach marks w w
     reach = record {
       same-length = refl;
-      few = omega (arith, count-none (differsAt marks w w) (length w) (λ p l. not-differs marks w w p refl), ef, ap (countTo (isMarked marks)) en);
+      few = omega (arith, none-differ (isRead marks) w (length w), ef, ap (countTo (isMarked marks)) en);
     }
 
 -- ---- the entry
@@ -101,6 +102,7 @@ refuses O most n m marks r c k f = record {
   clean = λ z. absurd (k z);
   reach = λ z. absurd (k z);
   mended = λ z. absurd (k z);
+  repainted-is = λ z. absurd (k z);
   kept = λ _. refl;
 }
 
@@ -115,6 +117,7 @@ repairs-alike O most most' n n' m m' marks r w a e A = record {
   clean = A .clean;
   reach = A .reach;
   mended = A .mended;
+  repainted-is = A .repainted-is;
   kept = A .kept;
 }
 
@@ -141,15 +144,16 @@ module _ (marks r : List ℕ) where
   pub searchable : (f : ℕ) → Entry marks r → f ≡ countTo (isMarked marks) (length marks) → f ≤ 5 → Searchable (length r) marks f
   searchable f E ef h = record { matched = sym (E .1 .0); short = omega (arith, E .1 .0, E .0 .to); count = ef; few = h }
 
-  pub repair-mends : (w : List ℕ) (e : Errata) (m : ℕ) → Entry marks r → Corrects marks r e → Applied gf256 (cellsOf e) (valuesOf e) r w
-      → m ≡ countedOf marks (cellsOf e) (valuesOf e) → RepairsAs gf256 wordMost marks r w (repaired.Mended m)
-  repair-mends w e m E K A em = record {
+  pub repair-mends : (w : List ℕ) (e : Errata) (c : Counts) → Entry marks r → Corrects marks r e → Applied gf256 (cellsOf e) (valuesOf e) r w
+      → CountsAll marks (cellsOf e) (valuesOf e) c → RepairsAs gf256 wordMost marks r w (repaired.Mended (c .mended) (c .repainted))
+  repair-mends w e c E K A C = record {
     told = tt;
     code = after entry last 0 E (hold-first last (record { word = w; cells = mended .2; clean = mended .0; reach = mended .1 }, tt));
     cells = λ _. mended .2;
     clean = λ _. mended .0;
     reach = λ _. mended .1;
-    mended = λ _. em ∙ count-is marks (cellsOf e) (valuesOf e) r w long (K .listed .below) (K .listed .distinct) A;
+    mended = λ _. counts .0;
+    repainted-is = λ _. counts .1;
     kept = λ n. absurd (n refl);
   }
     where
@@ -160,6 +164,9 @@ module _ (marks r : List ℕ) where
       long =
           length-take-le (e .count) (e .values) (omega (arith, K .listed .few, K .listed .values-room))
           ∙ sym (length-take-le (e .count) (e .cells) (omega (arith, K .listed .few, K .listed .room)))
+
+      counts : (c .mended ≡ differing marks r w) × (c .repainted ≡ repainted marks r w)
+      counts = counts-are marks (cellsOf e) (valuesOf e) r w long (K .listed .below) (K .listed .distinct) A c C
 
 pub searched : (b : Bool) (marks r : List ℕ) (e : Errata) → b ≡ true → SearchedAs b marks r e → Corrects marks r e
 searched b marks r e q s = subst (λ (x : Bool). SearchedAs x marks r e) q s

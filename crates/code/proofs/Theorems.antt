@@ -6,7 +6,7 @@ use Prim.Native.Nat.{ℕ, _+_, _*_, _≤_, _<_}
 use native.Mathlib.Omega.{arith}
 use lib.ListN.{length, drop, take-append-drop}
 use lib.Seq.{length-take-le}
-use Rattle.account.specs.Field.{power}
+use Rattle.account.specs.Field.{Ops, power}
 use Rattle.account.specs.Code.{alphaTo, Cells, Clean, WordOf}
 use Rattle.account.specs.Reach.{marked, differing, Reach, SameRead}
 use Rattle.account.specs.Generator.{generator, times, plus, scale, Multiple}
@@ -25,7 +25,7 @@ use Rattle.rules.proofs.Laws.{first-fixes, same-numbers, decided, either, all-h
 use Rattle.code.specs.Word.{wordMost, writing, testing, WritesAs, TestsAs, writtenNumbers, testedNumbers}
 use Rattle.code.specs.Repair.{Repairs, RepairsAs, repairedNumbers}
 use Rattle.code.specs.Lane.{laneMost, wordOf, LaneRepairsAs}
-use Rattle.code.proofs.Answers.{written-zero, tested-bit, one-repair, one-numbers, one-word, lane-is, lane-same}
+use Rattle.code.proofs.Answers.{written-zero, tested-bit, repaired-zero, one-repair, one-code, one-mended, one-word, lane-is, lane-same}
 
 -- FORMAT 1.6: the first 255 powers of α are different from each other, and none is zero.
 pub powers-differ : (i j : ℕ) → i < 255 → j < 255 → i ≢ j → power gf256 2 i ≢ power gf256 2 j
@@ -104,23 +104,30 @@ tests-fixed w a b A B = same-numbers (testedNumbers a) (testedNumbers b) codes (
     go (inr p) (inl q) = p .0 ∙ sym (B .always (sym codes ∙ p .1) (A .only (p .0)))
     go (inr p) (inr q) = p .0 ∙ sym (q .0)
 
--- Repair: there is one word, and one pair of numbers.
+-- Repair: there is one word, and one of each number.
 pub repairs-fixed : (marks old v w : List ℕ) (a b : Repaired) → RepairsAs gf256 wordMost marks old v a → RepairsAs gf256 wordMost marks old w b
     → (v ≡ w) × (repairedNumbers a ≡ repairedNumbers b)
 repairs-fixed marks old v w a b A B = one-repair wordMost (length old) (length marks) marks old v w a b (λ h. h) A B
 
--- FORMAT 4.5: the byte under a mark has no influence: what repair answers, and the word it gives, are the same.
+-- FORMAT 4.5: the byte under a mark influences repainted and nothing else: the code, what is mended and the word it becomes are the same.
 pub under-marks : (marks r s v w : List ℕ) (a b : Repaired) → SameRead marks r s → RepairsAs gf256 wordMost marks r v a → RepairsAs gf256 wordMost marks s w b
-    → (repairedNumbers a ≡ repairedNumbers b) × (repairedNumbers a .code ≡ 0 → v ≡ w)
+    → (repairedNumbers a .code ≡ repairedNumbers b .code) × (repairedNumbers a .mended ≡ repairedNumbers b .mended) × (repairedNumbers a .code ≡ 0 → v ≡ w)
 under-marks marks r s v w a b same A B = (
-  one-numbers wordMost (length r) (length marks) marks r s v w a b same (λ h. h) A B',
+  one-code wordMost (length r) (length marks) marks r s v w a b same (λ h. h) A B',
+  one-mended wordMost (length r) (length marks) marks r s v w a b same (λ h. h) A B',
   one-word wordMost (length r) (length marks) marks r s v w a b same (λ h. h) A B',
 )
   where
     B' : Repairs gf256 wordMost (length r) (length marks) marks s w b
     B' = subst (λ (n : ℕ). Repairs gf256 wordMost n (length marks) marks s w b) (sym (same .same-length)) B
 
--- Repair of a lane by value: there is one lane, and one pair of numbers.
+-- FORMAT 4.6: at most five cells are repainted.
+pub repainted-few : (O : Ops) (most n m : ℕ) (marks old new : List ℕ) (a : Repaired) → Repairs O most n m marks old new a → repairedNumbers a .repainted ≤ 5
+repainted-few O most n m marks old new a A =
+    either (repairedNumbers a .repainted ≤ 5) (repairedNumbers a .code)
+    (λ z. omega (arith, A .repainted-is z, theorems.repainted-marked marks old new, A .reach z .few)) (λ k. omega (arith, repaired-zero a k .1))
+
+-- Repair of a lane by value: there is one lane, and one of each number.
 pub lane-repairs-fixed : (lane marks : Lane) (r s : LaneRepair) → length (lane .bytes) ≡ laneMost → LaneRepairsAs lane marks r → LaneRepairsAs lane marks s
     → (r .lane ≡ s .lane) × (repairedNumbers (r .answer) ≡ repairedNumbers (s .answer))
 lane-repairs-fixed lane marks r s room A B = (

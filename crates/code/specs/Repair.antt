@@ -6,25 +6,27 @@ use Prim.Native.Nat.{ℕ, _≤_}
 use lib.ListN.{length}
 use Rattle.account.specs.Field.{Ops}
 use Rattle.account.specs.Code.{Cells, Clean}
-use Rattle.account.specs.Reach.{countTo, isMarked, differing, Reach, GoodMarks, Reachable}
+use Rattle.account.specs.Reach.{countTo, isMarked, differing, repainted, Reach, GoodMarks, Reachable}
 use Rattle.rules.specs.Refusal.{Rule, unless, First, Within}
 use Rattle.code.specs.Word.{wordMost}
 use Rattle.code.specs.declared.repair.Repaired.{Repaired}
 use Rattle.code.specs.declared.repair.Repaired.the-variants as repaired
 use Rattle.code.specs.declared.repair.Entered.{Entered}
 
--- FORMAT 4.3, 9.43: the numbers of an answer: its refusal, 0 for none, and how many unmarked cells were mended, 0 with a refusal
+-- FORMAT 4.3, 4.6, 9.43: the numbers of an answer: its refusal, 0 for none; how many unmarked cells were mended, and how many marked ones
+-- repainted, both 0 with a refusal
 pub record RepairNumbers : Type 0 where
   pub code : ℕ
   pub mended : ℕ
+  pub repainted : ℕ
 
 abbrev pub repairedNumbers : Repaired → RepairNumbers
-repairedNumbers (repaired.Mended e) = record { code = 0; mended = e }
-repairedNumbers (repaired.Refused c) = record { code = c; mended = 0 }
+repairedNumbers (repaired.Mended e d) = record { code = 0; mended = e; repainted = d }
+repairedNumbers (repaired.Refused c) = record { code = c; mended = 0; repainted = 0 }
 
 -- a refusal has a number
 abbrev pub RepairTold : Repaired → Type 0
-RepairTold (repaired.Mended e) = Unit {0}
+RepairTold (repaired.Mended e d) = Unit {0}
 RepairTold (repaired.Refused c) = c ≢ 0
 
 -- FORMAT 9.1 to 9.3: a word of n bytes with m marks is entered. 1: its length is not 6 to the most; 2: the marks are not as many; 3: a mark is above 1
@@ -35,7 +37,7 @@ enteringWord most n m marks = unless 1 (Within 6 most n) ∷ unless 2 (m ≡ n) 
 abbrev pub repairing : Ops → ℕ → ℕ → ℕ → List ℕ → List ℕ → List Rule
 repairing O most n m marks r = enteringWord most n m marks ++ unless 6 (Reachable O marks r) ∷ []
 
--- FORMAT 4.1 to 4.3, 10.2: the word `old`, said to have n bytes and m marks, becomes `new`, the clean word within reach, and what differs is
+-- FORMAT 4.1 to 4.3, 4.6, 10.2: the word `old`, said to have n bytes and m marks, becomes `new`, the clean word within reach, and what differs is
 -- told. With a refusal it is kept.
 pub record Repairs (O : Ops) (most n m : ℕ) (marks old new : List ℕ) (a : Repaired) : Type 0 where
   pub told : RepairTold a
@@ -44,6 +46,7 @@ pub record Repairs (O : Ops) (most n m : ℕ) (marks old new : List ℕ) (a : Re
   pub clean : repairedNumbers a .code ≡ 0 → Clean O new
   pub reach : repairedNumbers a .code ≡ 0 → Reach marks old new
   pub mended : repairedNumbers a .code ≡ 0 → repairedNumbers a .mended ≡ differing marks old new
+  pub repainted-is : repairedNumbers a .code ≡ 0 → repairedNumbers a .repainted ≡ repainted marks old new
   pub kept : repairedNumbers a .code ≢ 0 → new ≡ old
 
 -- FORMAT 8.5: the repair of a word of at most so many bytes, in place

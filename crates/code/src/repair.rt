@@ -13,9 +13,9 @@ ghost use Rattle.code.specs.Word.{wordMost};
 ghost use Rattle.code.specs.Repair.{WordEntersAs, Searchable, RepairsAs};
 use super::word::WORD_MOST;
 
-// What repairing a word answers: how many unmarked cells were mended, or a refusal's number.
+// What repairing a word answers: how many unmarked cells were mended and how many marked ones repainted, or a refusal's number.
 pub enum Repaired {
-    Mended(usize),
+    Mended { mended: usize, repainted: usize },
     Refused(u8),
 }
 
@@ -110,7 +110,9 @@ pub fn repair(word: &mut [u8], marks: &[u8]) -> Repaired
         return Repaired::Refused(6);
     }
     let errata = found.errata;
-    let mended = marks::count(errata, marks, 1, 0);
+    let counts = marks::count(errata, marks, 1, 0);
+    let mended = counts.mended;
+    let repainted = counts.repainted;
     apply(errata, word);
-    Repaired::Mended(mended)
+    Repaired::Mended { mended, repainted }
 }

@@ -16,8 +16,9 @@ use Rattle.code.specs.declared.word.Written.{Written}
 use Rattle.code.specs.declared.word.Tested.{Tested}
 use Rattle.code.specs.declared.word.Tested.the-variants as tested
 use Rattle.code.proofs.Answers.{written-zero, repaired-zero}
+use Rattle.code.proofs.Theorems.{repainted-few}
 use Rattle.level.specs.Level.{Level, IsLevel}
-use Rattle.level.specs.Reading.{readingRecord, entering, mending, returned}
+use Rattle.level.specs.Reading.{ReadNumbers, readingRecord, entering, mending, returned}
 use Rattle.level.specs.Writing.{writingLevel}
 use Rattle.record.specs.Reading.{recordNumbers}
 use Rattle.record.specs.declared.read.RecordRead.{RecordRead}
@@ -30,9 +31,9 @@ use Rattle.strip.specs.Reading.{stripNumbers, StripReadsAs}
 use Rattle.strip.specs.declared.read.Reading.{Reading}
 use Rattle.strip.proofs.Laid.{record-fits}
 use Rattle.strip.proofs.Reader.{zeros}
-use Rattle.strip.proofs.Theorems.{written-strip-level, mended-most, wear-most}
-use Rattle.packing.specs.Packed.{unpackedLength, unpackedMended, unpackedRead}
-use Rattle.packing.proofs.Rooms.{Room, ReadRoom, back-length, back-mended, back-read}
+use Rattle.strip.proofs.Theorems.{written-strip-level, mended-most, repainted-most, wear-most}
+use Rattle.packing.specs.Packed.{unpackedLength, unpackedRead, unpackedRepair}
+use Rattle.packing.proofs.Rooms.{Room, ReadRoom, back-length, back-read, back-repair}
 use Rattle.host.specs.Export.{WriteExport, TestExport, RepairExport, RecordExport, RecordReadExport, TextExport, TextReadExport, StripExport, StripReadExport}
 
 -- a refusal has room
@@ -75,15 +76,14 @@ word-test-told w r E =
     small (tested.Refused c) = omega arith
 
 -- a word or a lane
-pub word-repair-told : (most : ℕ) (marks old new : List ℕ) (r : ℕ) (E : RepairExport most marks old new r) → unpackedMended r ≡ repairedNumbers (E .answer)
+pub word-repair-told : (most : ℕ) (marks old new : List ℕ) (r : ℕ) (E : RepairExport most marks old new r) → unpackedRepair r ≡ repairedNumbers (E .answer)
 word-repair-told most marks old new r E =
-    ap unpackedMended (E .is)
-    ∙ back-mended (repairedNumbers (E .answer)) (record {
-      code = few (repairing gf256 most (length old) (length marks) marks old) (repairedNumbers (E .answer) .code) tt (E .kept .code);
-      mended =
-          either (repairedNumbers (E .answer) .mended < 64) (repairedNumbers (E .answer) .code) (λ z. omega (arith, E .kept .mended z, E .kept .reach z .few))
-          (λ n. omega (arith, repaired-zero (E .answer) n));
-    })
+    ap unpackedRepair (E .is)
+    ∙ back-repair (repairedNumbers (E .answer))
+    (few (repairing gf256 most (length old) (length marks) marks old) (repairedNumbers (E .answer) .code) tt (E .kept .code))
+    (either (repairedNumbers (E .answer) .mended < 64) (repairedNumbers (E .answer) .code) (λ z. omega (arith, E .kept .mended z, E .kept .reach z .few))
+    (λ n. omega (arith, repaired-zero (E .answer) n .0)))
+    (omega (arith, repainted-few gf256 most (length old) (length marks) marks old new (E .answer) (E .kept)))
 
 -- ---- levels written
 
@@ -119,6 +119,7 @@ level-room (recordRead.Level w h p) new f is =
       height = omega (arith, l .sized .not-higher);
       par = omega (arith, l .par-small);
       mended = omega arith;
+      repainted = omega arith;
       wear = omega arith;
     }
 level-room (recordRead.Refused c) new f is = record {
@@ -128,6 +129,7 @@ level-room (recordRead.Refused c) new f is = record {
   height = omega arith;
   par = omega arith;
   mended = omega arith;
+  repainted = omega arith;
   wear = omega arith;
 }
 
@@ -160,6 +162,9 @@ module _ (s marks tiles tiles' scratch scratch' : List ℕ) (a : Reading) (A : S
       few-mended : stripNumbers a .mended < 64
       few-mended = omega (arith, mended-most 4 (omega arith) s marks tiles tiles' scratch scratch' a A)
 
+      few-repainted : stripNumbers a .repainted < 128
+      few-repainted = omega (arith, repainted-most 4 (omega arith) s marks tiles tiles' scratch scratch' a A)
+
       few-worn : stripNumbers a .wear < 64
       few-worn = omega (arith, wear-most 4 (omega arith) s marks tiles tiles' scratch scratch' a A)
 
@@ -173,6 +178,7 @@ module _ (s marks tiles tiles' scratch scratch' : List ℕ) (a : Reading) (A : S
             height = omega (arith, l .sized .not-higher);
             par = omega (arith, l .par-small);
             mended = few-mended;
+            repainted = few-repainted;
             wear = few-worn;
           }
 
@@ -182,10 +188,11 @@ module _ (s marks tiles tiles' scratch scratch' : List ℕ) (a : Reading) (A : S
           record {
             code = code-small;
             lane = lane-small;
-            width = omega (arith, z .0);
-            height = omega (arith, z .1);
-            par = omega (arith, z .2);
+            width = omega (arith, ap (λ (n : ReadNumbers). n .width) z);
+            height = omega (arith, ap (λ (n : ReadNumbers). n .height) z);
+            par = omega (arith, ap (λ (n : ReadNumbers). n .par) z);
             mended = few-mended;
+            repainted = few-repainted;
             wear = few-worn;
           }
 

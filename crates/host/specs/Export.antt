@@ -12,7 +12,7 @@ use Rattle.text.specs.Writing.{TextWritesAs}
 use Rattle.text.specs.Reading.{TextReadsAs}
 use Rattle.strip.specs.Writing.{StripWritesAs}
 use Rattle.strip.specs.Reading.{stripNumbers, StripReadsAs}
-use Rattle.packing.specs.Packed.{packedLength, packedMended, packedRead}
+use Rattle.packing.specs.Packed.{packedLength, packedRead, packedRepair}
 
 -- r is the packing of an answer that keeps the entry's promise
 pub record Export {A : Type 0} (keeps : A → Type 0) (packed : A → ℕ) (r : ℕ) : Type 0 where
@@ -28,7 +28,7 @@ TestExport w = Export (TestsAs w) (λ a. packedLength (testedNumbers a))
 
 -- a word of at most so many bytes
 abbrev pub RepairExport : ℕ → List ℕ → List ℕ → List ℕ → ℕ → Type 0
-RepairExport most marks old new = Export (RepairsAs gf256 most marks old new) (λ a. packedMended (repairedNumbers a))
+RepairExport most marks old new = Export (RepairsAs gf256 most marks old new) (λ a. packedRepair (repairedNumbers a))
 
 abbrev pub RecordExport : Level → List ℕ → List ℕ → ℕ → Type 0
 RecordExport l old new = Export (RecordWritesAs l old new) (λ a. packedLength (writtenNumbers a))

@@ -77,13 +77,13 @@ pub extern "C" fn zav_lane_repair(lane: &mut [u8], marks: &[u8]) -> u64
     }
     let r = code::lane::repair_lane(lane_of(lane), lane_of(marks));
     let answer = r.answer;
-    let mended = r.lane;
+    let clean = r.lane;
     match answer {
-        Repaired::Mended(e) => {
-            put_back(mended, lane);
-            packing::pack_mended(0, e)
+        Repaired::Mended { mended, repainted } => {
+            put_back(clean, lane);
+            packing::pack_repaired(Repaired::Mended { mended, repainted })
         }
-        Repaired::Refused(c) => packing::pack_mended(c, 0),
+        Repaired::Refused(c) => packing::pack_repaired(Repaired::Refused(c)),
     }
 }
 

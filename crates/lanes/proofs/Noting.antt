@@ -1,44 +1,41 @@
 -- The errata of a lane noted among those of the strip.
 use mathlib.Core.Path.{_≡_, refl, sym, ap, ap₂, _∙_, subst}
-use mathlib.Core.Bool.{Bool, not}
 use mathlib.Core.List.{List, [], _∷_, _++_}
 use Prim.Native.Nat.{ℕ, _+_, _*_, _/_, _≤_, _<_}
 use native.Mathlib.Nat.{mul-le-mul, le-of-lt}
 use native.Mathlib.Numerals.{add-one}
 use native.Mathlib.Omega.{arith}
 use lib.Bits.{bitXor}
-use lib.Dec.{eqb}
 use lib.ListN.{length, getD, take, set, length-set}
-use lib.Seq.{take-suc, getD-take}
+use lib.Seq.{take-suc, getD-take, length-take-le}
 use Rattle.account.specs.Lanes.{lane}
-use Rattle.account.specs.Reach.{isMarked, oneIf, and}
 use Rattle.account.specs.Errata.{Applied}
-use Rattle.account.proofs.Cells.{one-most}
 use Rattle.account.proofs.Lanes.{length-lane}
 use Rattle.gf256.specs.Gf256.{gf256}
 use Rattle.values.specs.declared.Errata.{Errata}
-use Rattle.marks.specs.Marks.{countedOf}
-use Rattle.marks.proofs.Counting.{lane-marked, lane-inside, erratum-below}
+use Rattle.marks.specs.Marks.{CountsOne, CountsAll}
+use Rattle.marks.specs.declared.Counts.{Counts}
+use Rattle.marks.proofs.Counting.{lane-inside, lane-counts, counts-few, erratum-below}
 use Rattle.code.specs.Lane.{wordOf}
 use Rattle.code.specs.declared.lane.Lane.{Lane}
 use Rattle.patches.specs.Patched.{patched}
 use Rattle.lanes.specs.Fixes.{Noting, Noted}
 use Rattle.patches.proofs.Patching.{patched-pushed, length-patched}
 use Rattle.lanes.proofs.Setting.{lane-set, lane-set-other}
-use Rattle.lanes.proofs.Adding.{alike, outside-before, applied-none, applied-last, counted-last}
+use Rattle.lanes.proofs.Adding.{alike, outside-before, applied-none, applied-last, counts-last}
 
 module _ (R l k : ℕ) (w : Lane) (e : Errata) (marks cells bytes : List ℕ) (N : Noting R l k w e marks cells bytes) where
   some : 0 < R
   some = omega (arith, N .inside)
 
-  pub noted-0 : Noted R l k w e marks cells bytes 0 cells bytes 0
+  pub noted-0 : Noted R l k w e marks cells bytes 0 cells bytes (record { mended = 0; repainted = 0 })
   noted-0 = record {
     cells-long = N .room .cells-long;
     bytes-long = N .room .bytes-long;
     own = λ s z same.
         subst (Applied gf256 [] [] (wordOf w)) (sym (ap (λ (n : ℕ). lane R l (patched cells bytes n s)) none ∙ same)) (applied-none (wordOf w));
     others = λ s z j b n. ap (λ (m : ℕ). lane R j (patched cells bytes m s)) none;
-    count = refl;
+    counts = record { mended = refl; repainted = refl };
   }
     where
       none : k + 0 ≡ k
@@ -79,13 +76,16 @@ module _ (R l k : ℕ) (w : Lane) (e : Errata) (marks cells bytes : List ℕ) (N
     as-many : length (take i (e .values)) ≡ length (take i (e .cells))
     as-many = alike (w .len) e (N .errata) i (omega arith)
 
-    module _ (cells' bytes' : List ℕ) (m x : ℕ) (H : Noted R l k w e marks cells bytes i cells' bytes' m)
-        (ex : x ≡ oneIf (and (not (isMarked marks p)) (not (eqb v 0)))) where
-      pub one-small : x ≤ 1
-      one-small = omega (arith, ex, one-most (and (not (isMarked marks p)) (not (eqb v 0))))
+    module _ (cells' bytes' : List ℕ) (m : Counts) (H : Noted R l k w e marks cells bytes i cells' bytes' m) where
+      pub counts-small : (m .mended ≤ 4096) × (m .repainted ≤ 4096)
+      counts-small =
+          let f = counts-few (lane R l marks) (take i (e .cells)) (take i (e .values)) m (H .counts) in
+          let n : length (take i (e .cells)) ≤ 5 = omega (arith, length-take-le i (e .cells) (omega (arith, N .errata .few, N .errata .room)), N .errata .few) in
+          (omega (arith, f .0), omega (arith, f .1))
 
-      pub noted-more : Noted R l k w e marks cells bytes (i + 1) (set cells' (k + i) p) (set bytes' (k + i) b) (m + x)
-      noted-more = record {
+      pub noted-more : (x : Counts) → CountsOne marks p v m x
+          → Noted R l k w e marks cells bytes (i + 1) (set cells' (k + i) p) (set bytes' (k + i) b) x
+      noted-more x C = record {
         cells-long = length-set cells' (k + i) p ∙ H .cells-long;
         bytes-long = length-set bytes' (k + i) b ∙ H .bytes-long;
         own = λ s z same.
@@ -95,9 +95,11 @@ module _ (R l k : ℕ) (w : Lane) (e : Errata) (marks cells bytes : List ℕ) (N
             (applied-last (take i (e .cells)) (take i (e .values)) (wordOf w) (lane R l (old s)) c v as-many
             (outside-before (e .cells) (e .count) i h (omega (arith, N .errata .few, N .errata .room)) (N .errata .distinct)) (in-word s z same) (H .own s z same))));
         others = λ s z j a n. ap (lane R j) (pushed s) ∙ lane-set-other R some (old s) l c b (N .inside) (inside s z) j a n ∙ H .others s z j a n;
-        count =
-            ap₂ (λ (a d : ℕ). a + d) (H .count) (ex ∙ ap (λ (t : Bool). oneIf (and (not t) (not (eqb v 0)))) (lane-marked R marks l c (N .inside) in-columns))
-            ∙ sym (ap₂ (countedOf (lane R l marks)) cells-more values-more ∙ counted-last (lane R l marks) (take i (e .cells)) (take i (e .values)) c v as-many);
+        counts =
+            subst (λ (ps : List ℕ). CountsAll (lane R l marks) ps (take (i + 1) (e .values)) x) (sym cells-more)
+            (subst (λ (vs : List ℕ). CountsAll (lane R l marks) (take i (e .cells) ++ c ∷ []) vs x) (sym values-more)
+            (counts-last (lane R l marks) (take i (e .cells)) (take i (e .values)) c v m x as-many (H .counts)
+            (lane-counts R marks l c v m x (N .inside) in-columns C)));
       }
         where
           old : List ℕ → List ℕ

@@ -9,8 +9,8 @@ use lib.ListN.{length}
 use Rattle.account.specs.Lanes.{lane}
 use Rattle.account.specs.Code.{Cells, Clean}
 use Rattle.account.specs.Errata.{Applied}
-use Rattle.account.specs.Reach.{Reach, countTo, isMarked, differsAt}
-use Rattle.account.proofs.Cells.{count-none, not-differs}
+use Rattle.account.specs.Reach.{Reach, and, countTo, isMarked, isRead, differs, differsAt, repaintedAt, differing, repainted}
+use Rattle.account.proofs.Cells.{none-differ}
 use Rattle.account.proofs.Lanes.{length-lane, bytes-lane}
 use Rattle.gf256.specs.Gf256.{gf256}
 use Rattle.values.specs.declared.Errata.{Errata}
@@ -20,7 +20,8 @@ use Rattle.errata.proofs.Guesses.{listed-marks}
 use Rattle.level.specs.Strip.{Mendable}
 use Rattle.marks.specs.Marks.{ListedIn}
 use Rattle.marks.specs.declared.Listed as declared
-use Rattle.marks.proofs.Counting.{count-is}
+use Rattle.marks.specs.declared.Counts.{Counts}
+use Rattle.marks.proofs.Counting.{counts-are}
 use Rattle.code.specs.Lane.{wordOf}
 use Rattle.code.specs.declared.lane.Lane.{Lane}
 use Rattle.dealt.specs.Lanes.{LaneRemains, SearchedBy}
@@ -91,58 +92,64 @@ module _ (R : ℕ) (s marks : List ℕ) (E : Entered R s marks) where
         room = room;
       }
 
-      pub mended-one : (cells' bytes' : List ℕ) (m : ℕ) → Noted R j k w e marks cells bytes (e .count) cells' bytes' m
-          → OneAs R s marks j k cells bytes cells' bytes' true (record { good = true; mended = m; noted = k + e .count })
-      mended-one cells' bytes' m N = (good, omega (arith, K .listed .few), N .cells-long, N .bytes-long)
+      pub mended-one : (cells' bytes' : List ℕ) (c : Counts) → Noted R j k w e marks cells bytes (e .count) cells' bytes' c
+          → OneAs R s marks j k cells bytes cells' bytes' true (record { good = true; mended = c .mended; repainted = c .repainted; noted = k + e .count })
+      mended-one cells' bytes' c N = (good, omega (arith, K .listed .few), N .cells-long, N .bytes-long)
         where
           t' : List ℕ
           t' = patched cells' bytes' (k + e .count) s
 
-          good : lane R j old ≡ lane R j s → OneGood R s marks j old t' m
+          good : lane R j old ≡ lane R j s → OneGood R s marks j old t' (c .mended) (c .repainted)
           good same = record {
             mended-lane = record { cells = right .2; clean = right .0; reach = right .1 };
-            count = N .count
-                ∙ count-is (lane R j marks) (cellsOf e) (valuesOf e) (lane R j s) (lane R j t')
-                (alike (length (lane R j s)) e (K .listed) (e .count) (omega arith)) (K .listed .below) (K .listed .distinct) put
-                ∙ ap (countTo (differsAt (lane R j marks) (lane R j s) (lane R j t'))) (own-columns j h);
+            count = are .0 ∙ ap (countTo (differsAt (lane R j marks) (lane R j s) (lane R j t'))) (own-columns j h);
+            repaints = are .1 ∙ ap (countTo (repaintedAt (lane R j marks) (lane R j s) (lane R j t'))) (own-columns j h);
             others = N .others s (sym lw);
           }
             where
               put : Applied gf256 (cellsOf e) (valuesOf e) (lane R j s) (lane R j t')
               put = subst (λ (u : List ℕ). Applied gf256 (cellsOf e) (valuesOf e) u (lane R j t')) ew (N .own s (sym lw) (same ∙ sym ew))
 
+              are : (c .mended ≡ differing (lane R j marks) (lane R j s) (lane R j t')) × (c .repainted ≡ repainted (lane R j marks) (lane R j s) (lane R j t'))
+              are =
+                  counts-are (lane R j marks) (cellsOf e) (valuesOf e) (lane R j s) (lane R j t')
+                  (alike (length (lane R j s)) e (K .listed) (e .count) (omega arith)) (K .listed .below) (K .listed .distinct) put c (N .counts)
+
               right : Clean gf256 (lane R j t') × Reach (lane R j marks) (lane R j s) (lane R j t') × Cells gf256 (lane R j t')
               right = K .corrects (lane R j t') put
 
     -- ---- a lane that is clean is as it is to be
-
-    none-differ : (n : ℕ) → countTo (differsAt (lane R j marks) (lane R j s) (lane R j s)) n ≡ 0
-    none-differ n = count-none (differsAt (lane R j marks) (lane R j s) (lane R j s)) n (λ p l. not-differs (lane R j marks) (lane R j s) (lane R j s) p refl)
 
     sizes : length (lane R j s) ≡ length (lane R j marks)
     sizes = length-lane R some j s ∙ ap (λ (n : ℕ). n / R) (sym (E .matched)) ∙ sym (length-lane R some j marks)
 
     module _ (m : declared.Listed) (L : ListedIn R j marks m) where
       pub kept-one : m .count ≤ 5 → Clean gf256 (lane R j s) → Cells gf256 s → Room k cells bytes
-          → OneAs R s marks j k cells bytes cells bytes true (record { good = true; mended = 0; noted = k })
+          → OneAs R s marks j k cells bytes cells bytes true (record { good = true; mended = 0; repainted = 0; noted = k })
       kept-one few clean cs room = (good, omega arith, room .cells-long, room .bytes-long)
         where
           reach : Reach (lane R j marks) (lane R j s) (lane R j s)
           reach = record {
             same-length = refl;
-            few = omega (arith, none-differ (length (lane R j s)), L .count few, ap (countTo (isMarked (lane R j marks))) sizes, few);
+            few = omega (arith, none-differ (isRead (lane R j marks)) (lane R j s) (length (lane R j s)), L .count few, ap (countTo (isMarked (lane R j marks))) sizes, few);
           }
 
-          good : lane R j old ≡ lane R j s → OneGood R s marks j old old 0
+          good : lane R j old ≡ lane R j s → OneGood R s marks j old old 0 0
           good same = record {
             mended-lane = record {
               cells = subst (Cells gf256) (sym same) (bytes-lane R some gf256 j s h cs);
               clean = subst (Clean gf256) (sym same) clean;
               reach = subst (Reach (lane R j marks) (lane R j s)) (sym same) reach;
             };
-            count = sym (ap (λ (t : List ℕ). countTo (differsAt (lane R j marks) (lane R j s) t) (length s / R)) same ∙ none-differ (length s / R));
+            count = none (isRead (lane R j marks));
+            repaints = none (isMarked (lane R j marks));
             others = λ i b n. refl;
           }
+            where
+              none : (f : ℕ → Bool) → 0 ≡ countTo (λ i. and (f i) (differs (lane R j s) (lane R j old) i)) (length s / R)
+              none f =
+                  sym (ap (λ (t : List ℕ). countTo (λ i. and (f i) (differs (lane R j s) t i)) (length s / R)) same
+                  ∙ none-differ f (lane R j s) (length s / R))
 
       -- six marks are beyond reach
       pub six-marked : 5 < m .count → Mendable gf256 R marks s j → ⊥

@@ -11,11 +11,11 @@ use lib.ListN.{length}
 use Rattle.account.specs.Lists.{sumOf}
 use Rattle.account.specs.Lanes.{lane}
 use Rattle.account.specs.Code.{Cells}
-use Rattle.account.specs.Reach.{countTo, differsAt, isMarked}
+use Rattle.account.specs.Reach.{countTo, differsAt, repaintedAt}
 use Rattle.account.proofs.Lanes.{length-lane, cell, columns-of}
 use Rattle.gf256.specs.Gf256.{gf256}
-use Rattle.level.specs.Strip.{wrongIn, mendedOf, Mendable}
-use Rattle.level.proofs.Counts.{sum-cong}
+use Rattle.level.specs.Strip.{wrongIn, mendedOf, repaintedIn, repaintedOf, Mendable}
+use Rattle.level.proofs.Counts.{sum-cong, wrong-few, repainted-few}
 use Rattle.patches.specs.Patched.{patched}
 use Rattle.patches.proofs.Patching.{patched-0, length-patched}
 use Rattle.lanes.specs.declared.One.{One}
@@ -38,7 +38,7 @@ cells-of-lanes R some t m full f = record {
 
 module _ (R : ℕ) (s marks : List ℕ) where
   -- the lanes below l are mended by the k cells that are noted, the others are still those of s
-  pub record Sofar (cells bytes : List ℕ) (e k l : ℕ) : Type 0 where
+  pub record Sofar (cells bytes : List ℕ) (e d k l : ℕ) : Type 0 where
     pub within : l ≤ R
     pub noted : k ≤ 5 * l
     pub cells-long : length cells ≡ 80
@@ -46,9 +46,11 @@ module _ (R : ℕ) (s marks : List ℕ) where
     pub each : (j : ℕ) → j < l → LaneMended R marks s (patched cells bytes k s) j
     pub later : (j : ℕ) → l ≤ j → j < R → lane R j (patched cells bytes k s) ≡ lane R j s
     pub count : e ≡ sumOf l (wrongIn R marks s (patched cells bytes k s))
+    pub repaints : d ≡ sumOf l (repaintedIn R marks s (patched cells bytes k s))
     pub small : e ≤ 2 * l
+    pub few : d ≤ 5 * l
 
-  pub sofar-0 : (cells bytes : List ℕ) → Room 0 cells bytes → Sofar cells bytes 0 0 0
+  pub sofar-0 : (cells bytes : List ℕ) → Room 0 cells bytes → Sofar cells bytes 0 0 0 0
   unfolding sumOf
   sofar-0 cells bytes room = record {
     within = omega arith;
@@ -58,32 +60,37 @@ module _ (R : ℕ) (s marks : List ℕ) where
     each = λ j h. absurd (omega arith);
     later = λ j h k. ap (lane R j) (patched-0 cells bytes s);
     count = refl;
+    repaints = refl;
     small = omega arith;
+    few = omega arith;
   }
 
-  pub room-left : R ≤ 16 → (cells bytes : List ℕ) (e k l : ℕ) → l < R → Sofar cells bytes e k l → Room k cells bytes
-  room-left lanes cells bytes e k l h W = record { left = omega (arith, W .noted); cells-long = W .cells-long; bytes-long = W .bytes-long }
+  pub room-left : R ≤ 16 → (cells bytes : List ℕ) (e d k l : ℕ) → l < R → Sofar cells bytes e d k l → Room k cells bytes
+  room-left lanes cells bytes e d k l h W = record { left = omega (arith, W .noted); cells-long = W .cells-long; bytes-long = W .bytes-long }
 
   module _ (E : Entered R s marks) where
-    few : (t : List ℕ) (j : ℕ) → LaneMended R marks s t j → wrongIn R marks s t j ≤ 2
-    few t j m =
-        let h : 2 * countTo (differsAt (lane R j marks) (lane R j s) (lane R j t)) (length s / R) + countTo (isMarked (lane R j marks)) (length s / R) ≤ 5 =
-        rw (length-lane R (some R s marks E) j s) at (m .reach .few) in
-        omega arith
-
     -- a lane that was mended
-    module _ (cells bytes cells' bytes' : List ℕ) (e k l : ℕ) (h : l < R) (W : Sofar cells bytes e k l) (o : One) (t : o .good ≡ true)
+    module _ (cells bytes cells' bytes' : List ℕ) (e d k l : ℕ) (h : l < R) (W : Sofar cells bytes e d k l) (o : One) (t : o .good ≡ true)
         (a : OneAs R s marks l k cells bytes cells' bytes' (o .good) o) where
+      abbrev old : List ℕ
+      old = patched cells bytes k s
+
+      abbrev new : List ℕ
+      new = patched cells' bytes' (o .noted) s
+
       told : OneAs R s marks l k cells bytes cells' bytes' true o
       told = subst (λ (b : Bool). OneAs R s marks l k cells bytes cells' bytes' b o) t a
 
-      good : OneGood R s marks l (patched cells bytes k s) (patched cells' bytes' (o .noted) s) (o .mended)
+      good : OneGood R s marks l old new (o .mended) (o .repainted)
       good = told .0 (W .later l (omega arith) h)
 
-      pub one-few : o .mended ≤ 2
-      one-few = omega (arith, few (patched cells' bytes' (o .noted) s) l (good .mended-lane), good .count)
+      pub one-few : (o .mended ≤ 2) × (o .repainted ≤ 5)
+      one-few = (
+        omega (arith, wrong-few R (some R s marks E) marks s new l (good .mended-lane .reach), good .count),
+        omega (arith, repainted-few R (some R s marks E) marks s new l (good .mended-lane .reach), good .repaints),
+      )
 
-      pub sofar-more : Sofar cells' bytes' (e + o .mended) (o .noted) (l + 1)
+      pub sofar-more : Sofar cells' bytes' (e + o .mended) (d + o .repainted) (o .noted) (l + 1)
       sofar-more = record {
         within = omega arith;
         noted = omega (arith, W .noted, told .1);
@@ -91,33 +98,36 @@ module _ (R : ℕ) (s marks : List ℕ) where
         bytes-long = told .3;
         each = below-more _ l (λ j b. kept j b (W .each j b)) (good .mended-lane);
         later = λ j b c. good .others j c (λ q. omega (arith, q)) ∙ W .later j (omega arith) c;
-        count =
-            sym (sum-more l (wrongIn R marks s new)
-            ∙ ap₂ (λ (x y : ℕ). x + y) (sum-cong l (wrongIn R marks s new) (wrongIn R marks s old) same ∙ sym (W .count)) (sym (good .count)));
+        count = more differsAt e (o .mended) (W .count) (good .count);
+        repaints = more repaintedAt d (o .repainted) (W .repaints) (good .repaints);
         small = omega (arith, one-few, W .small);
+        few = omega (arith, one-few, W .few);
       }
         where
-          old : List ℕ
-          old = patched cells bytes k s
-
-          new : List ℕ
-          new = patched cells' bytes' (o .noted) s
-
           other : (j : ℕ) → j < l → lane R j new ≡ lane R j old
           other j b = good .others j (omega arith) (λ q. omega (arith, q))
 
           kept : (j : ℕ) → j < l → LaneMended R marks s old j → LaneMended R marks s new j
           kept j b m = record { cells = rw (other j b) (m .cells); clean = rw (other j b) (m .clean); reach = rw (other j b) (m .reach) }
 
-          same : (j : ℕ) → j < l → wrongIn R marks s new j ≡ wrongIn R marks s old j
-          same j b = ap (λ (v : List ℕ). countTo (differsAt (lane R j marks) (lane R j s) v) (length s / R)) (other j b)
+          -- what D counts in the lanes, and what it counts in one more
+          counted : (List ℕ → List ℕ → List ℕ → ℕ → Bool) → List ℕ → ℕ → ℕ
+          counted D u j = countTo (D (lane R j marks) (lane R j s) (lane R j u)) (length s / R)
+
+          more : (D : List ℕ → List ℕ → List ℕ → ℕ → Bool) (x y : ℕ) → x ≡ sumOf l (counted D old) → y ≡ counted D new l → x + y ≡ sumOf (l + 1) (counted D new)
+          more D x y ex ey =
+              sym (sum-more l (counted D new)
+              ∙ ap₂ (λ (i j : ℕ). i + j)
+              (sum-cong l (counted D new) (counted D old)
+              (λ j b. ap (λ (v : List ℕ). countTo (D (lane R j marks) (lane R j s) v) (length s / R)) (other j b)) ∙ sym ex) (sym ey))
 
     -- a lane that cannot be
-    pub lost : (cells bytes cells' bytes' : List ℕ) (e k l : ℕ) → l < R → Sofar cells bytes e k l → (o : One) → o .good ≡ false
-        → OneAs R s marks l k cells bytes cells' bytes' (o .good) o → MendedAs R s marks cells' bytes' (record { beyond = l; mended = 0; noted = 0 })
-    lost cells bytes cells' bytes' e k l h W o t a = record {
+    pub lost : (cells bytes cells' bytes' : List ℕ) (e d k l : ℕ) → l < R → Sofar cells bytes e d k l → (o : One) → o .good ≡ false
+        → OneAs R s marks l k cells bytes cells' bytes' (o .good) o → MendedAs R s marks cells' bytes' (record { beyond = l; mended = 0; repainted = 0; noted = 0 })
+    lost cells bytes cells' bytes' e d k l h W o t a = record {
       found = λ b. absurd (omega arith);
       count = λ b. absurd (omega arith);
+      repaints = λ b. absurd (omega arith);
       small = omega arith;
       few = omega arith;
       lost = λ b. record {
@@ -132,16 +142,17 @@ module _ (R : ℕ) (s marks : List ℕ) where
         none = subst (λ (b : Bool). OneAs R s marks l k cells bytes cells' bytes' b o) t a
 
     -- all are
-    pub all-mended : (cells bytes : List ℕ) (e k l : ℕ) → R ≤ l → Sofar cells bytes e k l
-        → MendedAs R s marks cells bytes (record { beyond = R; mended = e; noted = k })
-    unfolding mendedOf
-    all-mended cells bytes e k l h W = record {
+    pub all-mended : (cells bytes : List ℕ) (e d k l : ℕ) → R ≤ l → Sofar cells bytes e d k l
+        → MendedAs R s marks cells bytes (record { beyond = R; mended = e; repainted = d; noted = k })
+    unfolding mendedOf repaintedOf
+    all-mended cells bytes e d k l h W = record {
       found = λ b. record {
         cells = cells-of-lanes R (some R s marks E) (patched cells bytes k s) (E .legal .k + 5) (long ∙ E .legal .cells) (λ j c. W .each j (omega arith) .cells);
         clean = λ j c. W .each j (omega arith) .clean;
         reach = record { same-length = long; each = λ j c. W .each j (omega arith) .reach };
       };
       count = λ b. W .count ∙ ap (λ (n : ℕ). sumOf n (wrongIn R marks s (patched cells bytes k s))) all;
+      repaints = λ b. W .repaints ∙ ap (λ (n : ℕ). sumOf n (repaintedIn R marks s (patched cells bytes k s))) all;
       small = omega (arith, W .small, all);
       few = omega (arith, W .noted, W .within, E .lanes .to);
       lost = λ b. absurd (omega arith);

@@ -11,7 +11,7 @@ use Rattle.account.specs.Reach.{countTo, isMarked, Reach, GoodMarks}
 use Rattle.rules.specs.Refusal.{Within}
 use Rattle.gf256.specs.Gf256.{gf256}
 use Rattle.level.specs.Sizes.{recordMost}
-use Rattle.level.specs.Strip.{columns, Legal, wrongIn, mendedOf, Mends, Mendable, Lowest}
+use Rattle.level.specs.Strip.{columns, Legal, wrongIn, mendedOf, repaintedIn, repaintedOf, Mends, Mendable, Lowest}
 use Rattle.patches.specs.Patched.{patched}
 use Rattle.dealt.specs.Lanes.{LaneRemains}
 use Rattle.lanes.specs.declared.Mending.{Mending}
@@ -43,15 +43,16 @@ module _ (R : ℕ) where
     pub reach : Reach (lane R j marks) (lane R j s) (lane R j t)
 
   -- lane j is mended in t', and the others are as they were in t
-  pub record OneGood (s marks : List ℕ) (j : ℕ) (t t' : List ℕ) (mended : ℕ) : Type 0 where
+  pub record OneGood (s marks : List ℕ) (j : ℕ) (t t' : List ℕ) (mended repainted : ℕ) : Type 0 where
     pub mended-lane : LaneMended marks s t' j
     pub count : mended ≡ wrongIn R marks s t' j
+    pub repaints : repainted ≡ repaintedIn R marks s t' j
     pub others : (i : ℕ) → i < R → (i ≡ j → ⊥) → lane R i t' ≡ lane R i t
 
   -- by the answer: lane j, as it was in the strip, is mended by what is noted; or it cannot be
   abbrev pub OneAs : List ℕ → List ℕ → ℕ → ℕ → List ℕ → List ℕ → List ℕ → List ℕ → Bool → One → Type 0
   OneAs s marks j k cells bytes cells' bytes' true o =
-      (lane R j (patched cells bytes k s) ≡ lane R j s → OneGood s marks j (patched cells bytes k s) (patched cells' bytes' (o .noted) s) (o .mended))
+      (lane R j (patched cells bytes k s) ≡ lane R j s → OneGood s marks j (patched cells bytes k s) (patched cells' bytes' (o .noted) s) (o .mended) (o .repainted))
       × (o .noted ≤ k + 5)
       × (length cells' ≡ 80)
       × (length bytes' ≡ 80)
@@ -61,6 +62,7 @@ module _ (R : ℕ) where
   pub record MendedAs (s marks cells bytes : List ℕ) (r : Mending) : Type 0 where
     pub found : R ≤ r .beyond → Mends gf256 R marks s (patched cells bytes (r .noted) s)
     pub count : R ≤ r .beyond → r .mended ≡ mendedOf R marks s (patched cells bytes (r .noted) s)
+    pub repaints : R ≤ r .beyond → r .repainted ≡ repaintedOf R marks s (patched cells bytes (r .noted) s)
     pub small : r .mended ≤ 2 * R
     pub few : r .noted ≤ 80
     pub lost : r .beyond < R → Lowest gf256 R marks s (r .beyond)

@@ -14,17 +14,19 @@ use patches::FIXES;
 
 mod fixes; // what is to be put right in a strip
 
-// Whether a lane is mended, how many unmarked cells were wrong, and how many cells are noted then.
+// Whether a lane is mended, how many unmarked cells were wrong and how many marked ones, and how many cells are noted then.
 pub struct One {
     pub good: bool,
     pub mended: usize,
+    pub repainted: usize,
     pub noted: usize,
 }
 
-// The lowest lane beyond reach, or how many lanes there are; how many cells were mended in all; and how many are noted.
+// The lowest lane beyond reach, or how many lanes there are; how many cells were mended in all, and how many repainted; and how many are noted.
 pub struct Mending {
     pub beyond: usize,
     pub mended: usize,
+    pub repainted: usize,
     pub noted: usize,
 }
 
@@ -66,16 +68,18 @@ fn repair_one(
         return One {
             good: false,
             mended: 0,
+            repainted: 0,
             noted: k,
         };
     }
     let w = dealt::gather(strip, lanes, l, n);
     let e = found.errata;
     let noted = k + e.count;
-    let mended = fixes::note(w, e, marks, lanes, l, k, cells, bytes);
+    let c = fixes::note(w, e, marks, lanes, l, k, cells, bytes);
     One {
         good: true,
-        mended,
+        mended: c.mended,
+        repainted: c.repainted,
         noted,
     }
 }
@@ -101,6 +105,7 @@ fn mend_one(
         return One {
             good: false,
             mended: 0,
+            repainted: 0,
             noted: k,
         };
     }
@@ -108,6 +113,7 @@ fn mend_one(
         return One {
             good: true,
             mended: 0,
+            repainted: 0,
             noted: k,
         };
     }
@@ -129,6 +135,7 @@ fn mend_each(
 {
     let tables = gf256::tables::TABLES;
     let mut mended: usize = 0;
+    let mut repainted: usize = 0;
     let mut noted: usize = 0;
     let mut l: usize = 0;
     while l < lanes {
@@ -149,16 +156,19 @@ fn mend_each(
             return Mending {
                 beyond: l,
                 mended: 0,
+                repainted: 0,
                 noted: 0,
             };
         }
         mended += o.mended;
+        repainted += o.repainted;
         noted = o.noted;
         l += 1;
     }
     Mending {
         beyond: lanes,
         mended,
+        repainted,
         noted,
     }
 }
@@ -197,6 +207,7 @@ pub fn mend(
             return Mending {
                 beyond: lanes,
                 mended: 0,
+                repainted: 0,
                 noted: 0,
             };
         }

@@ -174,18 +174,18 @@ cells = (
           (
             record { size = refl; front = refl; clean = clean3 },
             (
-              (clean0, record { same-length = refl; few = omega arith }, refl),
+              (clean0, record { same-length = refl; few = omega arith }, refl, refl),
               (
                 at-six none (0x01 ∷ 0xCE ∷ 0xE6 ∷ 0x00 ∷ 0x00 ∷ 0x00 ∷ []) (0x01 ∷ 0xCE ∷ 0xE6 ∷ 0xE6 ∷ 0xCE ∷ 0x01 ∷ []) (omega arith)
                     (bytes-of (0x01 ∷ 0xCE ∷ 0xE6 ∷ 0xE6 ∷ 0xCE ∷ 0x01 ∷ []) tt) clean1 refl refl,
                 (
-                  (clean1, record { same-length = refl; few = omega arith }, refl),
+                  (clean1, record { same-length = refl; few = omega arith }, refl, refl),
                   (
-                    (clean2, record { same-length = refl; few = omega arith }, refl),
+                    (clean2, record { same-length = refl; few = omega arith }, refl, refl),
                     (
                       at-six ones (0x02 ∷ 0 ∷ 0 ∷ 0 ∷ 0 ∷ 0 ∷ []) (0x02 ∷ 0x81 ∷ 0xD1 ∷ 0xD1 ∷ 0x81 ∷ 0x02 ∷ []) (omega arith)
                           (bytes-of (0x02 ∷ 0x81 ∷ 0xD1 ∷ 0xD1 ∷ 0x81 ∷ 0x02 ∷ []) tt) clean2 refl refl,
-                      ((clean3, record { same-length = refl; few = omega arith }, refl), (outside, ((is-level, is-record, is-strip), tt))),
+                      ((clean3, record { same-length = refl; few = omega arith }, refl, refl), (outside, ((is-level, is-record, is-strip), tt))),
                     ),
                   ),
                 ),

@@ -1,18 +1,20 @@
--- Counts over the lanes: a sum over lanes is a count over cells; what is mended is little.
+-- Counts over the lanes: a sum over lanes is a count over cells; what is mended and repainted is little.
 use mathlib.Core.Path.{_≡_, refl, sym, ap, ap₂, _∙_}
-use mathlib.Core.Bool.{Bool}
+use mathlib.Core.Bool.{Bool, not}
 use mathlib.Core.Logic.{⊎-elim}
 use mathlib.Core.List.{List}
 use Prim.Native.Nat.{ℕ, zero, suc, _+_, _*_, _-_, _/_, _≤_, _<_}
 use native.Mathlib.Nat.{mul-suc, mul-zero, mul-le-mul-left, div-lt-iff-lt-mul, div-add-mod, mod-lt, eq-zero-or-pos}
 use native.Mathlib.Omega.{arith}
+use lib.Dec.{eqb}
 use lib.ListN.{length, getD}
 use Rattle.account.specs.Lists.{sumOf}
 use Rattle.account.specs.Lanes.{lane}
-use Rattle.account.specs.Reach.{oneIf, countTo, isMarked, differsAt, differing}
+use Rattle.account.specs.Reach.{oneIf, and, countTo, isMarked, differing, repainted, Reach}
 use Rattle.account.proofs.Cells.{count-cong}
+use Rattle.account.proofs.Theorems.{repainted-marked}
 use Rattle.account.proofs.Lanes.{length-lane, getD-lane, columns-of}
-use Rattle.level.specs.Strip.{columns, Legal, StripReach, wrongIn, mendedOf, wearOf}
+use Rattle.level.specs.Strip.{columns, Legal, StripReach, wrongIn, mendedOf, repaintedIn, repaintedOf, wearOf}
 
 sum-none : (R : ℕ) → sumOf R (λ j. 0) ≡ 0
 unfolding sumOf
@@ -50,15 +52,24 @@ count-lanes f R (suc m) =
     ∙ sym (sum-add R (λ j. countTo (λ i. f (R * i + j)) m) (λ j. oneIf (f (R * m + j))))
 
 module _ (R : ℕ) (some : 0 < R) (marks s t : List ℕ) where
-  pub wrong-few : StripReach R marks s t → (j : ℕ) → j < R → wrongIn R marks s t j ≤ 2
-  wrong-few h j l =
-      let q : 2 * countTo (differsAt (lane R j marks) (lane R j s) (lane R j t)) (length s / R) + countTo (isMarked (lane R j marks)) (length s / R) ≤ 5 =
-      rw (length-lane R some j s) at (h .each j l .few) in
-      omega arith
+  -- a lane within reach
+  module _ (j : ℕ) (h : Reach (lane R j marks) (lane R j s) (lane R j t)) where
+    near : 2 * wrongIn R marks s t j + countTo (isMarked (lane R j marks)) (length s / R) ≤ 5
+    near = rw (length-lane R some j s) at (h .few)
+
+    pub wrong-few : wrongIn R marks s t j ≤ 2
+    wrong-few = omega (arith, near)
+
+    pub repainted-few : repaintedIn R marks s t j ≤ 5
+    repainted-few = omega (arith, near, rw (length-lane R some j s) at (repainted-marked (lane R j marks) (lane R j s) (lane R j t)))
 
   pub mended-most : StripReach R marks s t → mendedOf R marks s t ≤ 2 * R
   unfolding mendedOf
-  mended-most h = sum-most R 2 (wrongIn R marks s t) (wrong-few h)
+  mended-most h = sum-most R 2 (wrongIn R marks s t) (λ j l. wrong-few j (h .each j l))
+
+  pub repainted-most : StripReach R marks s t → repaintedOf R marks s t ≤ 5 * R
+  unfolding repaintedOf
+  repainted-most h = sum-most R 5 (repaintedIn R marks s t) (λ j l. repainted-few j (h .each j l))
 
   pub wear-most : Legal R (length s) → StripReach R marks s t → wearOf (mendedOf R marks s t) (length s) ≤ 33
   wear-most legal h = omega (arith, div-lt-iff-lt-mul {k = length s} positive .1 small)
@@ -77,22 +88,39 @@ module _ (R : ℕ) (some : 0 < R) (marks s t : List ℕ) where
       small : 100 * mendedOf R marks s t < 34 * length s
       small = omega (arith, mended-most h, long, some)
 
-  pub mended-differing : (m : ℕ) → length s ≡ R * m → length marks ≡ length s → length t ≡ length s → mendedOf R marks s t ≡ differing marks s t
-  unfolding mendedOf
-  mended-differing m full em et =
-      sum-cong R (wrongIn R marks s t) (λ j. countTo (λ i. differsAt marks s t (R * i + j)) m) each
-      ∙ sym (count-lanes (differsAt marks s t) R m) ∙ ap (countTo (differsAt marks s t)) (sym full)
+  -- what is counted lane by lane, of each cell by its mark and its bytes, is counted of the strip
+  over-lanes : (D : ℕ → ℕ → ℕ → Bool) (m : ℕ) → length s ≡ R * m → length marks ≡ length s → length t ≡ length s
+      → sumOf R (λ j. countTo (λ i. D (getD (lane R j marks) i 0) (getD (lane R j s) i 0) (getD (lane R j t) i 0)) (length s / R))
+      ≡ countTo (λ p. D (getD marks p 0) (getD s p 0) (getD t p 0)) (length s)
+  over-lanes D m full em et =
+      sum-cong R (λ j. countTo (λ i. D (getD (lane R j marks) i 0) (getD (lane R j s) i 0) (getD (lane R j t) i 0)) (length s / R))
+      (λ j. countTo (λ i. whole (R * i + j)) m) each
+      ∙ sym (count-lanes whole R m) ∙ ap (countTo whole) (sym full)
     where
+      whole : ℕ → Bool
+      whole p = D (getD marks p 0) (getD s p 0) (getD t p 0)
+
       wide : length s / R ≡ m
       wide = columns-of R some s m full
 
-      each : (j : ℕ) → j < R → wrongIn R marks s t j ≡ countTo (λ i. differsAt marks s t (R * i + j)) m
+      each : (j : ℕ) → j < R
+          → countTo (λ i. D (getD (lane R j marks) i 0) (getD (lane R j s) i 0) (getD (lane R j t) i 0)) (length s / R) ≡ countTo (λ i. whole (R * i + j)) m
       each j h =
-          ap (countTo (differsAt (lane R j marks) (lane R j s) (lane R j t))) wide
-          ∙ count-cong (differsAt (lane R j marks) (lane R j s) (lane R j t)) (λ i. differsAt marks s t (R * i + j)) m (λ i l. cell i l)
+          ap (countTo own) wide ∙ count-cong own (λ i. whole (R * i + j)) m (λ i l. cell i l)
         where
+          own : ℕ → Bool
+          own i = D (getD (lane R j marks) i 0) (getD (lane R j s) i 0) (getD (lane R j t) i 0)
+
           at : (u : List ℕ) → length u ≡ length s → (i : ℕ) → i < m → getD (lane R j u) i 0 ≡ getD u (R * i + j) 0
           at u e i l = getD-lane R some j u i (rw (e, wide) l)
 
-          cell : (i : ℕ) → i < m → differsAt (lane R j marks) (lane R j s) (lane R j t) i ≡ differsAt marks s t (R * i + j)
+          cell : (i : ℕ) → i < m → own i ≡ whole (R * i + j)
           cell i l = rw (at marks em i l, at s refl i l, at t et i l) refl
+
+  pub mended-differing : (m : ℕ) → length s ≡ R * m → length marks ≡ length s → length t ≡ length s → mendedOf R marks s t ≡ differing marks s t
+  unfolding mendedOf
+  mended-differing = over-lanes (λ x y z. and (not (not (eqb x 0))) (not (eqb z y)))
+
+  pub repainted-differing : (m : ℕ) → length s ≡ R * m → length marks ≡ length s → length t ≡ length s → repaintedOf R marks s t ≡ repainted marks s t
+  unfolding repaintedOf
+  repainted-differing = over-lanes (λ x y z. and (not (eqb x 0)) (not (eqb z y)))

@@ -6,12 +6,12 @@ use native.Mathlib.Nat.{mul-le-mul}
 use native.Mathlib.Omega.{arith}
 use lib.ListN.{length}
 use Rattle.account.specs.Field.{Ops, IsField}
-use Rattle.account.specs.Reach.{differing}
+use Rattle.account.specs.Reach.{differing, repainted}
 use Rattle.gf256.specs.Gf256.{gf256}
 use Rattle.gf256.proofs.Field256.{field256}
 use Rattle.level.specs.Level.{Level, IsLevel}
 use Rattle.level.specs.Record.{recordLength, IsRecord}
-use Rattle.level.specs.Strip.{columns, Legal, Dealt, IsStrip, StripReach, Reached, wrongIn, markedIn, mendedOf, wearOf}
+use Rattle.level.specs.Strip.{columns, Legal, Dealt, IsStrip, StripReach, Reached, wrongIn, markedIn, mendedOf, repaintedOf, wearOf}
 use Rattle.level.proofs.Written.{recordOf}
 use Rattle.level.proofs.Dealing.{some-dealt, columns-more, lanes-short}
 use Rattle.level.proofs.Fields as fields
@@ -87,3 +87,12 @@ wear-most = counts.wear-most
 pub mended-differing : (R : ℕ) → 0 < R → (marks s t : List ℕ) (m : ℕ) → length s ≡ R * m → length marks ≡ length s → length t ≡ length s
     → mendedOf R marks s t ≡ differing marks s t
 mended-differing = counts.mended-differing
+
+-- FORMAT 7.19: at most five cells of each lane are repainted.
+pub repainted-most : (R : ℕ) → 0 < R → (marks s t : List ℕ) → StripReach R marks s t → repaintedOf R marks s t ≤ 5 * R
+repainted-most = counts.repainted-most
+
+-- FORMAT 11.13: repainted is the number of marked cells in which the two strips differ.
+pub repainted-differing : (R : ℕ) → 0 < R → (marks s t : List ℕ) (m : ℕ) → length s ≡ R * m → length marks ≡ length s → length t ≡ length s
+    → repaintedOf R marks s t ≡ repainted marks s t
+repainted-differing = counts.repainted-differing

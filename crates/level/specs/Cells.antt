@@ -3,7 +3,7 @@ use mathlib.Core.Path.{_≡_}
 use mathlib.Core.List.{List, [], _∷_}
 use Prim.Native.Nat.{ℕ}
 use Rattle.account.specs.Code.{Clean, WordOf}
-use Rattle.account.specs.Reach.{differing, Reach, Reachable}
+use Rattle.account.specs.Reach.{differing, repainted, Reach, Reachable}
 use Rattle.gf256.specs.Gf256.{gf256, times}
 use Rattle.level.specs.Level.{Level, IsLevel}
 use Rattle.level.specs.Record.{IsRecord}
@@ -14,8 +14,8 @@ pub data Cell : Type 0 where
   product : ℕ → ℕ → ℕ → Cell
   -- FORMAT 12.2: data d gives the word w
   gives : List ℕ → List ℕ → Cell
-  -- FORMAT 12.4: r with these marks becomes w, mended e
-  becomes : List ℕ → List ℕ → List ℕ → ℕ → Cell
+  -- FORMAT 12.4: r with these marks becomes w, mended e and repainted d
+  becomes : List ℕ → List ℕ → List ℕ → ℕ → ℕ → Cell
   -- FORMAT 12.4: r with these marks is refused (6)
   refused : List ℕ → List ℕ → Cell
   -- FORMAT 12.5, 12.6: a level with its record and its strip of four lanes
@@ -24,7 +24,7 @@ pub data Cell : Type 0 where
 abbrev pub Holds : Cell → Type 0
 Holds (product a b c) = times a b ≡ c
 Holds (gives d w) = WordOf gf256 d w
-Holds (becomes marks r w e) = Clean gf256 w × Reach marks r w × (differing marks r w ≡ e)
+Holds (becomes marks r w e d) = Clean gf256 w × Reach marks r w × (differing marks r w ≡ e) × (repainted marks r w ≡ d)
 Holds (refused marks r) = Reachable gf256 marks r → ⊥
 Holds (lays l bs s) = IsLevel l × IsRecord l bs × IsStrip gf256 4 l s
 
@@ -46,12 +46,12 @@ table =
     ∷ gives (0x01 ∷ []) (0x01 ∷ 0xCE ∷ 0xE6 ∷ 0xE6 ∷ 0xCE ∷ 0x01 ∷ [])
     ∷ gives (0x02 ∷ []) (0x02 ∷ 0x81 ∷ 0xD1 ∷ 0xD1 ∷ 0x81 ∷ 0x02 ∷ [])
     ∷ gives (0x01 ∷ 0x00 ∷ []) (0x01 ∷ 0x00 ∷ 0x6C ∷ 0xAA ∷ 0x82 ∷ 0x8B ∷ 0xCE ∷ [])
-    ∷ becomes none6 (0x00 ∷ 0xCE ∷ 0xE6 ∷ 0x00 ∷ 0x00 ∷ 0x00 ∷ []) (0 ∷ 0 ∷ 0 ∷ 0 ∷ 0 ∷ 0 ∷ []) 2
+    ∷ becomes none6 (0x00 ∷ 0xCE ∷ 0xE6 ∷ 0x00 ∷ 0x00 ∷ 0x00 ∷ []) (0 ∷ 0 ∷ 0 ∷ 0 ∷ 0 ∷ 0 ∷ []) 2 0
     ∷ refused none6 (0x01 ∷ 0xCE ∷ 0xE6 ∷ 0x00 ∷ 0x00 ∷ 0x00 ∷ [])
-    ∷ becomes (0 ∷ 0 ∷ 0 ∷ 1 ∷ 0 ∷ 0 ∷ []) (0x01 ∷ 0xCE ∷ 0xE6 ∷ 0x00 ∷ 0x00 ∷ 0x00 ∷ []) (0x01 ∷ 0xCE ∷ 0xE6 ∷ 0xE6 ∷ 0xCE ∷ 0x01 ∷ []) 2
-    ∷ becomes (0 ∷ 1 ∷ 1 ∷ 1 ∷ 1 ∷ 1 ∷ []) (0x02 ∷ 0 ∷ 0 ∷ 0 ∷ 0 ∷ 0 ∷ []) (0x02 ∷ 0x81 ∷ 0xD1 ∷ 0xD1 ∷ 0x81 ∷ 0x02 ∷ []) 0
+    ∷ becomes (0 ∷ 0 ∷ 0 ∷ 1 ∷ 0 ∷ 0 ∷ []) (0x01 ∷ 0xCE ∷ 0xE6 ∷ 0x00 ∷ 0x00 ∷ 0x00 ∷ []) (0x01 ∷ 0xCE ∷ 0xE6 ∷ 0xE6 ∷ 0xCE ∷ 0x01 ∷ []) 2 1
+    ∷ becomes (0 ∷ 1 ∷ 1 ∷ 1 ∷ 1 ∷ 1 ∷ []) (0x02 ∷ 0 ∷ 0 ∷ 0 ∷ 0 ∷ 0 ∷ []) (0x02 ∷ 0x81 ∷ 0xD1 ∷ 0xD1 ∷ 0x81 ∷ 0x02 ∷ []) 0 5
     ∷ refused (1 ∷ 1 ∷ 1 ∷ 1 ∷ 1 ∷ 1 ∷ []) (0x02 ∷ 0 ∷ 0 ∷ 0 ∷ 0 ∷ 0 ∷ [])
-    ∷ becomes none7 (0x00 ∷ 0x00 ∷ 0x6C ∷ 0xAA ∷ 0x82 ∷ 0x8B ∷ 0xCE ∷ []) (0x01 ∷ 0x00 ∷ 0x6C ∷ 0xAA ∷ 0x82 ∷ 0x8B ∷ 0xCE ∷ []) 1
+    ∷ becomes none7 (0x00 ∷ 0x00 ∷ 0x6C ∷ 0xAA ∷ 0x82 ∷ 0x8B ∷ 0xCE ∷ []) (0x01 ∷ 0x00 ∷ 0x6C ∷ 0xAA ∷ 0x82 ∷ 0x8B ∷ 0xCE ∷ []) 1 0
     ∷ refused none6 (0x00 ∷ 0x6C ∷ 0xAA ∷ 0x82 ∷ 0x8B ∷ 0xCE ∷ [])
     ∷ lays (record { version = 1; width = 2; height = 1; par = 5; tiles = 4 ∷ 5 ∷ [] }) (0x11 ∷ 0x04 ∷ 0x05 ∷ 0x94 ∷ [])
     (0x11 ∷ 0x04 ∷ 0x05 ∷ 0x94 ∷ 0xB2 ∷ 0x1F ∷ 0xD1 ∷ 0xA4 ∷ 0x20 ∷ 0xBF ∷ 0x59 ∷ 0x07

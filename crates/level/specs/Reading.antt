@@ -78,11 +78,25 @@ pub record ReadNumbers : Type 0 where
   pub height : ℕ
   pub par : ℕ
   pub mended : ℕ
+  pub repainted : ℕ
   pub wear : ℕ
 
 -- FORMAT 9.43: with a refusal all are zero but the code and, for 6, the lane
 abbrev pub refusedAt : ℕ → ℕ → ReadNumbers
-refusedAt code lane = record { code = code; lane = lane; width = 0; height = 0; par = 0; mended = 0; wear = 0 }
+refusedAt code lane = record { code = code; lane = lane; width = 0; height = 0; par = 0; mended = 0; repainted = 0; wear = 0 }
+
+-- FORMAT 11.11: all numbers but repainted
+abbrev pub butRepainted : ReadNumbers → ReadNumbers
+butRepainted n = record {
+  code = n .code;
+  lane = n .lane;
+  width = n .width;
+  height = n .height;
+  par = n .par;
+  mended = n .mended;
+  repainted = 0;
+  wear = n .wear;
+}
 
 -- FORMAT 8.15: the level returned: these numbers, and the first tiles of the buffer
 abbrev pub returned : ReadNumbers → List ℕ → Level

@@ -5,7 +5,7 @@ use mathlib.Core.List.{List}
 use lib.ListN.{length, getD}
 use Rattle.account.specs.Field.{Ops}
 use Rattle.account.specs.Code.{Cells, Clean}
-use Rattle.account.specs.Reach.{countTo, differsAt, isMarked, Reach, Reachable}
+use Rattle.account.specs.Reach.{countTo, differsAt, repaintedAt, isMarked, Reach, Reachable}
 use Rattle.account.specs.Lists.{sumOf}
 use Rattle.account.specs.Lanes.{lane}
 use Rattle.level.specs.Sizes.{recordLeast, recordMost}
@@ -31,10 +31,14 @@ module _ (R : ℕ) where
     pub same-length : length t ≡ length s
     pub each : (j : ℕ) → j < R → Reach (lane R j marks) (lane R j s) (lane R j t)
 
-  -- FORMAT 7.14: the unmarked cells of lane j in which t and s differ, and its marked cells
+  -- FORMAT 7.14, 7.19: the unmarked cells of lane j in which t and s differ, and the marked ones
   abbrev pub wrongIn : List ℕ → List ℕ → List ℕ → ℕ → ℕ
   wrongIn marks s t j = countTo (differsAt (lane R j marks) (lane R j s) (lane R j t)) (length s / R)
 
+  abbrev pub repaintedIn : List ℕ → List ℕ → List ℕ → ℕ → ℕ
+  repaintedIn marks s t j = countTo (repaintedAt (lane R j marks) (lane R j s) (lane R j t)) (length s / R)
+
+  -- FORMAT 7.14: its marked cells
   abbrev pub markedIn : List ℕ → ℕ → ℕ
   markedIn marks j = countTo (isMarked (lane R j marks)) (length marks / R)
 
@@ -42,6 +46,11 @@ module _ (R : ℕ) where
   unfoldable pub mendedOf : List ℕ → List ℕ → List ℕ → ℕ
   unfolding sumOf
   mendedOf marks s t = sumOf R (wrongIn marks s t)
+
+  -- FORMAT 7.19: repainted, the marked cells in which they differ, over all lanes
+  unfoldable pub repaintedOf : List ℕ → List ℕ → List ℕ → ℕ
+  unfolding sumOf
+  repaintedOf marks s t = sumOf R (repaintedIn marks s t)
 
 -- FORMAT 7.16: wear, 100 times mended over the cells, rounded down
 abbrev pub wearOf : ℕ → ℕ → ℕ

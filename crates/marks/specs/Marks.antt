@@ -1,16 +1,17 @@
 -- FORMAT 3.1, 3.2: marks tallied and listed, and errata counted beside them, for the crates above.
 use mathlib.Core.Path.{_≡_}
 use mathlib.Core.Logic.{_≢_}
-use mathlib.Core.Bool.{not}
+use mathlib.Core.Bool.{Bool, not}
 use mathlib.Core.List.{List, [], _∷_}
 use Prim.Native.Nat.{ℕ, _+_, _≤_, _<_}
 use lib.Dec.{eqb}
 use lib.ListN.{length, set}
 use Rattle.account.specs.Lanes.{lane}
-use Rattle.account.specs.Reach.{countTo, isMarked, oneIf, and, GoodMarks}
+use Rattle.account.specs.Reach.{countTo, isMarked, isRead, oneIf, and, GoodMarks}
 use Rattle.values.specs.Values.{Gathered}
 use Rattle.marks.specs.declared.Marked.{Marked}
 use Rattle.marks.specs.declared.Listed.{Listed}
+use Rattle.marks.specs.declared.Counts.{Counts}
 
 -- or-ed together the marks are at most 1 just where each is, and then their sum counts the marked cells
 pub record Tallied (marks : List ℕ) (t : Marked) : Type 0 where
@@ -43,8 +44,18 @@ pub record Pushed (mark i : ℕ) (p : List ℕ) (k : ℕ) (q : List ℕ) (r : �
   pub some : mark ≢ 0 → r ≡ k + 1
   pub put : q ≡ set p k i
 
--- how many of the errata are at an unmarked cell and change it
-abbrev pub countedOf : List ℕ → List ℕ → List ℕ → ℕ
-countedOf marks [] vs = 0
-countedOf marks (p ∷ ps) [] = 0
-countedOf marks (p ∷ ps) (v ∷ vs) = oneIf (and (not (isMarked marks p)) (not (eqb v 0))) + countedOf marks ps vs
+-- how many of the errata change a cell that f takes
+abbrev pub countedOf : (ℕ → Bool) → List ℕ → List ℕ → ℕ
+countedOf f [] vs = 0
+countedOf f (p ∷ ps) [] = 0
+countedOf f (p ∷ ps) (v ∷ vs) = oneIf (and (f p) (not (eqb v 0))) + countedOf f ps vs
+
+-- the counts c with an erratum more, which adds v at cell p
+pub record CountsOne (marks : List ℕ) (p v : ℕ) (c r : Counts) : Type 0 where
+  pub mended : r .mended ≡ c .mended + oneIf (and (isRead marks p) (not (eqb v 0)))
+  pub repainted : r .repainted ≡ c .repainted + oneIf (and (isMarked marks p) (not (eqb v 0)))
+
+-- the errata counted: those that change an unmarked cell, and those that change a marked one
+pub record CountsAll (marks ps vs : List ℕ) (c : Counts) : Type 0 where
+  pub mended : c .mended ≡ countedOf (isRead marks) ps vs
+  pub repainted : c .repainted ≡ countedOf (isMarked marks) ps vs

@@ -1,15 +1,13 @@
-// Marks: one byte for each cell, 0 where it is read and 1 where it is unreadable. All of them or-ed, summed and listed, and the unmarked cells
-// that errata change, counted.
+// Marks: one byte for each cell, 0 where it is read and 1 where it is unreadable. All of them or-ed, summed and listed, and the cells that errata
+// change, counted by their marks.
 ghost use mathlib.Core.Path.{_≡_};
-ghost use mathlib.Core.Bool.{not};
 ghost use mathlib.Core.Logic.{_≢_};
 ghost use Prim.Native.Nat.{_/_, _≤_, _<_};
-ghost use lib.Dec.{eqb};
 ghost use lib.ListN.{length};
-ghost use Rattle.account.specs.Reach.{countTo, isMarked, oneIf, and};
+ghost use Rattle.account.specs.Reach.{countTo, isMarked};
 ghost use Rattle.account.specs.Lanes.{lane};
 ghost use Rattle.values.specs.Values.{Gathered, cellsOf, valuesOf, ErrataFor};
-ghost use Rattle.marks.specs.Marks.{Tallied, AnyOf, SumOf, Pushed, ListedIn, countedOf};
+ghost use Rattle.marks.specs.Marks.{Tallied, AnyOf, SumOf, Pushed, ListedIn, CountsOne, CountsAll};
 
 // All marks or-ed together, and their sum.
 pub struct Marked {
@@ -124,32 +122,49 @@ pub fn all(marks: &[u8], f: usize) -> [usize; 5]
     [cells[0], cells[1], cells[2], cells[3], cells[4]]
 }
 
-// 1 where an erratum is at an unmarked cell and changes it.
-pub fn changes(marks: &[u8], p: usize, v: u8) -> usize
-    requires { ⌜ p < length (now marks) ⌝ }
-    ensures { λ r. ⌜ r ≡ oneIf (and (not (isMarked (now (marks .entry)) p)) (not (eqb v 0))) ⌝ }
-{
-    if marks[p] != 0 {
-        return 0;
-    }
-    if v == 0 {
-        return 0;
-    }
-    1
+// How many cells errata change: of those that were read, which are mended, and of the marked ones, which are repainted.
+pub struct Counts {
+    pub mended: usize,
+    pub repainted: usize,
 }
 
-// How many unmarked cells of lane l the errata change.
-pub fn count(e: values::Errata, marks: &[u8], lanes: usize, l: usize) -> usize
+// The counts with an erratum more, which adds v at cell p.
+pub fn count_one(c: Counts, marks: &[u8], p: usize, v: u8) -> Counts
+    requires { ⌜ (p < length (now marks)) × (c .mended ≤ 4096) × (c .repainted ≤ 4096) ⌝ }
+    ensures { λ r. ⌜ CountsOne (now (marks .entry)) p v c r ⌝ }
+{
+    let mended = c.mended;
+    let repainted = c.repainted;
+    if v == 0 {
+        return Counts { mended, repainted };
+    }
+    if marks[p] == 0 {
+        return Counts {
+            mended: mended + 1,
+            repainted,
+        };
+    }
+    Counts {
+        mended,
+        repainted: repainted + 1,
+    }
+}
+
+// How many cells of lane l the errata change.
+pub fn count(e: values::Errata, marks: &[u8], lanes: usize, l: usize) -> Counts
     requires { ⌜ ErrataFor (length (now marks) / lanes) e × (l < lanes) × (length (now marks) ≤ 4096) ⌝ }
-    ensures { λ r. ⌜ r ≡ countedOf (lane lanes l (now (marks .entry))) (cellsOf e) (valuesOf e) ⌝ }
+    ensures { λ r. ⌜ CountsAll (lane lanes l (now (marks .entry))) (cellsOf e) (valuesOf e) r ⌝ }
 {
     let cells = e.cells;
     let values = e.values;
-    let mut c = 0;
+    let mut c = Counts {
+        mended: 0,
+        repainted: 0,
+    };
     let mut i = e.count;
     while 0 < i {
         i -= 1;
-        c += changes(marks, lanes * cells[i] + l, values[i]);
+        c = count_one(c, marks, lanes * cells[i] + l, values[i]);
     }
     c
 }

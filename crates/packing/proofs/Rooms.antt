@@ -5,17 +5,13 @@ use native.Mathlib.Omega.{arith}
 use Rattle.rules.specs.Refusal.{Numbers}
 use Rattle.code.specs.Repair.{RepairNumbers}
 use Rattle.level.specs.Reading.{ReadNumbers}
-use Rattle.packing.specs.Packed.{packedLength, packedMended, packedRead, unpackedLength, unpackedMended, unpackedRead}
+use Rattle.packing.specs.Packed.{packedLength, packedRead, asRead, packedRepair, unpackedLength, unpackedRead, unpackedRepair}
 
 -- ---- packing and unpacking lose nothing
 
 pub record Room (n : Numbers) : Type 0 where
   pub code : n .code < 32
   pub value : n .value < 65536
-
-pub record RepairRoom (n : RepairNumbers) : Type 0 where
-  pub code : n .code < 32
-  pub mended : n .mended < 64
 
 pub record ReadRoom (n : ReadNumbers) : Type 0 where
   pub code : n .code < 32
@@ -24,6 +20,7 @@ pub record ReadRoom (n : ReadNumbers) : Type 0 where
   pub height : n .height < 32
   pub par : n .par < 1024
   pub mended : n .mended < 64
+  pub repainted : n .repainted < 128
   pub wear : n .wear < 64
 
 abbrev numbers : ℕ → ℕ → Numbers
@@ -38,33 +35,24 @@ back-length n h = ap₂ (λ (c v : ℕ). numbers c v) low high
     high : (n .code % 32 + n .value % 65536 * 2 ^ 48) / 2 ^ 48 % 65536 ≡ n .value
     high = omega (arith, h .code, h .value)
 
-pub back-mended : (n : RepairNumbers) → RepairRoom n → unpackedMended (packedMended n) ≡ n
-back-mended n h = ap₂ (λ (c v : ℕ). made c v) low high
-  where
-    made : ℕ → ℕ → RepairNumbers
-    made c v = record { code = c; mended = v }
-
-    low : (n .code % 32 + n .mended % 64 * 2 ^ 31) % 32 ≡ n .code
-    low = omega (arith, h .code)
-
-    high : (n .code % 32 + n .mended % 64 * 2 ^ 31) / 2 ^ 31 % 64 ≡ n .mended
-    high = omega (arith, h .code, h .mended)
-
-abbrev reads : ℕ → ℕ → ℕ → ℕ → ℕ → ℕ → ℕ → ReadNumbers
-reads c l w h p m v = record { code = c; lane = l; width = w; height = h; par = p; mended = m; wear = v }
+abbrev reads : ℕ → ℕ → ℕ → ℕ → ℕ → ℕ → ℕ → ℕ → ReadNumbers
+reads c l w h p m d v = record { code = c; lane = l; width = w; height = h; par = p; mended = m; repainted = d; wear = v }
 
 module _ (n : ReadNumbers) (h : ReadRoom n) where
   -- what is packed, with no remainders taken
-  plain : packedRead n ≡ n .code + n .lane * 32 + n .width * 2048 + n .height * 65536 + n .par * 2097152 + n .mended * 2147483648 + n .wear * 17592186044416
-  plain = omega (arith, h .code, h .lane, h .width, h .height, h .par, h .mended, h .wear)
+  plain : packedRead n
+      ≡ n .code + n .lane * 32 + n .width * 2048 + n .height * 65536 + n .par * 2097152 + n .mended * 2147483648 + n .repainted * 137438953472
+      + n .wear * 17592186044416
+  plain = omega (arith, h .code, h .lane, h .width, h .height, h .par, h .mended, h .repainted, h .wear)
 
   pub back-read : unpackedRead (packedRead n) ≡ n
   back-read =
       ap₂ (λ (c l : ℕ). reads c l (packedRead n / 2 ^ 11 % 32) (packedRead n / 2 ^ 16 % 32) (packedRead n / 2 ^ 21 % 1024) (packedRead n / 2 ^ 31 % 64)
-      (packedRead n / 2 ^ 44 % 64)) c l
-      ∙ ap₂ (λ (w k : ℕ). reads (n .code) (n .lane) w k (packedRead n / 2 ^ 21 % 1024) (packedRead n / 2 ^ 31 % 64) (packedRead n / 2 ^ 44 % 64)) w k
-      ∙ ap₂ (λ (p m : ℕ). reads (n .code) (n .lane) (n .width) (n .height) p m (packedRead n / 2 ^ 44 % 64)) p m
-      ∙ ap (λ (v : ℕ). reads (n .code) (n .lane) (n .width) (n .height) (n .par) (n .mended) v) v
+      (packedRead n / 2 ^ 37 % 128) (packedRead n / 2 ^ 44 % 64)) c l
+      ∙ ap₂ (λ (w k : ℕ). reads (n .code) (n .lane) w k (packedRead n / 2 ^ 21 % 1024) (packedRead n / 2 ^ 31 % 64) (packedRead n / 2 ^ 37 % 128)
+      (packedRead n / 2 ^ 44 % 64)) w k
+      ∙ ap₂ (λ (p m : ℕ). reads (n .code) (n .lane) (n .width) (n .height) p m (packedRead n / 2 ^ 37 % 128) (packedRead n / 2 ^ 44 % 64)) p m
+      ∙ ap₂ (λ (d v : ℕ). reads (n .code) (n .lane) (n .width) (n .height) (n .par) (n .mended) d v) d v
     where
       c : packedRead n % 32 ≡ n .code
       c = ap (λ (x : ℕ). x % 32) plain ∙ omega (arith, h .code)
@@ -84,5 +72,31 @@ module _ (n : ReadNumbers) (h : ReadRoom n) where
       m : packedRead n / 2 ^ 31 % 64 ≡ n .mended
       m = ap (λ (x : ℕ). x / 2147483648 % 64) plain ∙ omega (arith, h .code, h .lane, h .width, h .height, h .par, h .mended)
 
+      d : packedRead n / 2 ^ 37 % 128 ≡ n .repainted
+      d =
+          ap (λ (x : ℕ). x / 137438953472 % 128) plain
+          ∙ omega (arith, h .code, h .lane, h .width, h .height, h .par, h .mended, h .repainted)
+
       v : packedRead n / 2 ^ 44 % 64 ≡ n .wear
-      v = ap (λ (x : ℕ). x / 17592186044416 % 64) plain ∙ omega (arith, h .code, h .lane, h .width, h .height, h .par, h .mended, h .wear)
+      v =
+          ap (λ (x : ℕ). x / 17592186044416 % 64) plain
+          ∙ omega (arith, h .code, h .lane, h .width, h .height, h .par, h .mended, h .repainted, h .wear)
+
+-- a repair's numbers are taken out of what a reader's would be
+pub back-repair : (n : RepairNumbers) → n .code < 32 → n .mended < 64 → n .repainted < 128 → unpackedRepair (packedRepair n) ≡ n
+back-repair n c m d = ap (λ (x : ReadNumbers). repair (x .code) (x .mended) (x .repainted)) (back-read (asRead n) room)
+  where
+    repair : ℕ → ℕ → ℕ → RepairNumbers
+    repair i j k = record { code = i; mended = j; repainted = k }
+
+    room : ReadRoom (asRead n)
+    room = record {
+      code = c;
+      lane = omega arith;
+      width = omega arith;
+      height = omega arith;
+      par = omega arith;
+      mended = m;
+      repainted = d;
+      wear = omega arith;
+    }

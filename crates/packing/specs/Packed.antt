@@ -14,22 +14,25 @@ packedAt k m code value = code % 32 + value % m * 2 ^ k
 abbrev pub packedLength : Numbers → ℕ
 packedLength a = packedAt 48 65536 (a .code) (a .value)
 
--- mended: bits 31 to 36
-abbrev pub packedMended : RepairNumbers → ℕ
-packedMended a = packedAt 31 64 (a .code) (a .mended)
-
--- a reader's numbers: code in bits 0 to 4, lane from 5, width from 11, height from 16, par from 21, mended from 31, wear from 44
+-- a reader's numbers: code in bits 0 to 4, lane from 5, width from 11, height from 16, par from 21, mended from 31, repainted from 37, wear from 44
 abbrev pub packedRead : ReadNumbers → ℕ
 packedRead n =
     n .code % 32 + n .lane % 16 * 2 ^ 5 + n .width % 32 * 2 ^ 11 + n .height % 32 * 2 ^ 16 + n .par % 1024 * 2 ^ 21
-    + n .mended % 64 * 2 ^ 31 + n .wear % 64 * 2 ^ 44
+    + n .mended % 64 * 2 ^ 31 + n .repainted % 128 * 2 ^ 37 + n .wear % 64 * 2 ^ 44
+
+-- a repair's numbers, in the places of a reader's
+abbrev pub asRead : RepairNumbers → ReadNumbers
+asRead n = record { code = n .code; lane = 0; width = 0; height = 0; par = 0; mended = n .mended; repainted = n .repainted; wear = 0 }
+
+abbrev pub packedRepair : RepairNumbers → ℕ
+packedRepair n = packedRead (asRead n)
 
 -- the numbers taken out again, as the header does
 abbrev pub unpackedLength : ℕ → Numbers
 unpackedLength r = record { code = r % 32; value = r / 2 ^ 48 % 65536 }
 
-abbrev pub unpackedMended : ℕ → RepairNumbers
-unpackedMended r = record { code = r % 32; mended = r / 2 ^ 31 % 64 }
+abbrev pub unpackedRepair : ℕ → RepairNumbers
+unpackedRepair r = record { code = r % 32; mended = r / 2 ^ 31 % 64; repainted = r / 2 ^ 37 % 128 }
 
 abbrev pub unpackedRead : ℕ → ReadNumbers
 unpackedRead r = record {
@@ -39,6 +42,7 @@ unpackedRead r = record {
   height = r / 2 ^ 16 % 32;
   par = r / 2 ^ 21 % 1024;
   mended = r / 2 ^ 31 % 64;
+  repainted = r / 2 ^ 37 % 128;
   wear = r / 2 ^ 44 % 64;
 }
 

@@ -4,7 +4,7 @@ ghost use Rattle.code.specs.Word.{writtenNumbers, testedNumbers};
 ghost use Rattle.code.specs.Repair.{repairedNumbers};
 ghost use Rattle.record.specs.Reading.{recordNumbers};
 ghost use Rattle.strip.specs.Reading.{stripNumbers};
-ghost use Rattle.packing.specs.Packed.{packedAt, packedLength, packedMended, packedRead};
+ghost use Rattle.packing.specs.Packed.{packedAt, packedLength, packedRead, packedRepair};
 use code::repair::Repaired;
 use code::word::Tested;
 use code::word::Written;
@@ -16,13 +16,6 @@ fn pack_length(code: u8, value: usize) -> u64
     ensures { λ r. ⌜ r ≡ packedAt 48 65536 code value ⌝ }
 {
     (code % 32) as u64 + ((value % 65536) as u64) * 281474976710656
-}
-
-// A code in the lowest five bits, and the mended count from bit 31 on.
-pub fn pack_mended(code: u8, value: usize) -> u64
-    ensures { λ r. ⌜ r ≡ packedAt 31 64 code value ⌝ }
-{
-    (code % 32) as u64 + ((value % 64) as u64) * 2147483648
 }
 
 pub fn pack_written(a: Written) -> u64
@@ -44,16 +37,7 @@ pub fn pack_tested(a: Tested) -> u64
     }
 }
 
-pub fn pack_repaired(a: Repaired) -> u64
-    ensures { λ r. ⌜ r ≡ packedMended (repairedNumbers a) ⌝ }
-{
-    match a {
-        Repaired::Mended(e) => pack_mended(0, e),
-        Repaired::Refused(c) => pack_mended(c, 0),
-    }
-}
-
-// The numbers of a reader, each at its place.
+// The numbers of a reader or of a repair, each at its place.
 fn pack_numbers(
     code: u8,
     lane: usize,
@@ -61,9 +45,10 @@ fn pack_numbers(
     height: usize,
     par: usize,
     mended: usize,
+    repainted: usize,
     wear: usize,
 ) -> u64
-    ensures { λ r. ⌜ r ≡ packedRead record { code = code; lane = lane; width = width; height = height; par = par; mended = mended; wear = wear } ⌝ }
+    ensures { λ r. ⌜ r ≡ packedRead record { code = code; lane = lane; width = width; height = height; par = par; mended = mended; repainted = repainted; wear = wear } ⌝ }
 {
     (code % 32) as u64
         + ((lane % 16) as u64) * 32
@@ -71,15 +56,25 @@ fn pack_numbers(
         + ((height % 32) as u64) * 65536
         + ((par % 1024) as u64) * 2097152
         + ((mended % 64) as u64) * 2147483648
+        + ((repainted % 128) as u64) * 137438953472
         + ((wear % 64) as u64) * 17592186044416
+}
+
+pub fn pack_repaired(a: Repaired) -> u64
+    ensures { λ r. ⌜ r ≡ packedRepair (repairedNumbers a) ⌝ }
+{
+    match a {
+        Repaired::Mended { mended, repainted } => pack_numbers(0, 0, 0, 0, 0, mended, repainted, 0),
+        Repaired::Refused(c) => pack_numbers(c, 0, 0, 0, 0, 0, 0, 0),
+    }
 }
 
 pub fn pack_level(a: RecordRead) -> u64
     ensures { λ r. ⌜ r ≡ packedRead (recordNumbers a) ⌝ }
 {
     match a {
-        RecordRead::Level { width, height, par } => pack_numbers(0, 0, width, height, par, 0, 0),
-        RecordRead::Refused(c) => pack_numbers(c, 0, 0, 0, 0, 0, 0),
+        RecordRead::Level { width, height, par } => pack_numbers(0, 0, width, height, par, 0, 0, 0),
+        RecordRead::Refused(c) => pack_numbers(c, 0, 0, 0, 0, 0, 0, 0),
     }
 }
 
@@ -92,8 +87,9 @@ pub fn pack_reading(a: Reading) -> u64
             height,
             par,
             mended,
+            repainted,
             wear,
-        } => pack_numbers(0, 0, width, height, par, mended, wear),
-        Reading::Refused { code, lane } => pack_numbers(code, lane, 0, 0, 0, 0, 0),
+        } => pack_numbers(0, 0, width, height, par, mended, repainted, wear),
+        Reading::Refused { code, lane } => pack_numbers(code, lane, 0, 0, 0, 0, 0, 0),
     }
 }

@@ -16,6 +16,7 @@ fn show(a: Reading) {
             height,
             par,
             mended,
+            repainted: _,
             wear,
         } => {
             put(b"level ", width as u64);

@@ -94,7 +94,7 @@ record-read-back l out out' old new a b A z room B =
 
 -- the numbers of an answer are its code and what the level returned says; of two refusals, the code
 made : ℕ → Level → ReadNumbers
-made c l = record { code = c; lane = 0; width = l .width; height = l .height; par = l .par; mended = 0; wear = 0 }
+made c l = record { code = c; lane = 0; width = l .width; height = l .height; par = l .par; mended = 0; repainted = 0; wear = 0 }
 
 numbers-of : (a : RecordRead) (tiles : List ℕ) → recordNumbers a ≡ made (recordNumbers a .code) (returned (recordNumbers a) tiles)
 unfolding made

@@ -12,7 +12,7 @@ use Rattle.record.specs.declared.read.RecordRead.the-variants as read
 
 -- the numbers of an answer: a record has no lanes, and nothing in it is mended
 abbrev pub recordNumbers : RecordRead → ReadNumbers
-recordNumbers (read.Level w h p) = record { code = 0; lane = 0; width = w; height = h; par = p; mended = 0; wear = 0 }
+recordNumbers (read.Level w h p) = record { code = 0; lane = 0; width = w; height = h; par = p; mended = 0; repainted = 0; wear = 0 }
 recordNumbers (read.Refused c) = refusedAt c 0
 
 -- FORMAT 8.11, 8.14, 10.6: bs is the record of the level returned; tile bytes past the level keep their value

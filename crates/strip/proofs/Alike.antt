@@ -9,16 +9,16 @@ use native.Mathlib.Omega.{arith}
 use lib.Dec.{T, eqb}
 use lib.ListN.{length, getD, take, drop, take-append-drop}
 use Rattle.account.specs.Lanes.{lane}
-use Rattle.account.specs.Reach.{differsAt, differing, isMarked, Reach, SameRead}
-use Rattle.account.proofs.Cells.{count-none, not-differs}
+use Rattle.account.specs.Reach.{differing, repainted, isMarked, isRead, Reach, SameRead}
+use Rattle.account.proofs.Cells.{count-none, none-differ}
 use Rattle.account.proofs.Lanes.{length-lane, getD-lane, getD-past}
 use Rattle.gf256.specs.Gf256.{gf256}
 use Rattle.gf256.proofs.Field256.{field256}
 use Rattle.rules.specs.Refusal.{First, Hold}
 use Rattle.rules.proofs.Laws.{first-fixes, all-hold, hold-both, parts, before, after, first-alike, asked-alike, Alike, at-most, either}
 use Rattle.level.specs.Level.{Level}
-use Rattle.level.specs.Strip.{columns, Legal, IsStrip, StripReach, Reached, Lowest, Mendable, mendedOf, wearOf}
-use Rattle.level.specs.Reading.{ReadNumbers, returned, entering, mending, judging, OfMended}
+use Rattle.level.specs.Strip.{columns, Legal, IsStrip, StripReach, Reached, Lowest, Mendable, mendedOf, repaintedOf, wearOf}
+use Rattle.level.specs.Reading.{ReadNumbers, refusedAt, butRepainted, returned, entering, mending, judging, OfMended}
 use Rattle.rules.proofs.Numbers.{lt-or-ge}
 use Rattle.level.proofs.Strips.{strip-size, same-strip}
 use Rattle.level.proofs.Unread.{same-reached, same-mends, same-mendable, same-mended, turned}
@@ -34,7 +34,10 @@ pub written-size : (R : ℕ) → 0 < R → (l : Level) (new : List ℕ) → IsSt
 written-size R some l new st = strip-size gf256 field256 R some l (take (stripLength R l) new) st
 
 pub nothing-differs : (marks s : List ℕ) → differing marks s s ≡ 0
-nothing-differs marks s = count-none (differsAt marks s s) (length s) (λ p l. not-differs marks s s p refl)
+nothing-differs marks s = none-differ (isRead marks) s (length s)
+
+pub nothing-repainted : (marks s : List ℕ) → repainted marks s s ≡ 0
+nothing-repainted marks s = none-differ (isMarked marks) s (length s)
 
 pub at-home : (R : ℕ) → 0 < R → (marks s : List ℕ) → ((p : ℕ) → getD marks p 0 ≡ 0) → StripReach R marks s s
 at-home R some marks s none = record { same-length = refl; each = λ j h. each j }
@@ -53,16 +56,21 @@ at-home R some marks s none = record { same-length = refl; each = λ j h. each j
 
 -- ---- the numbers of an answer
 
-abbrev numbers : ℕ → ℕ → ℕ → ℕ → ℕ → ℕ → ℕ → ReadNumbers
-numbers c l w h p m v = record { code = c; lane = l; width = w; height = h; par = p; mended = m; wear = v }
+abbrev numbers : ℕ → ℕ → ℕ → ℕ → ℕ → ℕ → ℕ → ℕ → ReadNumbers
+numbers c l w h p m d v = record { code = c; lane = l; width = w; height = h; par = p; mended = m; repainted = d; wear = v }
 
+-- all but repainted
 same-numbers : (x y : ReadNumbers) → x .code ≡ y .code → x .lane ≡ y .lane → x .width ≡ y .width → x .height ≡ y .height → x .par ≡ y .par
-    → x .mended ≡ y .mended → x .wear ≡ y .wear → x ≡ y
+    → x .mended ≡ y .mended → x .wear ≡ y .wear → butRepainted x ≡ butRepainted y
 same-numbers x y c l w h p m v =
-    ap₂ (λ (i j : ℕ). numbers i j (x .width) (x .height) (x .par) (x .mended) (x .wear)) c l
-    ∙ ap₂ (λ (i j : ℕ). numbers (y .code) (y .lane) i j (x .par) (x .mended) (x .wear)) w h
-    ∙ ap₂ (λ (i j : ℕ). numbers (y .code) (y .lane) (y .width) (y .height) i j (x .wear)) p m
-    ∙ ap (λ (i : ℕ). numbers (y .code) (y .lane) (y .width) (y .height) (y .par) (y .mended) i) v
+    ap₂ (λ (i j : ℕ). numbers i j (x .width) (x .height) (x .par) (x .mended) 0 (x .wear)) c l
+    ∙ ap₂ (λ (i j : ℕ). numbers (y .code) (y .lane) i j (x .par) (x .mended) 0 (x .wear)) w h
+    ∙ ap₂ (λ (i j : ℕ). numbers (y .code) (y .lane) (y .width) (y .height) i j 0 (x .wear)) p m
+    ∙ ap (λ (i : ℕ). numbers (y .code) (y .lane) (y .width) (y .height) (y .par) (y .mended) 0 i) v
+
+-- and repainted too
+all-numbers : (x y : ReadNumbers) → butRepainted x ≡ butRepainted y → x .repainted ≡ y .repainted → x ≡ y
+all-numbers x y e d = ap₂ (λ (n : ReadNumbers) (i : ℕ). numbers (n .code) (n .lane) (n .width) (n .height) (n .par) (n .mended) i (n .wear)) e d
 
 -- ---- two readings
 
@@ -203,7 +211,7 @@ module _ (R : ℕ) (some : 0 < R) (short : columns R 364 + 5 ≤ 255) (r s marks
     highs : stripNumbers a .height ≡ stripNumbers b .height
     highs = ap (λ (l : Level). l .height) level
 
-    read-numbers : stripNumbers a ≡ stripNumbers b
+    read-numbers : butRepainted (stripNumbers a) ≡ butRepainted (stripNumbers b)
     read-numbers =
         same-numbers (stripNumbers a) (stripNumbers b) codes lanes wides highs (ap (λ (l : Level). l .par) level) mendeds
         (za .wear-is ∙ ap₂ (λ (m n : ℕ). wearOf m n) mendeds (same .same-length) ∙ sym (zb .wear-is))
@@ -218,12 +226,30 @@ module _ (R : ℕ) (some : 0 < R) (short : columns R 364 + 5 ≤ 255) (r s marks
         area : stripNumbers a .width * stripNumbers a .height ≡ stripNumbers b .width * stripNumbers b .height
         area = ap₂ (λ (x y : ℕ). x * y) wides highs
 
-  pub read-alike : (t1 ≡ t2) × (stripNumbers a ≡ stripNumbers b)
+  pub read-alike : (t1 ≡ t2) × (butRepainted (stripNumbers a) ≡ butRepainted (stripNumbers b))
   read-alike = (
     either (t1 ≡ t2) (stripNumbers a .code) read-tiles (λ n. A .tiles-kept n ∙ sym (B .tiles-kept (λ z. n (codes ∙ z)))),
-    either (stripNumbers a ≡ stripNumbers b) (stripNumbers a .code) read-numbers (λ n.
-        let x = zeros a n in
-        let y = zeros b (λ z. n (codes ∙ z)) in
-        same-numbers (stripNumbers a) (stripNumbers b) codes lanes (x .0 ∙ sym (y .0)) (x .1 ∙ sym (y .1)) (x .2 ∙ sym (y .2)) (x .3 ∙ sym (y .3))
-        (x .4 ∙ sym (y .4))),
+    either (butRepainted (stripNumbers a) ≡ butRepainted (stripNumbers b)) (stripNumbers a .code) read-numbers (λ n.
+        ap butRepainted (zeros a n ∙ ap₂ (λ (c l : ℕ). refusedAt c l) codes lanes ∙ sym (zeros b (λ z. n (codes ∙ z))))),
   )
+
+-- two readings of one strip
+module _ (R : ℕ) (some : 0 < R) (short : columns R 364 + 5 ≤ 255) (s marks tiles t1 t2 u u' v v' : List ℕ) (eu : length u ≡ length v) (a b : Reading)
+    (A : StripReadsAs R s marks tiles t1 u u' a) (B : StripReadsAs R s marks tiles t2 v v' b) where
+  itself : SameRead marks s s
+  itself = record { same-length = refl; read = λ p e. refl }
+
+  one-code : stripNumbers a .code ≡ stripNumbers b .code
+  one-code = codes R some short s s marks tiles t1 t2 u u' v v' itself eu a b A B
+
+  -- what is repainted is counted against one strip
+  one-repainted : stripNumbers a .repainted ≡ stripNumbers b .repainted
+  one-repainted =
+      either (stripNumbers a .repainted ≡ stripNumbers b .repainted) (stripNumbers a .code)
+      (λ z. za R some short s s marks tiles t1 t2 u u' v v' itself eu a b A B z .repainted-is ∙ ap (repaintedOf R marks s) (strips R some short s s marks tiles t1 t2 u u' v v' itself eu a b A B z) ∙ sym (zb R some short s s marks tiles t1 t2 u u' v v' itself eu a b A B z .repainted-is))
+      (λ n. ap (λ (x : ReadNumbers). x .repainted) (zeros a n) ∙ sym (ap (λ (x : ReadNumbers). x .repainted) (zeros b (λ z. n (one-code ∙ z)))))
+
+  pub read-once : (t1 ≡ t2) × (stripNumbers a ≡ stripNumbers b)
+  read-once =
+      let q = read-alike R some short s s marks tiles t1 t2 u u' v v' itself eu a b A B in
+      (q .0, all-numbers (stripNumbers a) (stripNumbers b) (q .1) one-repainted)

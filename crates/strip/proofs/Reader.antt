@@ -10,7 +10,7 @@ use Rattle.gf256.proofs.Field256.{field256}
 use Rattle.rules.specs.Refusal.{First, Hold, asked}
 use Rattle.rules.proofs.Laws.{before, after, stops, numbered, none-first}
 use Rattle.level.specs.Level.{Level}
-use Rattle.level.specs.Strip.{columns, Reached, Mends, Lowest, mendedOf, wearOf}
+use Rattle.level.specs.Strip.{columns, Reached, Mends, Lowest, mendedOf, repaintedOf, wearOf}
 use Rattle.level.specs.Reading.{refusedAt, returned, entering, mending, judging, dataOf, levelOf}
 use Rattle.level.proofs.Strips.{mendable, reached-mends}
 use Rattle.level.proofs.Mended.{level-reached, passing, found, none-reached}
@@ -24,10 +24,10 @@ use Rattle.strip.specs.declared.read.Reading.the-variants as reading
 use Rattle.strip.specs.Reading.{stripNumbers, LevelRead, StripReadsAs, FinishedAs}
 
 module _ (R : ℕ) where
-  -- ---- with what was mended
+  -- ---- with what was mended and repainted
 
-  module _ (bs tiles tiles' : List ℕ) (N e : ℕ) (j : Judged) (A : AcceptedAs R bs tiles tiles' j) where
-    pub finish-refused : (j .code ≡ 0 → ⊥) → FinishedAs R bs N e tiles tiles' (refusedAt (j .code) 0)
+  module _ (bs tiles tiles' : List ℕ) (N e d : ℕ) (j : Judged) (A : AcceptedAs R bs tiles tiles' j) where
+    pub finish-refused : (j .code ≡ 0 → ⊥) → FinishedAs R bs N e d tiles tiles' (refusedAt (j .code) 0)
     finish-refused n = record {
       first = A .first;
       lane = refl;
@@ -35,13 +35,14 @@ module _ (R : ℕ) where
       high = λ z. absurd (n z);
       par = λ z. absurd (n z);
       mended = λ z. absurd (n z);
+      repainted = λ z. absurd (n z);
       wear = λ z. absurd (n z);
       tiles-are = λ z. absurd (n z);
       kept = A .kept;
     }
 
-    pub finish-read : (v : ℕ) → j .code ≡ 0 → v ≡ wearOf e N → FinishedAs R bs N e tiles tiles'
-        (stripNumbers (reading.Read (j .width) (j .height) (j .par) e v))
+    pub finish-read : (v : ℕ) → j .code ≡ 0 → v ≡ wearOf e N → FinishedAs R bs N e d tiles tiles'
+        (stripNumbers (reading.Read (j .width) (j .height) (j .par) e d v))
     finish-read v z ev = record {
       first = subst (First (asked (λ ask. ask bs) (judging R))) z (A .first);
       lane = refl;
@@ -49,6 +50,7 @@ module _ (R : ℕ) where
       high = λ _. A .height z;
       par = λ _. A .par z;
       mended = λ _. refl;
+      repainted = λ _. refl;
       wear = λ _. ev;
       tiles-are = λ _. A .tiles z;
       kept = λ n. absurd (n refl);
@@ -86,8 +88,8 @@ module _ (R : ℕ) where
       }
 
       -- all are mended: 7 to 10, or the level
-      module _ (t : List ℕ) (M : Mends gf256 R marks s t) (e : ℕ) (counted : e ≡ mendedOf R marks s t)
-          (tiles' : List ℕ) (a : Reading) (F : FinishedAs R (dataOf R t) (length s) e tiles tiles' (stripNumbers a)) where
+      module _ (t : List ℕ) (M : Mends gf256 R marks s t) (e d : ℕ) (counted : e ≡ mendedOf R marks s t)
+          (painted : d ≡ repaintedOf R marks s t) (tiles' : List ℕ) (a : Reading) (F : FinishedAs R (dataOf R t) (length s) e d tiles tiles' (stripNumbers a)) where
         full : length s ≡ R * (h .0 .k + 5)
         full = h .0 .cells
 
@@ -102,6 +104,7 @@ module _ (R : ℕ) where
               (level-reached gf256 field256 (omega arith) R some marks s t (h .0 .k) full shorter M good);
           only = λ l u q. sym (passing gf256 field256 (omega arith) R some marks s t (h .0 .k) full shorter M l u q .level) ∙ same;
           mended-is = F .mended z ∙ counted;
+          repainted-is = F .repainted z ∙ painted;
           wear-is = F .wear z ∙ ap (λ (x : ℕ). wearOf x (length s)) (sym (F .mended z));
           rest =
               tiles-past (dataOf R t) tiles tiles' (stripNumbers a .width) (stripNumbers a .height) (stripNumbers a .par) (F .wide z) (F .high z) (F .par z)
@@ -156,7 +159,6 @@ module _ (s cells bytes : List ℕ) (count : ℕ) where
 -- ---- the numbers of an answer
 
 -- with a refusal all but the code and the lane is zero
-pub zeros : (x : Reading) → stripNumbers x .code ≢ 0
-    → (stripNumbers x .width ≡ 0) × (stripNumbers x .height ≡ 0) × (stripNumbers x .par ≡ 0) × (stripNumbers x .mended ≡ 0) × (stripNumbers x .wear ≡ 0)
-zeros (reading.Read w h p e v) n = absurd (n refl)
-zeros (reading.Refused c j) n = (refl, refl, refl, refl, refl)
+pub zeros : (x : Reading) → stripNumbers x .code ≢ 0 → stripNumbers x ≡ refusedAt (stripNumbers x .code) (stripNumbers x .lane)
+zeros (reading.Read w h p e d v) n = absurd (n refl)
+zeros (reading.Refused c j) n = refl

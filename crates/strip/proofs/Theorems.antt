@@ -1,11 +1,11 @@
 -- What is promised of strips, over the number of lanes R, from two on. The entries have four.
-use mathlib.Core.Path.{_≡_, refl, sym, ap, ap₂, _∙_}
+use mathlib.Core.Path.{_≡_, sym, ap, ap₂, _∙_, subst}
 use mathlib.Core.Logic.{_≢_}
 use mathlib.Core.List.{List, _++_}
 use Prim.Native.Nat.{ℕ, _+_, _*_, _≤_, _<_}
 use native.Mathlib.Omega.{arith}
 use lib.ListN.{length, getD, take, take-append-drop}
-use Rattle.account.specs.Reach.{differing, GoodMarks, SameRead}
+use Rattle.account.specs.Reach.{differing, repainted, GoodMarks, SameRead}
 use Rattle.gf256.specs.Gf256.{gf256}
 use Rattle.gf256.proofs.Field256.{field256}
 use Rattle.rules.specs.Refusal.{Hold}
@@ -15,8 +15,8 @@ use Rattle.code.specs.declared.word.Written.{Written}
 use Rattle.code.proofs.Answers.{written-zero}
 use Rattle.level.specs.Level.{Level, IsLevel}
 use Rattle.level.specs.Record.{recordLength}
-use Rattle.level.specs.Strip.{columns, Legal, StripReach, Reached, wrongIn, markedIn, mendedOf}
-use Rattle.level.specs.Reading.{returned, entering, mending}
+use Rattle.level.specs.Strip.{columns, Legal, StripReach, Reached, wrongIn, markedIn, mendedOf, repaintedOf}
+use Rattle.level.specs.Reading.{ReadNumbers, butRepainted, returned, entering, mending}
 use Rattle.level.specs.Writing.{writingLevel}
 use Rattle.level.proofs.Dealing.{columns-more, lanes-short}
 use Rattle.level.proofs.Strips.{same-strip}
@@ -59,7 +59,7 @@ module _ (R : ℕ) (two : 2 ≤ R) where
         (take (stripLength R l) new)
         (A .level z .strip) j (h .1 .0) (W .strip zb) (alike.written-size R some l new (W .strip zb) ∙ e) hj six (A .level z .reached)
 
-  -- FORMAT 7.15, 7.16: wear is at most 33, and mended at most twice the lanes.
+  -- FORMAT 7.15, 7.16, 7.19: wear is at most 33, mended at most twice the lanes, and repainted five times.
   module _ (s marks tiles tiles' scratch scratch' : List ℕ) (a : Reading) (A : StripReadsAs R s marks tiles tiles' scratch scratch' a) where
     entered-when-read : stripNumbers a .code ≡ 0 → Hold (entering R s marks (length tiles) (length scratch))
     entered-when-read z =
@@ -70,25 +70,30 @@ module _ (R : ℕ) (two : 2 ≤ R) where
     mended-most =
         either (stripNumbers a .mended ≤ 2 * R) (stripNumbers a .code)
         (λ z. rw (A .level z .mended-is) (levels.mended-most R some marks s (A .level z .strip) (A .level z .reached .reach)))
-        (λ n. omega (arith, zeros a n .3))
+        (λ n. omega (arith, ap (λ (x : ReadNumbers). x .mended) (zeros a n)))
+
+    pub repainted-most : stripNumbers a .repainted ≤ 5 * R
+    repainted-most =
+        either (stripNumbers a .repainted ≤ 5 * R) (stripNumbers a .code)
+        (λ z. rw (A .level z .repainted-is) (levels.repainted-most R some marks s (A .level z .strip) (A .level z .reached .reach)))
+        (λ n. omega (arith, ap (λ (x : ReadNumbers). x .repainted) (zeros a n)))
 
     pub wear-most : stripNumbers a .wear ≤ 33
     wear-most =
         either (stripNumbers a .wear ≤ 33) (stripNumbers a .code)
         (λ z. rw (A .level z .wear-is, A .level z .mended-is)
         (levels.wear-most R some marks s (A .level z .strip) (entered-when-read z .0) (A .level z .reached .reach)))
-        (λ n. omega (arith, zeros a n .4))
+        (λ n. omega (arith, ap (λ (x : ReadNumbers). x .wear) (zeros a n)))
 
-  -- FORMAT 10.8, 10.9, 11.11: the reader's promise fixes every number and every tile byte; neither the scratch's old bytes nor the bytes under
-  -- marks have an influence.
+  -- FORMAT 10.8, 10.9: the reader's promise fixes every number and every tile byte; the scratch's old bytes have no influence.
   pub strip-reads-fixed : (s marks tiles t1 t2 u u' v v' : List ℕ) (a b : Reading) → length u ≡ length v → StripReadsAs R s marks tiles t1 u u' a
       → StripReadsAs R s marks tiles t2 v v' b → (t1 ≡ t2) × (stripNumbers a ≡ stripNumbers b)
-  strip-reads-fixed s marks tiles t1 t2 u u' v v' a b eu A B =
-      alike.read-alike R some short s s marks tiles t1 t2 u u' v v' (record { same-length = refl; read = λ p e. refl }) eu a b A B
+  strip-reads-fixed s marks tiles t1 t2 u u' v v' a b eu A B = alike.read-once R some short s marks tiles t1 t2 u u' v v' eu a b A B
 
+  -- FORMAT 11.11: the bytes under marks influence repainted, and no other number and no tile.
   pub under-marks : (r s marks tiles t1 t2 u u' v v' : List ℕ) (a b : Reading) → SameRead marks r s → length u ≡ length v
       → StripReadsAs R r marks tiles t1 u u' a
-      → StripReadsAs R s marks tiles t2 v v' b → (t1 ≡ t2) × (stripNumbers a ≡ stripNumbers b)
+      → StripReadsAs R s marks tiles t2 v v' b → (t1 ≡ t2) × (butRepainted (stripNumbers a) ≡ butRepainted (stripNumbers b))
   under-marks r s marks tiles t1 t2 u u' v v' a b same eu A B = alike.read-alike R some short r s marks tiles t1 t2 u u' v v' same eu a b A B
 
   -- ---- writing
@@ -126,7 +131,7 @@ module _ (R : ℕ) (two : 2 ≤ R) where
   -- ---- read back
 
   -- FORMAT 11.10: a strip that was written, with damage within reach in every lane, gives its level; mended is the number of unmarked cells that
-  -- changed.
+  -- changed, and repainted that of the marked ones.
   module _ (l : Level) (old new : List ℕ) (b : Written) (W : StripWritesAs R l old new b) (zb : writtenNumbers b .code ≡ 0)
       (s marks tiles tiles' scratch scratch' : List ℕ) (a : Reading) (A : StripReadsAs R s marks tiles tiles' scratch scratch' a)
       (matched : length marks ≡ length s) (good : GoodMarks marks) (room : 961 ≤ length tiles) (room' : 384 ≤ length scratch)
@@ -167,23 +172,74 @@ module _ (R : ℕ) (two : 2 ≤ R) where
         (A .level z .strip) (take (stripLength R l) new) (A .level z .reached) at
 
     pub damaged-read-back : (stripNumbers a .code ≡ 0) × (returned (stripNumbers a) tiles' ≡ l) ×
-        (stripNumbers a .mended ≡ differing marks s (take (stripLength R l) new))
+        (stripNumbers a .mended ≡ differing marks s (take (stripLength R l) new)) × (stripNumbers a .repainted ≡ repainted marks s (take (stripLength R l) new))
     damaged-read-back = (
       z,
       sym (A .level z .only l (take (stripLength R l) new) at),
       A .level z .mended-is ∙ ap (mendedOf R marks s) strips
           ∙ levels.mended-differing R some marks s (take (stripLength R l) new) (columns R (recordLength (l .width) (l .height)) + 5) full matched
           (reach .same-length),
+      A .level z .repainted-is ∙ ap (repaintedOf R marks s) strips
+          ∙ levels.repainted-differing R some marks s (take (stripLength R l) new) (columns R (recordLength (l .width) (l .height)) + 5) full matched
+          (reach .same-length),
     )
 
-  -- FORMAT 11.9: reading what was written, with no marks, gives the level back; nothing is mended.
+  -- FORMAT 11.9: reading what was written, with no marks, gives the level back; nothing is mended or repainted.
   pub strip-read-back : (l : Level) (old new : List ℕ) (b : Written) → StripWritesAs R l old new b → writtenNumbers b .code ≡ 0
       → (marks tiles tiles' scratch scratch' : List ℕ) (a : Reading) → StripReadsAs R (take (stripLength R l) new) marks tiles tiles' scratch scratch' a
       → length marks ≡ stripLength R l → ((p : ℕ) → getD marks p 0 ≡ 0) → 961 ≤ length tiles → 384 ≤ length scratch
-      → (stripNumbers a .code ≡ 0) × (returned (stripNumbers a) tiles' ≡ l) × (stripNumbers a .mended ≡ 0)
+      → (stripNumbers a .code ≡ 0) × (returned (stripNumbers a) tiles' ≡ l) × (stripNumbers a .mended ≡ 0) × (stripNumbers a .repainted ≡ 0)
   strip-read-back l old new b W zb marks tiles tiles' scratch scratch' a A em none room room' =
       let s = take (stripLength R l) new in
       let e = alike.written-size R some l new (W .strip zb) in
       let d = damaged-read-back l old new b W zb s marks tiles tiles' scratch scratch' a A (em ∙ sym e) (λ p k. omega (arith, none p)) room room'
       (alike.at-home R some marks s none) in
-      (d .0, d .1, d .2 ∙ alike.nothing-differs marks s)
+      (d .0, d .1, d .2 ∙ alike.nothing-differs marks s, d .3 ∙ alike.nothing-repainted marks s)
+
+  -- ---- drawn again
+
+  -- FORMAT 11.14: for whoever draws the mended strip. What the strip writer writes for the level returned, to a buffer that is long enough, has the
+  -- length of the strip read, and is the strip within reach; where it differs from the strip read, unmarked cells are mended in number, and marked
+  -- ones repainted.
+  module _ (s marks tiles tiles' scratch scratch' : List ℕ) (a : Reading) (A : StripReadsAs R s marks tiles tiles' scratch scratch' a)
+      (z : stripNumbers a .code ≡ 0) (old new : List ℕ) (b : Written) (W : StripWritesAs R (returned (stripNumbers a) tiles') old new b)
+      (room : 384 ≤ length old) where
+    abbrev level : Level
+    level = returned (stripNumbers a) tiles'
+
+    abbrev drawn : List ℕ
+    drawn = take (stripLength R level) new
+
+    read : LevelRead gf256 R s marks tiles tiles' (stripNumbers a)
+    read = A .level z
+
+    lent : Hold (entering R s marks (length tiles) (length scratch))
+    lent = entered-when-read s marks tiles tiles' scratch scratch' a A z
+
+    zw : writtenNumbers b .code ≡ 0
+    zw = level-strip-written level old new b (read .reached .is-level) room W
+
+    same : read .strip ≡ drawn
+    same =
+        levels.one-strip gf256 field256 R some level (read .strip) drawn (read .reached .is-level)
+        (omega (arith, short, columns-more R some (recordLength (level .width) (level .height)) 364 (record-fits level (read .reached .is-level) .1)))
+        (read .reached .is-strip) (W .strip zw)
+
+    as-long : stripLength R level ≡ length s
+    as-long = sym (alike.written-size R some level new (W .strip zw)) ∙ ap length (sym same) ∙ read .reached .reach .same-length
+
+    pub redrawn : (writtenNumbers b .code ≡ 0) × (writtenNumbers b .value ≡ length s) × Reached gf256 R marks s level (take (length s) new)
+        × (stripNumbers a .mended ≡ differing marks s (take (length s) new)) × (stripNumbers a .repainted ≡ repainted marks s (take (length s) new))
+    redrawn = (
+      zw,
+      W .value zw ∙ as-long,
+      subst (Reached gf256 R marks s level) front (read .reached),
+      read .mended-is ∙ levels.mended-differing R some marks s (read .strip) (lent .0 .k + 5) (lent .0 .cells) (lent .1 .0) (read .reached .reach .same-length)
+          ∙ ap (differing marks s) front,
+      read .repainted-is ∙ levels.repainted-differing R some marks s (read .strip) (lent .0 .k + 5) (lent .0 .cells) (lent .1 .0)
+          (read .reached .reach .same-length)
+          ∙ ap (repainted marks s) front,
+    )
+      where
+        front : read .strip ≡ take (length s) new
+        front = same ∙ ap (λ (n : ℕ). take n new) as-long

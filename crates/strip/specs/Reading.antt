@@ -8,7 +8,7 @@ use Rattle.gf256.specs.Gf256.{gf256}
 use Rattle.rules.specs.Refusal.{First, Hold, asked}
 use Rattle.level.specs.Level.{Level}
 use Rattle.level.specs.Record.{fieldAt}
-use Rattle.level.specs.Strip.{Reached, Lowest, mendedOf, wearOf}
+use Rattle.level.specs.Strip.{Reached, Lowest, mendedOf, repaintedOf, wearOf}
 use Rattle.level.specs.Reading.{ReadNumbers, refusedAt, returned, entering, mending, judging, tilesOf}
 use Rattle.strip.specs.declared.read.Reading.{Reading}
 use Rattle.strip.specs.declared.read.Reading.the-variants as reading
@@ -17,16 +17,17 @@ use Rattle.fields.specs.declared.judged.Judged.{Judged}
 
 -- the numbers of an answer
 abbrev pub stripNumbers : Reading → ReadNumbers
-stripNumbers (reading.Read w h p e v) = record { code = 0; lane = 0; width = w; height = h; par = p; mended = e; wear = v }
+stripNumbers (reading.Read w h p e d v) = record { code = 0; lane = 0; width = w; height = h; par = p; mended = e; repainted = d; wear = v }
 stripNumbers (reading.Refused c j) = refusedAt c j
 
--- FORMAT 11.4 to 11.7, 10.6: the level returned has a strip within reach, and no other level has. Mended counts against that strip; tiles past
--- the level keep their value.
+-- FORMAT 11.4 to 11.7, 11.13, 10.6: the level returned has a strip within reach, and no other level has. Mended and repainted count against that
+-- strip; tiles past the level keep their value.
 pub record LevelRead (O : Ops) (R : ℕ) (s marks tiles tiles' : List ℕ) (n : ReadNumbers) : Type 0 where
   pub strip : List ℕ
   pub reached : Reached O R marks s (returned n tiles') strip
   pub only : (l : Level) (t : List ℕ) → Reached O R marks s l t → l ≡ returned n tiles'
   pub mended-is : n .mended ≡ mendedOf R marks s strip
+  pub repainted-is : n .repainted ≡ repaintedOf R marks s strip
   pub wear-is : n .wear ≡ wearOf (n .mended) (length s)
   pub rest : drop (n .width * n .height) tiles' ≡ drop (n .width * n .height) tiles
 
@@ -45,17 +46,18 @@ pub record StripReadsAs (R : ℕ) (s marks tiles tiles' scratch scratch' : List 
 -- ---- parts
 
 -- the record bs of a strip of N cells, judged and unpacked
-pub record FinishedAs (R : ℕ) (bs : List ℕ) (N e : ℕ) (tiles tiles' : List ℕ) (n : ReadNumbers) : Type 0 where
+pub record FinishedAs (R : ℕ) (bs : List ℕ) (N e d : ℕ) (tiles tiles' : List ℕ) (n : ReadNumbers) : Type 0 where
   pub first : First (asked (λ ask. ask bs) (judging R)) (n .code)
   pub lane : n .lane ≡ 0
   pub wide : n .code ≡ 0 → n .width ≡ fieldAt bs 4 5
   pub high : n .code ≡ 0 → n .height ≡ fieldAt bs 9 5
   pub par : n .code ≡ 0 → n .par ≡ fieldAt bs 14 10
   pub mended : n .code ≡ 0 → n .mended ≡ e
+  pub repainted : n .code ≡ 0 → n .repainted ≡ d
   pub wear : n .code ≡ 0 → n .wear ≡ wearOf e N
   pub tiles-are : n .code ≡ 0 → tiles' ≡ tilesOf bs ++ drop (n .width * n .height) tiles
   pub kept : (n .code ≡ 0 → ⊥) → tiles' ≡ tiles
 
 -- the answer n for a record that was judged as j is the one for every such record
-abbrev pub FinishesAs : ℕ → Judged → ℕ → ℕ → ReadNumbers → Type 0
-FinishesAs R j N e n = (bs tiles tiles' : List ℕ) → AcceptedAs R bs tiles tiles' j → FinishedAs R bs N e tiles tiles' n
+abbrev pub FinishesAs : ℕ → Judged → ℕ → ℕ → ℕ → ReadNumbers → Type 0
+FinishesAs R j N e d n = (bs tiles tiles' : List ℕ) → AcceptedAs R bs tiles tiles' j → FinishedAs R bs N e d tiles tiles' n

@@ -17,13 +17,14 @@ const LANES: usize = 4;
 
 const CHECKS: usize = 20;
 
-// What reading answers: the level's numbers with what was mended, or a refusal's number and lane.
+// What reading answers: the level's numbers with what was mended and repainted, or a refusal's number and lane.
 pub enum Reading {
     Read {
         width: usize,
         height: usize,
         par: usize,
         mended: usize,
+        repainted: usize,
         wear: usize,
     },
     Refused {
@@ -59,10 +60,10 @@ fn accept(
     windows::accept(strip, cells, bytes, count, LANES, to, tiles, scratch)
 }
 
-// The answer for a record that was judged, of a strip of n cells of which so many were mended.
-fn finish(j: Judged, n: usize, mended: usize) -> Reading
+// The answer for a record that was judged, of a strip of n cells of which so many were mended and repainted.
+fn finish(j: Judged, n: usize, mended: usize, repainted: usize) -> Reading
     requires { ⌜ (mended ≤ 8) × Within stripLeast stripMost n ⌝ }
-    ensures { λ r. ⌜ FinishesAs 4 j n mended (stripNumbers r) ⌝ }
+    ensures { λ r. ⌜ FinishesAs 4 j n mended repainted (stripNumbers r) ⌝ }
 {
     let code = j.code;
     if code != 0 {
@@ -73,6 +74,7 @@ fn finish(j: Judged, n: usize, mended: usize) -> Reading
         height: j.height,
         par: j.par,
         mended,
+        repainted,
         wear: wear(mended, n),
     }
 }
@@ -104,5 +106,5 @@ pub fn read(strip: &[u8], marks: &[u8], tiles: &mut [u8], scratch: &mut [u8]) ->
         };
     }
     let j = accept(strip, &cells, &bytes, m.noted, tiles, scratch);
-    finish(j, strip.len(), m.mended)
+    finish(j, strip.len(), m.mended, m.repainted)
 }

@@ -43,14 +43,14 @@ enum-known-answer c = search needs
 put-back-requires : tie.Need-put-back-requires
 put-back-requires c κs = search needs
 
-pack-mended-requires : tie.Need-pack-mended-requires
-pack-mended-requires c κs = search needs
+pack-repaired-requires-4 : tie.Need-pack-repaired-requires-4
+pack-repaired-requires-4 c κs = search needs
 
 enum-known-answer-2 : tie.Need-enum-known-answer-2
 enum-known-answer-2 c = search needs
 
-pack-mended-requires-2 : tie.Need-pack-mended-requires-2
-pack-mended-requires-2 c κs = search needs
+pack-repaired-requires-5 : tie.Need-pack-repaired-requires-5
+pack-repaired-requires-5 c κs = search needs
 
 same-length : tie.Need-same-length
 same-length c = search needs
@@ -66,7 +66,7 @@ returns-4 c =
     let p = c .before .before .before .put-back in
     export-mended (a .marks .now) (a .lane .now) (l .result) (m .result) (x .result) (l .ensures .0) (l .ensures .1) (m .ensures .0) (m .ensures .1)
     (x .ensures)
-    (p .last .1 .0) (z .0 .0) (c .pack-mended .result) (z .1) (p .ensures) (c .pack-mended .ensures)
+    (p .last .1 .0) (z .0 .0) (z .0 .1 .0) (c .pack-repaired4 .result) (z .1) (p .ensures) (c .pack-repaired4 .ensures)
 
 same-length-2 : tie.Need-same-length-2
 same-length-2 c = search needs
@@ -80,7 +80,7 @@ returns-5 c =
     let z = c .before .before .answer2 .given in
     export-refused (a .marks .now) (a .lane .now) (l .result) (m .result) (x .result) (l .ensures .0) (l .ensures .1) (m .ensures .0) (m .ensures .1)
     (x .ensures)
-    (z .0 .0) (c .pack-mended2 .result) (z .1) (c .pack-mended2 .ensures)
+    (z .0 .0) (c .pack-repaired5 .result) (z .1) (c .pack-repaired5 .ensures)
 
 pub zav-lane-repair-spec : {M : Type 1} → statement M
 zav-lane-repair-spec =
@@ -97,9 +97,9 @@ zav-lane-repair-spec =
     repair-lane-requires
     enum-known-answer
     put-back-requires
-    pack-mended-requires
+    pack-repaired-requires-4
     enum-known-answer-2
-    pack-mended-requires-2
+    pack-repaired-requires-5
     same-length
     returns-4
     same-length-2

@@ -9,11 +9,11 @@ use Rattle.lanes.proofs.mend_each.Statement.{statement}
 use Rattle.lanes.proofs.mend_each.Tie as tie
 
 abbrev Inv-loop : tie.InvT-loop
-Inv-loop strip marks f lanes cells₀ bytes₀ r tables mended₀ noted₀ l₀ cells bytes mended noted l =
-    Tables tables × Sofar lanes strip marks cells bytes mended noted l
+Inv-loop strip marks f lanes cells₀ bytes₀ r tables mended₀ repainted₀ noted₀ l₀ cells bytes mended repainted noted l =
+    Tables tables × Sofar lanes strip marks cells bytes mended repainted noted l
 
 abbrev μ-loop : tie.MeasureT-loop
-μ-loop strip marks f lanes cells₀ bytes₀ r tables mended₀ noted₀ l₀ cells bytes mended noted l = lanes - l
+μ-loop strip marks f lanes cells₀ bytes₀ r tables mended₀ repainted₀ noted₀ l₀ cells bytes mended repainted noted l = lanes - l
 
 loop-holds : tie.Need-loop-holds Inv-loop μ-loop
 loop-holds c =
@@ -34,7 +34,7 @@ mend-one-requires c κs =
       l .inv .0,
       record { entered = p .0; inside = omega arith; remains = record { remains = p .2 .each (l .l) (omega arith) } },
       p .1,
-      room-left (a .lanes) (a .strip .now) (a .marks .now) (p .0 .lanes .to) (l .cells) (l .bytes) (l .mended) (l .noted) (l .l) (omega arith) (l .inv .1),
+      room-left (a .lanes) (a .strip .now) (a .marks .now) (p .0 .lanes .to) (l .cells) (l .bytes) (l .mended) (l .repainted) (l .noted) (l .l) (omega arith) (l .inv .1),
     )
 
 returns : tie.Need-returns Inv-loop μ-loop
@@ -43,7 +43,7 @@ returns c =
     let p = c .before .before .before .before .before .before .before .before .before .pre in
     let l = c .before .before .before .before .before .before .loop in
     let o = c .before .mend-one in
-    lost (a .lanes) (a .strip .now) (a .marks .now) (p .0) (l .cells) (l .bytes) _ _ (l .mended) (l .noted) (l .l) (omega arith) (l .inv .1) (o .result) (not-true (o .result .good) (c .if1 .taken))
+    lost (a .lanes) (a .strip .now) (a .marks .now) (p .0) (l .cells) (l .bytes) _ _ (l .mended) (l .repainted) (l .noted) (l .l) (omega arith) (l .inv .1) (o .result) (not-true (o .result .good) (c .if1 .taken))
     (o .ensures)
 
 add-mended : tie.Need-add-mended Inv-loop μ-loop
@@ -56,8 +56,22 @@ add-mended c =
       arith,
       l .inv .1 .small,
       p .0 .lanes .to,
-      one-few (a .lanes) (a .strip .now) (a .marks .now) (p .0) (l .cells) (l .bytes) _ _ (l .mended) (l .noted) (l .l) (omega arith) (l .inv .1) (o .result)
+      one-few (a .lanes) (a .strip .now) (a .marks .now) (p .0) (l .cells) (l .bytes) _ _ (l .mended) (l .repainted) (l .noted) (l .l) (omega arith) (l .inv .1) (o .result)
           (not-false (o .result .good) (c .before .if1 .left)) (o .ensures),
+    )
+
+add-repainted : tie.Need-add-repainted Inv-loop μ-loop
+add-repainted c =
+    let a = c .before .before .before .before .before .before .before .before .before .before .before .args in
+    let p = c .before .before .before .before .before .before .before .before .before .before .before .pre in
+    let l = c .before .before .before .before .before .before .before .before .loop in
+    let o = c .before .before .before .mend-one in
+    omega (
+      arith,
+      l .inv .1 .few,
+      p .0 .lanes .to,
+      one-few (a .lanes) (a .strip .now) (a .marks .now) (p .0) (l .cells) (l .bytes) _ _ (l .mended) (l .repainted) (l .noted) (l .l) (omega arith) (l .inv .1) (o .result)
+          (not-false (o .result .good) (c .before .before .if1 .left)) (o .ensures),
     )
 
 add-l : tie.Need-add-l Inv-loop μ-loop
@@ -68,13 +82,13 @@ loop-less c = search needs
 
 loop-again : tie.Need-loop-again Inv-loop μ-loop
 loop-again c =
-    let a = c .before .before .before .before .before .before .before .before .before .before .args in
-    let p = c .before .before .before .before .before .before .before .before .before .before .pre in
-    let l = c .before .before .before .before .before .before .before .loop in
-    let o = c .before .before .mend-one in (
+    let a = c .before .before .before .before .before .before .before .before .before .before .before .args in
+    let p = c .before .before .before .before .before .before .before .before .before .before .before .pre in
+    let l = c .before .before .before .before .before .before .before .before .loop in
+    let o = c .before .before .before .mend-one in (
       l .inv .0,
-      sofar-more (a .lanes) (a .strip .now) (a .marks .now) (p .0) (l .cells) (l .bytes) _ _ (l .mended) (l .noted) (l .l) (omega arith) (l .inv .1) (o .result)
-          (not-false (o .result .good) (c .before .if1 .left)) (o .ensures),
+      sofar-more (a .lanes) (a .strip .now) (a .marks .now) (p .0) (l .cells) (l .bytes) _ _ (l .mended) (l .repainted) (l .noted) (l .l) (omega arith) (l .inv .1) (o .result)
+          (not-false (o .result .good) (c .before .before .if1 .left)) (o .ensures),
     )
 
 returns-2 : tie.Need-returns-2 Inv-loop μ-loop
@@ -82,7 +96,7 @@ returns-2 c =
     let a = c .before .before .before .before .args in
     let p = c .before .before .before .before .pre in
     let l = c .before .loop in
-    all-mended (a .lanes) (a .strip .now) (a .marks .now) (p .0) (l .cells) (l .bytes) (l .mended) (l .noted) (l .l) (omega arith) (l .inv .1)
+    all-mended (a .lanes) (a .strip .now) (a .marks .now) (p .0) (l .cells) (l .bytes) (l .mended) (l .repainted) (l .noted) (l .l) (omega arith) (l .inv .1)
 
 pub mend-each-spec : {M : Type 1} → statement M
 mend-each-spec =
@@ -96,6 +110,7 @@ mend-each-spec =
     mend-one-requires
     returns
     add-mended
+    add-repainted
     add-l
     loop-less
     loop-again

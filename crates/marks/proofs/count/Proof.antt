@@ -1,21 +1,17 @@
-use mathlib.Core.Path.{_≡_, sym, ap, _∙_, subst}
-use mathlib.Core.Bool.{Bool, not}
-use Prim.Native.Nat.{ℕ, _+_, _-_, _/_, _≤_}
+use mathlib.Core.Path.{_≡_, subst}
+use Prim.Native.Nat.{ℕ, _-_, _*_, _+_, _/_, _≤_, _<_}
 use native.Mathlib.Omega.{arith}
 use borrow.Author.Needs.{needs}
-use lib.Dec.{eqb}
 use lib.ListN.{length, getD}
-use lib.Seq.{slice}
+use lib.Seq.{slice, length-slice}
 use Rattle.account.specs.Lanes.{lane}
-use Rattle.account.specs.Reach.{oneIf, and}
-use Rattle.marks.specs.Marks.{countedOf}
-use Rattle.marks.proofs.Counting.{lane-marked, lane-inside, count-starts, count-goes, counts-one, erratum-below}
+use Rattle.marks.specs.Marks.{CountsAll}
+use Rattle.marks.proofs.Counting.{lane-inside, lane-counts, counts-start, counts-more, counts-few, erratum-below}
 use Rattle.marks.proofs.count.Statement.{statement}
 use Rattle.marks.proofs.count.Tie as tie
 
 abbrev Inv-loop : tie.InvT-loop
-Inv-loop marks lanes l cells values c₀ i₀ c i =
-    (i ≤ i₀) × (c + i ≤ i₀) × (c ≡ countedOf (lane lanes l marks) (slice i i₀ cells) (slice i i₀ values))
+Inv-loop marks lanes l cells values c₀ i₀ c i = (i ≤ i₀) × CountsAll (lane lanes l marks) (slice i i₀ cells) (slice i i₀ values) c
 
 abbrev μ-loop : tie.MeasureT-loop
 μ-loop marks lanes l cells values c₀ i₀ c i = i
@@ -23,19 +19,19 @@ abbrev μ-loop : tie.MeasureT-loop
 loop-holds : tie.Need-loop-holds Inv-loop μ-loop
 loop-holds c =
     let a = c .before .before .before .args in
-    (search needs, search needs, sym (count-starts (lane (a .lanes) (a .l) (a .marks .now)) (a .e .cells) (a .e .values) (a .e .count)))
+    (search needs, counts-start (lane (a .lanes) (a .l) (a .marks .now)) (a .e .cells) (a .e .values) (a .e .count))
 
 sub-i : tie.Need-sub-i Inv-loop μ-loop
 sub-i c = search needs
 
-mul-changes : tie.Need-mul-changes Inv-loop μ-loop
-mul-changes c = search needs
+mul-count-one : tie.Need-mul-count-one Inv-loop μ-loop
+mul-count-one c = search needs
 
-array-read-changes : tie.Need-array-read-changes Inv-loop μ-loop
-array-read-changes c = omega (arith, c .before .before .before .before .before .pre .0 .few)
+array-read-count-one : tie.Need-array-read-count-one Inv-loop μ-loop
+array-read-count-one c = omega (arith, c .before .before .before .before .before .pre .0 .few)
 
-mul-changes-2 : tie.Need-mul-changes-2 Inv-loop μ-loop
-mul-changes-2 c =
+mul-count-one-2 : tie.Need-mul-count-one-2 Inv-loop μ-loop
+mul-count-one-2 c =
     let a = c .before .before .before .before .before .args in
     let p = c .before .before .before .before .before .pre in
     let l = c .before .loop in
@@ -46,8 +42,8 @@ mul-changes-2 c =
           (l .i - 1) (omega arith)),
     )
 
-add-changes : tie.Need-add-changes Inv-loop μ-loop
-add-changes c =
+add-count-one : tie.Need-add-count-one Inv-loop μ-loop
+add-count-one c =
     let a = c .before .before .before .before .before .args in
     let p = c .before .before .before .before .before .pre in
     let l = c .before .loop in
@@ -58,25 +54,22 @@ add-changes c =
           (l .i - 1) (omega arith)),
     )
 
-array-read-changes-2 : tie.Need-array-read-changes-2 Inv-loop μ-loop
-array-read-changes-2 c = omega (arith, c .before .before .before .before .before .pre .0 .few)
+array-read-count-one-2 : tie.Need-array-read-count-one-2 Inv-loop μ-loop
+array-read-count-one-2 c = omega (arith, c .before .before .before .before .before .pre .0 .few)
 
-changes-requires : tie.Need-changes-requires Inv-loop μ-loop
-changes-requires c κs =
+count-one-requires : tie.Need-count-one-requires Inv-loop μ-loop
+count-one-requires c κs =
     let a = c .before .before .before .before .before .args in
     let p = c .before .before .before .before .before .pre in
     let l = c .before .loop in
-    lane-inside (a .lanes) (a .marks .now) (a .l) (getD (a .e .cells) (l .i - 1) 0) (p .1) (erratum-below (length (a .marks .now) / a .lanes) (a .e) (p .0)
-    (l .i - 1) (omega arith))
-
-add-c : tie.Need-add-c Inv-loop μ-loop
-add-c c =
-    let a = c .before .before .before .before .before .before .args in
-    let p = c .before .before .before .before .before .before .pre in
-    let l = c .before .before .loop in
-    let e = (c .changes .ensures ∙ ap (λ (b : Bool). oneIf (and (not b) (not (eqb (getD (a .e .values) (l .i - 1) 0) 0)))) (lane-marked (a .lanes) (a .marks .now) (a .l)
-    (getD (a .e .cells) (l .i - 1) 0) (p .1) (erratum-below (length (a .marks .now) / a .lanes) (a .e) (p .0) (l .i - 1) (omega arith)))) in
-    omega (arith, p .0 .few, counts-one (lane (a .lanes) (a .l) (a .marks .now)) (getD (a .e .cells) (l .i - 1) 0) (getD (a .e .values) (l .i - 1) 0) (c .changes .result) e)
+    let s = slice (l .i) (a .e .count) (a .e .cells) in
+    let f = counts-few (lane (a .lanes) (a .l) (a .marks .now)) s (slice (l .i) (a .e .count) (a .e .values)) (l .c) (l .inv .1) in
+    let n : length s ≤ 5 = omega (arith, length-slice (l .i) (a .e .count) (a .e .cells) (omega (arith, p .0 .few, p .0 .room)), p .0 .few) in (
+      lane-inside (a .lanes) (a .marks .now) (a .l) (getD (a .e .cells) (l .i - 1) 0) (p .1) (erratum-below (length (a .marks .now) / a .lanes) (a .e) (p .0)
+          (l .i - 1) (omega arith)),
+      omega (arith, f .0),
+      omega (arith, f .1),
+    )
 
 loop-less : tie.Need-loop-less Inv-loop μ-loop
 loop-less c = search needs
@@ -85,13 +78,12 @@ loop-again : tie.Need-loop-again Inv-loop μ-loop
 loop-again c =
     let a = c .before .before .before .before .before .before .args in
     let p = c .before .before .before .before .before .before .pre in
-    let l = c .before .before .loop in
-    let e = (c .changes .ensures ∙ ap (λ (b : Bool). oneIf (and (not b) (not (eqb (getD (a .e .values) (l .i - 1) 0) 0)))) (lane-marked (a .lanes) (a .marks .now) (a .l)
-    (getD (a .e .cells) (l .i - 1) 0) (p .1) (erratum-below (length (a .marks .now) / a .lanes) (a .e) (p .0) (l .i - 1) (omega arith)))) in (
+    let l = c .before .before .loop in (
       omega arith,
-      omega (arith, counts-one (lane (a .lanes) (a .l) (a .marks .now)) (getD (a .e .cells) (l .i - 1) 0) (getD (a .e .values) (l .i - 1) 0) (c .changes .result) e),
-      count-goes (lane (a .lanes) (a .l) (a .marks .now)) (a .e .cells) (a .e .values) (a .e .count) (l .i) (l .c) (c .changes .result) (search needs) (l .inv .0)
-          (omega (arith, p .0 .few, p .0 .room)) (omega (arith, p .0 .few, p .0 .values-room)) (l .inv .2) e,
+      counts-more (lane (a .lanes) (a .l) (a .marks .now)) (a .e .cells) (a .e .values) (a .e .count) (l .i) (l .c) (c .count-one .result) (search needs) (l .inv .0)
+          (omega (arith, p .0 .few, p .0 .room)) (omega (arith, p .0 .few, p .0 .values-room)) (l .inv .1)
+          (lane-counts (a .lanes) (a .marks .now) (a .l) (getD (a .e .cells) (l .i - 1) 0) (getD (a .e .values) (l .i - 1) 0) (l .c) (c .count-one .result) (p .1)
+          (erratum-below (length (a .marks .now) / a .lanes) (a .e) (p .0) (l .i - 1) (omega arith)) (c .count-one .ensures)),
     )
 
 returns : tie.Need-returns Inv-loop μ-loop
@@ -99,7 +91,8 @@ returns c =
     let a = c .before .before .before .before .before .args in
     let l = c .before .loop in
     let z : l .i ≡ 0 = omega arith in
-    subst (λ (j : ℕ). l .c ≡ countedOf (lane (a .lanes) (a .l) (a .marks .now)) (slice j (a .e .count) (a .e .cells)) (slice j (a .e .count) (a .e .values))) z (l .inv .2)
+    subst (λ (j : ℕ). CountsAll (lane (a .lanes) (a .l) (a .marks .now)) (slice j (a .e .count) (a .e .cells)) (slice j (a .e .count) (a .e .values)) (l .c)) z
+    (l .inv .1)
 
 pub count-spec : {M : Type 1} → statement M
 count-spec =
@@ -109,13 +102,12 @@ count-spec =
     μ-loop
     loop-holds
     sub-i
-    mul-changes
-    array-read-changes
-    mul-changes-2
-    add-changes
-    array-read-changes-2
-    changes-requires
-    add-c
+    mul-count-one
+    array-read-count-one
+    mul-count-one-2
+    add-count-one
+    array-read-count-one-2
+    count-one-requires
     loop-less
     loop-again
     returns)

@@ -1,10 +1,10 @@
-use mathlib.Core.Path.{_≡_, ap, _∙_, subst}
+use mathlib.Core.Path.{_≡_, subst}
 use mathlib.Core.List.{List}
 use Prim.Native.Nat.{ℕ, _/_}
 use lib.ListN.{length}
 use Rattle.remainder.proofs.LanesOf.{lane-word}
 use Rattle.errata.specs.Errata.{cellsOf, valuesOf, ErrataFor}
-use Rattle.marks.specs.Marks.{countedOf}
+use Rattle.marks.specs.Marks.{CountsAll}
 use native.Mathlib.Omega.{arith}
 use borrow.Author.Tests.{not-true, not-false}
 use Rattle.code.proofs.Repairing.{entry-of, repair-refused, repair-beyond, too-many, searchable, repair-mends, searched, unsearched}
@@ -87,7 +87,7 @@ returns-4 c =
     (entry-of (s .args .marks .now) (s .args .word .now) (e .result) (e .ensures) z)
     (searched (f .result .good) (s .args .marks .now) (s .args .word .now) (f .result .errata) good (f .ensures))
     (c .before .before .apply .ensures)
-    (n .ensures ∙ ap (λ (m : List ℕ). countedOf m (cellsOf (f .result .errata)) (valuesOf (f .result .errata))) (lane-word (s .args .marks .now)))
+    (subst (λ (m : List ℕ). CountsAll m (cellsOf (f .result .errata)) (valuesOf (f .result .errata)) (n .result)) (lane-word (s .args .marks .now)) (n .ensures))
 
 pub repair-spec : {M : Type 1} → statement M
 repair-spec =

@@ -3,21 +3,21 @@ use Prim.Native.Nat.{ℕ, _-_, _≤_}
 use native.Mathlib.Omega.{arith}
 use borrow.Author.Needs.{needs}
 use Rattle.lanes.specs.Fixes.{Noted}
-use Rattle.lanes.proofs.Noting.{noted-0, noted-more, one-small, cell-below, cell-small, cell-inside}
+use Rattle.lanes.proofs.Noting.{noted-0, noted-more, counts-small, cell-below, cell-small, cell-inside}
 use Rattle.lanes.proofs.fixes.note.Statement.{statement}
 use Rattle.lanes.proofs.fixes.note.Tie as tie
 
 abbrev Inv-loop : tie.InvT-loop
-Inv-loop marks lanes l k cells₀ bytes₀ w e mended₀ i₀ cells bytes mended i =
-    (i ≤ e .count) × (mended ≤ i) × Noted lanes l k w e marks cells₀ bytes₀ i cells bytes mended
+Inv-loop marks lanes l k cells₀ bytes₀ w e c₀ i₀ cells bytes c i =
+    (i ≤ e .count) × Noted lanes l k w e marks cells₀ bytes₀ i cells bytes c
 
 abbrev μ-loop : tie.MeasureT-loop
-μ-loop marks lanes l k cells₀ bytes₀ w e mended₀ i₀ cells bytes mended i = e .count - i
+μ-loop marks lanes l k cells₀ bytes₀ w e c₀ i₀ cells bytes c i = e .count - i
 
 loop-holds : tie.Need-loop-holds Inv-loop μ-loop
 loop-holds c =
     let a = c .before .args in
-    (omega arith, omega arith, noted-0 (a .lanes) (a .l) (a .k) (a .t1) (a .t2) (a .marks .now) (a .cells .now) (a .bytes .now) (c .before .pre))
+    (omega arith, noted-0 (a .lanes) (a .l) (a .k) (a .t1) (a .t2) (a .marks .now) (a .cells .now) (a .bytes .now) (c .before .pre))
 
 mul-p : tie.Need-mul-p Inv-loop μ-loop
 mul-p c = search needs
@@ -67,17 +67,17 @@ add-bytes c = search needs
 element-write-bytes : tie.Need-element-write-bytes Inv-loop μ-loop
 element-write-bytes c = search needs
 
-changes-requires : tie.Need-changes-requires Inv-loop μ-loop
-changes-requires c κs =
+count-one-requires : tie.Need-count-one-requires Inv-loop μ-loop
+count-one-requires c κs =
     let a = c .before .before .before .before .before .before .args in
+    let p = c .before .before .before .before .before .before .pre in
     let l = c .before .before .before .before .loop in
-    cell-inside (a .lanes) (a .l) (a .k) (a .t1) (a .t2) (a .marks .now) (a .cells .now) (a .bytes .now) (c .before .before .before .before .before .before .pre) (l .i) (omega arith)
-
-add-mended : tie.Need-add-mended Inv-loop μ-loop
-add-mended c =
-    let a = c .before .before .before .before .before .before .before .args in
-    let l = c .before .before .before .before .before .loop in
-    omega (arith, c .before .before .before .before .before .before .before .pre .errata .few, one-small (a .lanes) (a .l) (a .k) (a .t1) (a .t2) (a .marks .now) (a .cells .now) (a .bytes .now) (c .before .before .before .before .before .before .before .pre) (l .i) (omega arith) (l .cells) (l .bytes) (l .mended) (c .changes .result) (l .inv .2) (c .changes .ensures))
+    let s = counts-small (a .lanes) (a .l) (a .k) (a .t1) (a .t2) (a .marks .now) (a .cells .now) (a .bytes .now) p (l .i) (omega arith) (l .cells) (l .bytes) (l .c)
+    (l .inv .1) in (
+      cell-inside (a .lanes) (a .l) (a .k) (a .t1) (a .t2) (a .marks .now) (a .cells .now) (a .bytes .now) p (l .i) (omega arith),
+      s .0,
+      s .1,
+    )
 
 add-i : tie.Need-add-i Inv-loop μ-loop
 add-i c = search needs
@@ -88,11 +88,10 @@ loop-less c = search needs
 loop-again : tie.Need-loop-again Inv-loop μ-loop
 loop-again c =
     let a = c .before .before .before .before .before .before .before .args in
-    let l = c .before .before .before .before .before .loop in
-    let t = one-small (a .lanes) (a .l) (a .k) (a .t1) (a .t2) (a .marks .now) (a .cells .now) (a .bytes .now) (c .before .before .before .before .before .before .before .pre) (l .i) (omega arith) (l .cells) (l .bytes) (l .mended) (c .changes .result) (l .inv .2) (c .changes .ensures) in (
+    let p = c .before .before .before .before .before .before .before .pre in
+    let l = c .before .before .before .before .before .loop in (
       omega arith,
-      omega (arith, t),
-      noted-more (a .lanes) (a .l) (a .k) (a .t1) (a .t2) (a .marks .now) (a .cells .now) (a .bytes .now) (c .before .before .before .before .before .before .before .pre) (l .i) (omega arith) (l .cells) (l .bytes) (l .mended) (c .changes .result) (l .inv .2) (c .changes .ensures),
+      noted-more (a .lanes) (a .l) (a .k) (a .t1) (a .t2) (a .marks .now) (a .cells .now) (a .bytes .now) p (l .i) (omega arith) (l .cells) (l .bytes) (l .c) (l .inv .1) (c .count-one .result) (c .count-one .ensures),
     )
 
 returns : tie.Need-returns Inv-loop μ-loop
@@ -100,7 +99,7 @@ returns c =
     let a = c .before .before .before .args in
     let l = c .before .loop in
     let z : l .i ≡ a .t2 .count = omega (arith, l .inv .0) in
-    subst (λ (n : ℕ). Noted (a .lanes) (a .l) (a .k) (a .t1) (a .t2) (a .marks .now) (a .cells .now) (a .bytes .now) n (l .cells) (l .bytes) (l .mended)) z (l .inv .2)
+    subst (λ (n : ℕ). Noted (a .lanes) (a .l) (a .k) (a .t1) (a .t2) (a .marks .now) (a .cells .now) (a .bytes .now) n (l .cells) (l .bytes) (l .c)) z (l .inv .1)
 
 pub note-spec : {M : Type 1} → statement M
 note-spec =
@@ -121,8 +120,7 @@ note-spec =
     element-copy-out-bytes
     add-bytes
     element-write-bytes
-    changes-requires
-    add-mended
+    count-one-requires
     add-i
     loop-less
     loop-again

@@ -73,7 +73,7 @@ returns-3 c =
     let x = c .before .before .before .before .before .accept in
     finished-as 4 (a .strip .now) (a .marks .now) (a .tiles .now) (a .scratch .now) (omega arith) (omega arith) _ h
     (patched (m .last .1 .1 .1 .1 .0) (m .last .1 .1 .1 .1 .1 .0) (m .result .noted) (a .strip .now))
-    (m .ensures .found four) (m .result .mended) (m .ensures .count four) (x .last .1 .1 .1 .1 .0) (c .finish .result)
+    (m .ensures .found four) (m .result .mended) (m .result .repainted) (m .ensures .count four) (m .ensures .repaints four) (x .last .1 .1 .1 .1 .0) (c .finish .result)
     (c .finish .ensures _ (a .tiles .now) (x .last .1 .1 .1 .1 .0) (x .ensures))
 
 pub read-spec : {M : Type 1} → statement M

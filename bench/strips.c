@@ -177,6 +177,7 @@ static bool is_right(const struct batch *b, int i)
     const struct ref_result level = {
         .width = (unsigned)l->width, .height = (unsigned)l->height,
         .par = (unsigned)l->par, .mended = (unsigned)(REF_LANES * d->wrong),
+        .repainted = (unsigned)(REF_LANES * d->marked), /* none is right */
         .wear = (unsigned)(100 * REF_LANES * d->wrong /
                            b->picture[i].strip_len)};
     const struct ref_result refused = {.code = 6,

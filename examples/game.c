@@ -38,9 +38,9 @@ static void print_level(uint64_t result, const uint8_t *tiles)
             putchar(letters[tiles[y * zav_width(result) + x]]);
         putchar('\n');
     }
-    printf("width %u, height %u, par %u, mended %u, wear %u\n",
+    printf("width %u, height %u, par %u, mended %u, repainted %u, wear %u\n",
            zav_width(result), zav_height(result), zav_par(result),
-           zav_mended(result), zav_wear(result));
+           zav_mended(result), zav_repainted(result), zav_wear(result));
 }
 
 /* Lane p mod 4 is where cell p belongs; only refusal 6 has a lane to tell. */

@@ -50,9 +50,15 @@ uint64_t zav_strip_write(size_t width, size_t height, size_t par,
 /*
  * Read the level whose strip is within reach: its tiles, one byte each, are
  * put in front of the tile buffer, and width, height, par, mended (unmarked
- * cells that were wrong, over all lanes) and wear are returned; tile bytes
- * past the level keep their value. There is one mark for each cell: 0 if it
- * was read, 1 if it was not; the byte under a mark has no influence.
+ * cells that were wrong, over all lanes: 0 to 8), repainted (marked cells whose
+ * byte was wrong: 0 to 20) and wear are returned; tile bytes past the level
+ * keep their value. There is one mark for each cell: 0 if it was read, 1 if it
+ * was not; the byte under a mark has influence on repainted, and on nothing
+ * else.
+ *
+ * The strip within reach is the one that zav_strip_write writes for the level
+ * returned: it differs from the strip read in mended unmarked and repainted
+ * marked cells, and in no others.
  *
  * strip_len is the strip's own length, the one that its writer returned, and
  * not that of the buffer it stands in. tiles_len must be at least

@@ -86,13 +86,13 @@ static inline const char *zav_refusal_text(unsigned code)
 /*
  * Results are packed in one number: the code in bits 0 to 4 and, above it, what
  * the function returns. The repairs and the strip reader have mended in bits
- * 31 to 36; the other fields of readers are in the headers of their readers.
- * The writers and the word test have a length in bits 48 to 63, and nothing
- * else. Readers have other fields in some of these bits, so take a result
- * apart by what its function returns: zav_length of a reader's result means
- * nothing, nor does a reader's field of a writer's. All other bits are zero.
- * With a refusal everything but the code is zero, and of a strip beyond reach
- * the lane.
+ * 31 to 36 and repainted in bits 37 to 43; the other fields of readers are in
+ * the headers of their readers. The writers and the word test have a length in
+ * bits 48 to 63, and nothing else. Readers have other fields in some of these
+ * bits, so take a result apart by what its function returns: zav_length of a
+ * reader's result means nothing, nor does a reader's field of a writer's. All
+ * other bits are zero. With a refusal everything but the code is zero, and of a
+ * strip beyond reach the lane.
  */
 static inline unsigned zav_code(uint64_t result)
 {
@@ -102,6 +102,11 @@ static inline unsigned zav_code(uint64_t result)
 static inline unsigned zav_mended(uint64_t result)
 {
     return (unsigned)(result >> 31 & 0x3F);
+}
+
+static inline unsigned zav_repainted(uint64_t result)
+{
+    return (unsigned)(result >> 37 & 0x7F);
 }
 
 static inline unsigned zav_length(uint64_t result)
@@ -125,18 +130,19 @@ uint64_t zav_word_test(const uint8_t *word, size_t len);
 
 /*
  * Replace the word by the clean word within reach, and return the number of
- * unmarked cells changed as mended. Nothing is written when refused, and the
- * marks never are. There is one mark for each cell: 0 if it was read, 1 if it
- * was not; the byte under a mark has no influence. Word and marks must not
- * overlap.
+ * unmarked cells changed as mended, 0 to 2, and that of marked cells changed as
+ * repainted, 0 to 5. Nothing is written when refused, and the marks never are.
+ * There is one mark for each cell: 0 if it was read, 1 if it was not; the byte
+ * under a mark has influence on repainted, and on nothing else. Word and marks
+ * must not overlap.
  */
 uint64_t zav_word_repair(uint8_t *word, size_t len,
                          const uint8_t *marks, size_t marks_len);
 
 /*
  * The same repair for a lane of 6 to 96 cells: the lane is replaced, and
- * mended returned. Nothing is written when refused, and the marks never are.
- * Lane and marks must not overlap.
+ * mended and repainted returned. Nothing is written when refused, and the marks
+ * never are. Lane and marks must not overlap.
  */
 uint64_t zav_lane_repair(uint8_t *lane, size_t len,
                          const uint8_t *marks, size_t marks_len);

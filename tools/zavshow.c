@@ -1,10 +1,13 @@
 /*
- * zavshow.c - show the level of a strip as a picture, or as its text.
+ * zavshow.c - show the level of a strip as a picture or as its text, or the
+ * strip as it was mended.
  *
- * zavshow [--text] [FILE] reads a strip followed by as many marks, raw bytes,
- * from the file or from standard input. With --text the level is printed as
- * the text that zavmake reads, and nothing else. A refusal is given with its
- * number, lane and meaning. The help below says how it ends.
+ * zavshow [--text | --strip] [FILE] reads a strip followed by as many marks,
+ * raw bytes, from the file or from standard input. With --text the level is
+ * printed as the text that zavmake reads, and nothing else; with --strip the
+ * strip's cells are, as they ought to be, with a sign at those that were not.
+ * A refusal is given with its number, lane and meaning. The help below says
+ * how it ends.
  */
 #include <errno.h>
 #include <string.h>
@@ -14,12 +17,17 @@
 static const char tool[] = "zavshow";
 
 static const char help[] =
-    "usage: zavshow [--text] [FILE]\n"
+    "usage: zavshow [--text | --strip] [FILE]\n"
     "Shows the level of a strip. FILE is a strip followed by as many marks, "
     "raw bytes;\n"
     "without FILE it comes from standard input. --text: the level as text, to "
     "be changed in\n"
-    "an editor and made a strip by zavmake.\n"
+    "an editor and made a strip by zavmake. --strip: the cells of the mended "
+    "strip in\n"
+    "hexadecimal, lane by lane, with * before a cell that was wrong and is "
+    "mended, + before\n"
+    "one that was marked and wrong and is repainted, = before one that was "
+    "marked and right.\n"
     "Exit status: 0 a level was shown; 1 the strip was refused; 2 the input "
     "could not be\n"
     "read, the output not be written, or the command makes no sense.\n";
@@ -31,9 +39,9 @@ static void print_level(uint64_t result, const uint8_t *tiles)
             putchar(letters[*tiles++]);
         putchar('\n');
     }
-    printf("width %u, height %u, par %u, mended %u, wear %u\n",
+    printf("width %u, height %u, par %u, mended %u, repainted %u, wear %u\n",
            zav_width(result), zav_height(result), zav_par(result),
-           zav_mended(result), zav_wear(result));
+           zav_mended(result), zav_repainted(result), zav_wear(result));
 }
 
 static void print_text(uint64_t result, const uint8_t *tiles)
@@ -47,30 +55,104 @@ static void print_text(uint64_t result, const uint8_t *tiles)
     fwrite(text, 1, zav_length(written), stdout);
 }
 
-/* Where a text is wanted, a refusal is not to get into it. */
-static int refuse(uint64_t result, bool as_text)
+/* ---- the mended strip ---- */
+
+/* A strip as it was read, and as it ought to be. */
+struct drawing {
+    const uint8_t *read, *marks;
+    uint8_t mended[ZAV_STRIP_MAX];
+    size_t len;
+};
+
+static bool is_right(const struct drawing *d, size_t cell)
 {
-    if (as_text)
+    return d->read[cell] == d->mended[cell];
+}
+
+static char sign_of(const struct drawing *d, size_t cell)
+{
+    if (d->marks[cell])
+        return is_right(d, cell) ? '=' : '+';
+    return is_right(d, cell) ? ' ' : '*';
+}
+
+/* Sixteen cells of a lane fit a line. */
+enum { BLOCK = 16 * ZAV_STRIP_LANES };
+
+static void print_block(const struct drawing *d, size_t from)
+{
+    const size_t left = d->len - from;
+    const size_t end = from + (left < BLOCK ? left : BLOCK);
+
+    printf("cells %zu to %zu\n", from, end - 1);
+    for (size_t lane = 0; lane < ZAV_STRIP_LANES; lane++) {
+        printf("lane %zu", lane);
+        for (size_t cell = from + lane; cell < end; cell += ZAV_STRIP_LANES)
+            printf(" %c%02X", sign_of(d, cell), d->mended[cell]);
+        putchar('\n');
+    }
+}
+
+/* The strip within reach is the one that is written for the level read. */
+static void print_strip(const struct cells *c, uint64_t result,
+                        const uint8_t *tiles)
+{
+    const size_t width = zav_width(result), height = zav_height(result);
+    struct drawing d = {.read = c->bytes, .marks = c->bytes + c->len / 2,
+                        .len = c->len / 2};
+    size_t marked_right = 0;
+
+    zav_strip_write(width, height, zav_par(result), tiles, width * height,
+                    d.mended, sizeof d.mended);
+    for (size_t from = 0; from < d.len; from += BLOCK)
+        print_block(&d, from);
+    for (size_t cell = 0; cell < d.len; cell++)
+        marked_right += sign_of(&d, cell) == '=';
+    printf("* mended %u, + repainted %u, = marked and right %zu\n",
+           zav_mended(result), zav_repainted(result), marked_right);
+}
+
+/* ---- */
+
+enum form { AS_LEVEL, AS_TEXT, AS_STRIP };
+
+/* Where a text is wanted, a refusal is not to get into it. */
+static int refuse(uint64_t result, enum form form)
+{
+    if (form == AS_TEXT)
         fprintf(stderr, "%s: ", tool);
-    print_refusal(as_text ? stderr : stdout, result);
+    print_refusal(form == AS_TEXT ? stderr : stdout, result);
     return REFUSED;
 }
 
-static int show(const struct cells *c, bool as_text)
+static int show(const struct cells *c, enum form form)
 {
     uint8_t tiles[ZAV_TILES_MAX];
     const uint64_t result = read_cells(c, tiles);
 
     if (zav_code(result) != ZAV_DONE)
-        return refuse(result, as_text);
-    (as_text ? print_text : print_level)(result, tiles);
+        return refuse(result, form);
+    if (form == AS_STRIP)
+        print_strip(c, result, tiles);
+    else
+        (form == AS_TEXT ? print_text : print_level)(result, tiles);
     return FINE;
+}
+
+/* The first argument may say the form. */
+static enum form form_of(int argc, char **argv)
+{
+    if (argc > 1 && strcmp(argv[1], "--text") == 0)
+        return AS_TEXT;
+    if (argc > 1 && strcmp(argv[1], "--strip") == 0)
+        return AS_STRIP;
+    return AS_LEVEL;
 }
 
 int main(int argc, char **argv)
 {
-    const bool as_text = argc > 1 && strcmp(argv[1], "--text") == 0;
-    const int first = as_text ? 2 : 1; /* where the file's name would be */
+    const enum form form = form_of(argc, argv);
+    const int first = form == AS_LEVEL ? 1 : 2; /* where a file's name is */
     const bool named = argc == first + 1;
     const char *name = named ? argv[first] : "standard input";
     struct cells c;
@@ -85,5 +167,5 @@ int main(int argc, char **argv)
     }
     if (!(named ? take_cells_of(&c, name) : take_cells(&c, stdin)))
         return complain(tool, name, strerror(errno));
-    return finish(tool, show(&c, as_text));
+    return finish(tool, show(&c, form));
 }

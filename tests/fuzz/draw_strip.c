@@ -52,8 +52,13 @@ static size_t draw_halves(uint8_t *body)
     memset(body + cells, 0, cells);
     for (size_t wrong = draw_below(9); wrong > 0; wrong--)
         body[draw_below(cells)] = draw_byte();
-    for (size_t marked = draw_below(9); marked > 0; marked--)
-        body[cells + draw_below(cells)] = 1;
+    for (size_t marked = draw_below(9); marked > 0; marked--) {
+        const size_t cell = draw_below(cells);
+
+        body[cells + cell] = 1;
+        if (draw_below(2))
+            body[cell] = draw_byte();
+    }
     if (draw_below(16) == 0)
         draw_bytes(body, 2 * cells);
     return 2 * cells;

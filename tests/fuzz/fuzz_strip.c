@@ -1,13 +1,15 @@
 /*
  * fuzz_strip.c - any bytes, through the readers of records and strips, through
  * the writers and through the second implementation: they must agree in every
- * number and every byte.
+ * number and every byte. A level that was read from a strip is also written
+ * again, and the strips compared.
  */
 #include "fuzz_strip.h"
 
 #include <string.h>
 
 #include "fuzz.h"
+#include "harness.h"
 #include "pictures.h"
 #include "test_record.h"
 #include "test_writer.h"
@@ -93,7 +95,8 @@ static void try_strip(const struct input *in)
                         STRIP_ROOM);
     p.tiles_len = length_near(REF_TILES_MAX, in->head[TILES_AT]);
     p.scratch_len = length_near(REF_SCRATCH_MIN, in->head[SCRATCH_AT]);
-    check_picture(&p);
+    if (check_picture(&p).code == 0 && !check_redrawn(&p))
+        group_fail("refused when it was read again");
 }
 
 /* ---- records ---- */

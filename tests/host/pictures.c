@@ -153,17 +153,45 @@ struct ref_result check_picture(const struct picture *p)
     return r;
 }
 
-void check_level(const struct picture *p, const struct board *b,
-                 unsigned mended)
+void check_counts(const struct picture *p, const struct board *b,
+                  unsigned mended, unsigned repainted)
 {
     const struct ref_result r = {.width = (unsigned)b->width,
                                  .height = (unsigned)b->height,
                                  .par = (unsigned)b->par,
                                  .mended = mended,
+                                 .repainted = repainted,
                                  .wear = 100 * mended /
                                          (unsigned)p->strip_len};
 
     check_read(p, r, b->tiles);
+}
+
+/* Cells with this mark in which the picture and a strip differ. */
+static unsigned differing(const struct picture *p, const uint8_t *strip,
+                          uint8_t mark)
+{
+    unsigned count = 0;
+
+    for (size_t i = 0; i < p->strip_len; i++)
+        count += p->marks[i] == mark && p->strip[i] != strip[i];
+    return count;
+}
+
+/* Marked cells with another byte than the board's strip has there. */
+static unsigned repainted_in(const struct picture *p, const struct board *b)
+{
+    uint8_t strip[REF_STRIP_MAX];
+
+    ref_strip_write(b->width, b->height, b->par, b->tiles, b->tiles_len, strip,
+                    sizeof strip);
+    return differing(p, strip, 1);
+}
+
+void check_level(const struct picture *p, const struct board *b,
+                 unsigned mended)
+{
+    check_counts(p, b, mended, repainted_in(p, b));
 }
 
 void check_refused(const struct picture *p, unsigned code, unsigned lane)
@@ -171,4 +199,33 @@ void check_refused(const struct picture *p, unsigned code, unsigned lane)
     static const uint8_t no_tiles[1];
 
     check_read(p, (struct ref_result){.code = code, .lane = lane}, no_tiles);
+}
+
+/* ---- redrawing ---- */
+
+bool check_redrawn(const struct picture *p)
+{
+    uint8_t tiles[REF_TILES_MAX], scratch[REF_SCRATCH_MIN];
+    uint8_t strip[REF_STRIP_MAX];
+    char what[2 * HEX_TEXT + 160];
+
+    group_case();
+
+    const uint64_t read = zav_strip_read(p->strip, p->strip_len, p->marks,
+                                         p->marks_len, tiles, sizeof tiles,
+                                         scratch, sizeof scratch);
+
+    if (zav_code(read) != ZAV_DONE)
+        return false;
+
+    const size_t width = zav_width(read), height = zav_height(read);
+    const uint64_t written = zav_strip_write(width, height, zav_par(read),
+                                             tiles, width * height, strip,
+                                             sizeof strip);
+
+    describe(what, p);
+    check_number(zav_length(written), p->strip_len, what);
+    check_number(zav_mended(read), differing(p, strip, 0), what);
+    check_number(zav_repainted(read), differing(p, strip, 1), what);
+    return true;
 }

@@ -47,8 +47,19 @@ struct ref_result check_picture(const struct picture *p);
 
 /* The same where the test knows what must come out; the second implementation
    is not asked, as it takes long. */
+void check_counts(const struct picture *p, const struct board *b,
+                  unsigned mended, unsigned repainted);
+void check_refused(const struct picture *p, unsigned code, unsigned lane);
+
+/* Here the repainted cells are counted, against the board's strip. */
 void check_level(const struct picture *p, const struct board *b,
                  unsigned mended);
-void check_refused(const struct picture *p, unsigned code, unsigned lane);
+
+/*
+ * An editor's way, by the library alone: a level that is read is written again,
+ * and the two strips differ in as many unmarked and as many marked cells as was
+ * told, FORMAT 11.14. False if the picture is refused.
+ */
+bool check_redrawn(const struct picture *p);
 
 #endif

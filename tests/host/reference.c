@@ -254,12 +254,13 @@ static int count_marked(const uint8_t *marks, size_t len)
     return count;
 }
 
-static unsigned count_mended(const struct search *s)
+/* Cells with this mark in which the word read was another. */
+static unsigned count_changed(const struct search *s, uint8_t mark)
 {
     unsigned count = 0;
 
     for (size_t i = 0; i < s->len; i++)
-        if (!s->marks[i] && s->candidate[i] != s->word[i])
+        if (s->marks[i] == mark && s->candidate[i] != s->word[i])
             count++;
     return count;
 }
@@ -296,10 +297,11 @@ static struct ref_result repair(uint8_t *word, size_t len, const uint8_t *marks,
     find_places(&s);
     for (int wrong = 0; 2 * wrong + marked <= REF_REACH; wrong++) {
         if (find_clean(&s, wrong)) {
-            const unsigned mended = count_mended(&s);
+            const struct ref_result r = {.mended = count_changed(&s, 0),
+                                         .repainted = count_changed(&s, 1)};
 
             memcpy(word, s.candidate, len);
-            return (struct ref_result){.mended = mended};
+            return r;
         }
     }
     return refusal(6);

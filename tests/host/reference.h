@@ -26,6 +26,7 @@ enum {
 struct ref_result {
     unsigned code;
     unsigned mended;
+    unsigned repainted;
     unsigned length;
     unsigned lane;
     unsigned width, height, par;

@@ -100,7 +100,7 @@ static struct ref_result read_cells(const uint8_t *strip,
     const size_t word_len = len / REF_LANES;
     const size_t record_len = REF_LANES * (word_len - REF_CHECK_BYTES);
     uint8_t record[REF_RECORD_MAX];
-    unsigned mended = 0;
+    unsigned mended = 0, repainted = 0;
     lanes words, marks;
 
     deal(strip, len, words);
@@ -112,6 +112,7 @@ static struct ref_result read_cells(const uint8_t *strip,
         if (r.code != 0)
             return (struct ref_result){.code = 6, .lane = lane};
         mended += r.mended;
+        repainted += r.repainted;
     }
     collect(record, record_len, words);
 
@@ -121,6 +122,7 @@ static struct ref_result read_cells(const uint8_t *strip,
     if (level.code != 0)
         return level;
     level.mended = mended;
+    level.repainted = repainted;
     level.wear = 100 * mended / (unsigned)len;
     return level;
 }

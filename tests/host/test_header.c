@@ -13,13 +13,14 @@
    unpackers leave them out. */
 
 static const struct ref_result reader_set = {
-    .code = 31, .mended = 63, .lane = 15,
+    .code = 31, .mended = 63, .repainted = 127, .lane = 15,
     .width = 31, .height = 31, .par = 1023, .wear = 63};
 
 static struct ref_result draw_reader_result(void)
 {
     return (struct ref_result){.code = (unsigned)draw_below(32),
                                .mended = (unsigned)draw_below(64),
+                               .repainted = (unsigned)draw_below(128),
                                .lane = (unsigned)draw_below(16),
                                .width = (unsigned)draw_below(32),
                                .height = (unsigned)draw_below(32),
@@ -32,6 +33,7 @@ static void check_reader_result(struct ref_result r, uint64_t result)
     group_case();
     check_number(zav_code(result), r.code, "code");
     check_number(zav_mended(result), r.mended, "mended");
+    check_number(zav_repainted(result), r.repainted, "repainted");
     check_number(zav_lane(result), r.lane, "lane");
     check_number(zav_width(result), r.width, "width");
     check_number(zav_height(result), r.height, "height");

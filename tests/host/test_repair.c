@@ -264,11 +264,31 @@ static void test_single_changes(const struct repair *entry)
 
 /* ---- repair, where the written word says what must come out ---- */
 
+/* Marked cells with another byte than what was written. */
+static unsigned repainted_in(const struct sample *s,
+                             const struct sample *written)
+{
+    unsigned count = 0;
+
+    for (size_t i = 0; i < s->len; i++)
+        count += s->marks[i] && s->word[i] != written->word[i];
+    return count;
+}
+
+static void check_counts(const struct repair *entry, const struct sample *s,
+                         const struct sample *written, size_t wrong,
+                         size_t repainted)
+{
+    check_result(entry, s,
+                 (struct ref_result){.mended = (unsigned)wrong,
+                                     .repainted = (unsigned)repainted},
+                 written->word);
+}
+
 static void check_mended(const struct repair *entry, const struct sample *s,
                          const struct sample *written, size_t wrong)
 {
-    check_result(entry, s, (struct ref_result){.mended = (unsigned)wrong},
-                 written->word);
+    check_counts(entry, s, written, wrong, repainted_in(s, written));
 }
 
 static void check_pair(const struct repair *entry, const struct sample *written,
@@ -317,6 +337,83 @@ static void test_known_damage(const struct repair *entry)
 
         draw_damage(&s, wrong, marked, draw_under_mark());
         check_mended(entry, &s, &written, wrong);
+    }
+    group_end();
+}
+
+/* So many marked cells right and so many not, and others wrong. The right
+   ones are marked first, so that no wrong cell gets such a mark. */
+static void check_marked(const struct repair *entry, size_t len, size_t wrong,
+                         size_t right, size_t repainted)
+{
+    struct sample written, s;
+
+    draw_clean(&written, len);
+    s = written;
+    draw_damage(&s, 0, right, RIGHT_BYTE);
+    draw_damage(&s, wrong, repainted, WRONG_BYTE);
+    check_counts(entry, &s, &written, wrong, repainted);
+}
+
+static void test_repainted(const struct repair *entry)
+{
+    group_begin(entry->name, "so many marked cells right, so many repainted");
+    for (size_t wrong = 0; wrong <= 2; wrong++)
+        for (size_t marked = 0; 2 * wrong + marked <= REF_REACH; marked++)
+            for (size_t repainted = 0; repainted <= marked; repainted++)
+                for (size_t k = 0; k < scaled(200); k++)
+                    check_marked(entry, pick_length(entry, k), wrong,
+                                 marked - repainted, repainted);
+    group_end();
+}
+
+/* A clean word in which one cell is marked, as it was and changed. */
+static void test_single_marks(const struct repair *entry)
+{
+    const size_t len = entry->longest;
+    struct sample written, s;
+
+    group_begin(entry->name, "every cell marked by itself, right and wrong");
+    draw_clean(&written, len);
+    for (size_t cell = 0; cell < len; cell++) {
+        s = written;
+        s.marks[cell] = 1;
+        check_counts(entry, &s, &written, 0, 0);
+        s.word[cell] ^= draw_nonzero();
+        check_counts(entry, &s, &written, 0, 1);
+    }
+    group_end();
+}
+
+/* Other bytes under the marks. */
+static void redraw_marked(struct sample *s)
+{
+    for (size_t i = 0; i < s->len; i++)
+        if (s->marks[i])
+            s->word[i] = draw_byte();
+}
+
+/* The same answer but for repainted, and the same word: both are what was
+   written, or both are refused. */
+static void test_under_marks(const struct repair *entry)
+{
+    group_begin(entry->name, "other bytes under the same marks");
+    for (size_t k = 0; k < scaled(4000); k++) {
+        const size_t wrong = draw_below(3), most = 6 - 2 * wrong;
+        const size_t marked = draw_between(1, most);
+        struct sample written, s;
+
+        draw_clean(&written, pick_length(entry, k));
+        s = written;
+        draw_damage(&s, wrong, marked, draw_under_mark());
+        for (int twice = 0; twice < 2; twice++) {
+            if (marked < most)
+                check_mended(entry, &s, &written, wrong);
+            else
+                check_result(entry, &s, (struct ref_result){.code = 6},
+                             s.word);
+            redraw_marked(&s);
+        }
     }
     group_end();
 }
@@ -467,6 +564,9 @@ void test_repair(const struct repair *entry)
     test_single_changes(entry);
     test_every_pair(entry);
     test_known_damage(entry);
+    test_repainted(entry);
+    test_single_marks(entry);
+    test_under_marks(entry);
     test_known_refusals(entry);
     test_repair_lengths(entry);
     test_marks_lengths(entry);

@@ -95,7 +95,7 @@ static void test_lengths_without_levels(void)
     group_end();
 }
 
-/* ---- the examples of FORMAT 9 and 12.6 ---- */
+/* ---- the examples of FORMAT 9, 12.6 and 12.12 ---- */
 
 static void expect(const struct picture *p, struct ref_result result)
 {
@@ -110,10 +110,15 @@ static void test_worked_strip(void)
                             .scratch_len = REF_SCRATCH_MIN};
     struct picture p;
 
-    group_begin(reader.name, "the strip of FORMAT, and its refusals");
+    group_begin(reader.name, "the strip of FORMAT, mended and refused");
     memcpy(whole.strip, writers[STRIP_WRITER].worked,
            writers[STRIP_WRITER].worked_len);
     expect(&whole, (struct ref_result){.width = 2, .height = 1, .par = 5});
+    p = whole;
+    p.strip[4] = p.strip[5] = 0;
+    p.marks[5] = p.marks[6] = 1;
+    expect(&p, (struct ref_result){.width = 2, .height = 1, .par = 5,
+                                   .mended = 1, .repainted = 1, .wear = 4});
     p = whole;
     p.strip_len = 26;
     expect(&p, (struct ref_result){.code = 1});

@@ -165,7 +165,118 @@ static void test_five_marks(void)
         for (size_t lane = 0; lane < REF_LANES; lane++)
             damage_lane(&p, lane, 0, 5, under);
         check_level(&p, &b, 0);
+        if (under != ANY_BYTE)
+            check_counts(&p, &b, 0, under == WRONG_BYTE ? 5 * REF_LANES : 0);
     }
+    group_end();
+}
+
+/* Damage within reach: so many marked cells right, so many not, others wrong.
+   The right ones are marked first, so that no wrong cell gets such a mark. */
+static void mark_lane(struct picture *p, size_t lane, size_t wrong,
+                      size_t right, size_t repainted)
+{
+    damage_lane(p, lane, 0, right, RIGHT_BYTE);
+    damage_lane(p, lane, wrong, repainted, WRONG_BYTE);
+}
+
+static void test_repainted_in_a_lane(void)
+{
+    struct picture p;
+    struct board b;
+
+    group_begin(subject, "so many marked cells right and wrong, in each lane");
+    for (size_t lane = 0; lane < REF_LANES; lane++)
+        for (size_t wrong = 0; wrong <= 2; wrong++)
+            for (size_t marked = 0; 2 * wrong + marked <= REF_REACH; marked++)
+                for (size_t repainted = 0; repainted <= marked; repainted++)
+                    for (size_t k = 0; k < scaled(20); k++) {
+                        picture_any_level(&p, &b);
+                        mark_lane(&p, lane, wrong, marked - repainted,
+                                  repainted);
+                        check_counts(&p, &b, (unsigned)wrong,
+                                     (unsigned)repainted);
+                    }
+    group_end();
+}
+
+/* Every sum there is: 0 to 20, at every length of a level. */
+static void check_repainted(size_t k, unsigned repainted)
+{
+    const size_t first = draw_below(REF_LANES);
+    unsigned mended = 0;
+    struct picture p;
+    struct board b;
+
+    if (!draw_level_for(&b, REF_LANES * k, REF_LANES))
+        return;
+    picture_board(&p, &b);
+    for (size_t lane = 0; lane < REF_LANES; lane++) {
+        const size_t here = repainted / REF_LANES +
+                            (lane < repainted % REF_LANES);
+        const size_t wrong = draw_below((REF_REACH - here) / 2 + 1);
+
+        mark_lane(&p, (first + lane) % REF_LANES, wrong,
+                  draw_below(REF_REACH - here - 2 * wrong + 1), here);
+        mended += (unsigned)wrong;
+    }
+    check_counts(&p, &b, mended, repainted);
+}
+
+static void test_repainted(void)
+{
+    group_begin(subject, "0 to 20 repainted cells at every length of a level");
+    for (size_t k = 1; k <= REF_K_MAX; k++)
+        for (unsigned repainted = 0; repainted <= 5 * REF_LANES; repainted++)
+            check_repainted(k, repainted);
+    group_end();
+}
+
+/* Data that is refused with this code, 7 to 10: a level's, with one slip.
+   Returns k. */
+static size_t draw_refused(uint8_t data[REF_RECORD_MAX], unsigned code)
+{
+    struct board b;
+
+    do
+        draw_any_level(&b);
+    while (3 * b.tiles_len % 8 == 0); /* it has a filling bit */
+    if (code == 9)
+        b.tiles[draw_below(b.tiles_len)] = 7;
+    if (code == 10)
+        memset(b.tiles, (int)draw_below(2), b.tiles_len);
+    memset(data, 0, REF_RECORD_MAX);
+
+    const size_t len = record_of(&b, data);
+
+    if (code == 7)
+        data[0] ^= 0x10;
+    if (code == 8)
+        data[len - 1] ^= 1;
+    return ref_k_of(len);
+}
+
+/* Marked cells are put right before 7 to 10 are asked, and not told then. */
+static void test_refused_repainted(void)
+{
+    uint8_t data[REF_RECORD_MAX];
+    struct picture p;
+
+    group_begin(subject, "refusals 7 to 10 with wrong cells under marks");
+    for (unsigned code = 7; code <= 10; code++)
+        for (size_t k = 0; k < scaled(400); k++) {
+            const size_t columns = draw_refused(data, code);
+
+            picture_data(&p, data, columns);
+            for (size_t lane = 0; lane < REF_LANES; lane++) {
+                const size_t wrong = draw_below(3);
+
+                damage_lane(&p, lane, wrong,
+                            draw_between(1, REF_REACH - 2 * wrong),
+                            WRONG_BYTE);
+            }
+            check_refused(&p, code, 0);
+        }
     group_end();
 }
 
@@ -188,24 +299,32 @@ static void test_marked_runs(void)
     group_end();
 }
 
-/* What stands under the marks changes nothing, whatever the answer. */
+static uint64_t packed_but_repainted(struct ref_result r)
+{
+    r.repainted = 0;
+    return packed(r);
+}
+
+/* What stands under the marks changes repainted, and nothing else, whatever
+   the answer. */
 static void test_under_marks(void)
 {
     struct picture p;
     struct board b;
 
-    group_begin(subject, "other bytes under the same marks, the same answer");
+    group_begin(subject, "other bytes under the same marks");
     for (size_t k = 0; k < scaled(300); k++) {
         picture_any_level(&p, &b);
         for (size_t lane = 0; lane < REF_LANES; lane++)
             damage_lane(&p, lane, draw_below(3), draw_below(4), ANY_BYTE);
 
-        const uint64_t first = packed(check_picture(&p));
+        const uint64_t first = packed_but_repainted(check_picture(&p));
 
         for (size_t i = 0; i < p.strip_len; i++)
             if (p.marks[i])
                 p.strip[i] = draw_byte();
-        check_number(packed(check_picture(&p)), first, "reference");
+        check_number(packed_but_repainted(check_picture(&p)), first,
+                     "reference");
     }
     group_end();
 }
@@ -277,11 +396,12 @@ static void test_single_cells(void)
             const uint8_t right = p.strip[cell];
 
             p.strip[cell] ^= draw_nonzero();
-            check_level(&p, &b, 1);
+            check_counts(&p, &b, 1, 0);
             p.marks[cell] = 1;
-            check_level(&p, &b, 0);
-            p.marks[cell] = 0;
+            check_counts(&p, &b, 0, 1);
             p.strip[cell] = right;
+            check_counts(&p, &b, 0, 0);
+            p.marks[cell] = 0;
         }
     }
     group_end();
@@ -297,6 +417,9 @@ void test_strip_damage(void)
     test_lowest_lane();
     test_marked_lanes();
     test_five_marks();
+    test_repainted_in_a_lane();
+    test_repainted();
+    test_refused_repainted();
     test_marked_runs();
     test_under_marks();
     test_wear();

@@ -15,18 +15,19 @@ static void print(uint64_t result)
 
 static void print_repairs(void)
 {
-    static const uint8_t marks[6];
+    static const uint8_t marks[6], fourth[6] = {0, 0, 0, 1};
     uint8_t word[6] = {0x00, 0xCE, 0xE6}, other[6] = {0x01, 0xCE, 0xE6};
+    uint8_t covered[6] = {0x01, 0xCE, 0xE6, 0xFF, 0xCE, 0x01};
 
     print(zav_word_repair(word, sizeof word, marks, sizeof marks));
     print(zav_word_repair(other, sizeof other, marks, sizeof marks));
+    print(zav_word_repair(covered, sizeof covered, fourth, sizeof fourth));
 }
 
-/* The strip as it was written, with these cells changed. */
+/* The strip as it was written, with these cells changed and these marks. */
 static void print_read(const uint8_t *strip, size_t len, const size_t *wrong,
-                       size_t count, size_t marks_len)
+                       size_t count, const uint8_t *marks, size_t marks_len)
 {
-    static const uint8_t marks[ZAV_STRIP_MAX];
     static uint8_t tiles[ZAV_TILES_MAX], scratch[ZAV_SCRATCH_MIN];
     uint8_t read[ZAV_STRIP_MAX];
 
@@ -40,7 +41,8 @@ static void print_read(const uint8_t *strip, size_t len, const size_t *wrong,
 int main(void)
 {
     static const uint8_t level[] = {4, 5};
-    static const size_t first[] = {0}, three[] = {2, 6, 10};
+    static const size_t front[] = {0, 1}, three[] = {2, 6, 10};
+    static const uint8_t none[ZAV_STRIP_MAX], two[ZAV_STRIP_MAX] = {0, 1, 1};
     uint8_t bytes[ZAV_TEXT_MAX], tiles[ZAV_TILES_MAX];
     uint64_t written;
 
@@ -53,9 +55,10 @@ int main(void)
 
     const size_t len = zav_length(written);
 
-    print_read(bytes, len, first, 0, len);
-    print_read(bytes, len, first, 1, len);
-    print_read(bytes, len, three, 3, len);
-    print_read(bytes, len, first, 0, len - 1);
+    print_read(bytes, len, front, 0, none, len);
+    print_read(bytes, len, front, 1, none, len);
+    print_read(bytes, len, front, 2, two, len);
+    print_read(bytes, len, three, 3, none, len);
+    print_read(bytes, len, front, 0, none, len - 1);
     return 0;
 }

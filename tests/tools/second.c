@@ -2,7 +2,8 @@
  * second.c - what the tools must say, from the second implementation.
  *
  * second show FILE prints what zavshow must print, and ends as it must; second
- * text FILE the same for zavshow --text, and second make FILE for zavmake.
+ * text FILE the same for zavshow --text, second strip FILE for zavshow --strip,
+ * and second make FILE for zavmake.
  * second draw FOLDER COUNT writes so many files for zavshow and zavscan to
  * read, and second type FOLDER COUNT so many texts for zavmake.
  */
@@ -80,21 +81,61 @@ static struct ref_result judge(const uint8_t *bytes, size_t len, uint8_t *tiles)
                           REF_TILES_MAX, REF_SCRATCH_MIN);
 }
 
+static int refuse(struct ref_result r)
+{
+    printf("refused %u lane %u: %s\n", r.code, r.lane, words[r.code]);
+    return 1;
+}
+
 static int show(const char *path)
 {
     uint8_t bytes[BYTES_ROOM], tiles[REF_TILES_MAX];
     const size_t len = take(path, bytes, sizeof bytes);
     const struct ref_result r = judge(bytes, len, tiles);
 
-    if (r.code != 0) {
-        printf("refused %u lane %u: %s\n", r.code, r.lane, words[r.code]);
-        return 1;
-    }
+    if (r.code != 0)
+        return refuse(r);
     for (size_t i = 0; i < (size_t)r.width * r.height; i++)
         printf("%c%s", letter_of(tiles[i]),
                (i + 1) % r.width == 0 ? "\n" : "");
-    printf("width %u, height %u, par %u, mended %u, wear %u\n", r.width,
-           r.height, r.par, r.mended, r.wear);
+    printf("width %u, height %u, par %u, mended %u, repainted %u, wear %u\n",
+           r.width, r.height, r.par, r.mended, r.repainted, r.wear);
+    return 0;
+}
+
+/* By mark, and by whether the cell was wrong. */
+static const char signs[2][2] = {{' ', '*'}, {'=', '+'}};
+
+/* The cells as they come, each put down in the row of its lane; rows are
+   printed when they are full, or the strip is at its end. The cells are
+   counted here, and not by the reader. */
+static int show_strip(const char *path)
+{
+    uint8_t bytes[BYTES_ROOM], tiles[REF_TILES_MAX], strip[REF_STRIP_MAX];
+    const size_t len = take(path, bytes, sizeof bytes), cells = len / 2;
+    const struct ref_result r = judge(bytes, len, tiles);
+    char rows[REF_LANES][16 * 4 + 1];
+    size_t counts[2][2] = {{0}};
+
+    if (r.code != 0)
+        return refuse(r);
+    ref_strip_write(r.width, r.height, r.par, tiles,
+                    (size_t)r.width * r.height, strip, sizeof strip);
+    for (size_t p = 0; p < cells; p++) {
+        const size_t marked = bytes[cells + p], wrong = strip[p] != bytes[p];
+
+        if (p % 64 == 0)
+            printf("cells %zu to %zu\n", p, p + 64 < cells ? p + 63
+                                                          : cells - 1);
+        sprintf(rows[p % 4] + p % 64 / 4 * 4, " %c%02X",
+                signs[marked][wrong], strip[p]);
+        counts[marked][wrong]++;
+        if (p % 64 == 63 || p + 1 == cells)
+            for (int lane = 0; lane < REF_LANES; lane++)
+                printf("lane %d%s\n", lane, rows[lane]);
+    }
+    printf("* mended %zu, + repainted %zu, = marked and right %zu\n",
+           counts[0][1], counts[1][1], counts[1][0]);
     return 0;
 }
 
@@ -178,8 +219,13 @@ static void damage(struct file *f)
 
     for (size_t wrong = draw_below(7); wrong > 0; wrong--)
         f->bytes[draw_below(cells)] = draw_byte();
-    for (size_t marked = draw_below(7); marked > 0; marked--)
-        f->bytes[cells + draw_below(cells)] = 1;
+    for (size_t marked = draw_below(7); marked > 0; marked--) {
+        const size_t cell = draw_below(cells);
+
+        f->bytes[cells + cell] = 1;
+        if (draw_below(2))
+            f->bytes[cell] = draw_byte();
+    }
     if (draw_below(12) == 0)
         f->bytes[cells + draw_below(cells)] = draw_byte();
     if (draw_below(12) == 0)
@@ -212,13 +258,14 @@ int main(int argc, char **argv)
     static const struct {
         const char *name;
         int (*say)(const char *path);
-    } sayings[] = {{"show", show}, {"text", show_text}, {"make", make}};
+    } sayings[] = {{"show", show}, {"text", show_text},
+                   {"strip", show_strip}, {"make", make}};
     static const struct {
         const char *name;
         int (*draw)(const char *folder, size_t number);
     } drawings[] = {{"draw", draw_file}, {"type", type_file}};
 
-    for (size_t i = 0; i < 3; i++)
+    for (size_t i = 0; i < 4; i++)
         if (argc == 3 && strcmp(argv[1], sayings[i].name) == 0)
             return sayings[i].say(argv[2]);
     for (size_t i = 0; i < 2; i++)

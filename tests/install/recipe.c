@@ -1,0 +1,80 @@
+/*
+ * recipe.c - the lines of docs/C-INTERFACE.md that draw a mended strip, tried
+ * on the level of FORMAT 12.5. recipe.h has them as they stand on the page.
+ */
+#include "recipe.h"
+
+#include <stdio.h>
+#include <string.h>
+
+enum { LEN = 24 };
+
+static uint8_t written[ZAV_STRIP_MAX], strip[LEN], marks[LEN];
+static char changed[LEN];
+
+/* How many cells the recipe gave this sign. */
+static unsigned count(char sign)
+{
+    unsigned n = 0;
+
+    for (size_t p = 0; p < LEN; p++)
+        n += changed[p] == sign;
+    return n;
+}
+
+static uint64_t read_strip(void)
+{
+    static uint8_t tiles[ZAV_TILES_MAX], scratch[ZAV_SCRATCH_MIN];
+
+    return zav_strip_read(strip, LEN, marks, LEN, tiles, sizeof tiles, scratch,
+                          sizeof scratch);
+}
+
+/* Cells 0, 1 and 7 are wrong, and the last two of them marked; cell 2 is marked
+ * and right. */
+static bool draws(void)
+{
+    static const char expected[LEN] = {'m', 'r', 0, 0, 0, 0, 0, 'r'};
+
+    strip[0] ^= 1;
+    strip[1] ^= 1;
+    strip[7] ^= 1;
+    marks[1] = marks[2] = marks[7] = 1;
+
+    const uint64_t told = read_strip();
+
+    return redraw(strip, LEN, marks, changed) &&
+           memcmp(strip, written, LEN) == 0 &&
+           memcmp(changed, expected, LEN) == 0 &&
+           count('m') == zav_mended(told) && count('r') == zav_repainted(told);
+}
+
+/* Three wrong cells in lane 3: refused, and the strip stays. */
+static bool refuses(void)
+{
+    uint8_t before[LEN];
+
+    memset(marks, 0, LEN);
+    for (size_t p = 3; p <= 11; p += 4)
+        strip[p] ^= 1;
+    memcpy(before, strip, LEN);
+    return !redraw(strip, LEN, marks, changed) &&
+           memcmp(strip, before, LEN) == 0;
+}
+
+int main(void)
+{
+    static const uint8_t level[] = {4, 5};
+
+    zav_strip_write(2, 1, 5, level, sizeof level, written, sizeof written);
+    memcpy(strip, written, LEN);
+    if (!draws()) {
+        puts("the mended strip or its counts are not as they ought to be");
+        return 1;
+    }
+    if (!refuses()) {
+        puts("a strip beyond reach is drawn");
+        return 1;
+    }
+    return 0;
+}

@@ -95,7 +95,7 @@ static void test_lengths_without_levels(void)
     group_end();
 }
 
-/* ---- the examples of FORMAT 9, 12.6 and 12.12 ---- */
+/* ---- the examples of FORMAT 9, 12.6 and 12.11 ---- */
 
 static void expect(const struct picture *p, struct ref_result result)
 {

@@ -181,11 +181,20 @@ cells = (
                 (
                   (clean1, record { same-length = refl; few = omega arith }, refl, refl),
                   (
-                    (clean2, record { same-length = refl; few = omega arith }, refl, refl),
+                    (clean1, record { same-length = refl; few = omega arith }, refl, refl),
                     (
-                      at-six ones (0x02 ∷ 0 ∷ 0 ∷ 0 ∷ 0 ∷ 0 ∷ []) (0x02 ∷ 0x81 ∷ 0xD1 ∷ 0xD1 ∷ 0x81 ∷ 0x02 ∷ []) (omega arith)
-                          (bytes-of (0x02 ∷ 0x81 ∷ 0xD1 ∷ 0xD1 ∷ 0x81 ∷ 0x02 ∷ []) tt) clean2 refl refl,
-                      ((clean3, record { same-length = refl; few = omega arith }, refl, refl), (outside, ((is-level, is-record, is-strip), tt))),
+                      (clean1, record { same-length = refl; few = omega arith }, refl, refl),
+                      (
+                        (clean2, record { same-length = refl; few = omega arith }, refl, refl),
+                        (
+                          (clean2, record { same-length = refl; few = omega arith }, refl, refl),
+                          (
+                            at-six ones (0x02 ∷ 0 ∷ 0 ∷ 0 ∷ 0 ∷ 0 ∷ []) (0x02 ∷ 0x81 ∷ 0xD1 ∷ 0xD1 ∷ 0x81 ∷ 0x02 ∷ []) (omega arith)
+                                (bytes-of (0x02 ∷ 0x81 ∷ 0xD1 ∷ 0xD1 ∷ 0x81 ∷ 0x02 ∷ []) tt) clean2 refl refl,
+                            ((clean3, record { same-length = refl; few = omega arith }, refl, refl), (outside, ((is-level, is-record, is-strip), tt))),
+                          ),
+                        ),
+                      ),
                     ),
                   ),
                 ),

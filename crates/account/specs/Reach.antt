@@ -36,11 +36,11 @@ isRead marks p = not (isMarked marks p)
 abbrev pub differs : List ℕ → List ℕ → ℕ → Bool
 differs r w p = not (eqb (getD w p 0) (getD r p 0))
 
--- and the cell is not marked
+-- and the cell is read
 abbrev pub differsAt : List ℕ → List ℕ → List ℕ → ℕ → Bool
 differsAt marks r w p = and (isRead marks p) (differs r w p)
 
--- or it is: it was painted over
+-- or it is marked
 abbrev pub repaintedAt : List ℕ → List ℕ → List ℕ → ℕ → Bool
 repaintedAt marks r w p = and (isMarked marks p) (differs r w p)
 

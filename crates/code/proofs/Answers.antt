@@ -89,7 +89,7 @@ module _ (most n m : ℕ) (marks r s v w : List ℕ) (a b : Repaired) (same : Sa
   pub one-mended : repairedNumbers a .mended ≡ repairedNumbers b .mended
   one-mended =
       either (repairedNumbers a .mended ≡ repairedNumbers b .mended) (repairedNumbers a .code)
-      (λ z. A .mended z ∙ ap (differing marks r) (one-word z) ∙ theorems.same-differing marks r s w same ∙ sym (B .mended (sym one-code ∙ z)))
+      (λ z. A .mended-is z ∙ ap (differing marks r) (one-word z) ∙ theorems.same-differing marks r s w same ∙ sym (B .mended-is (sym one-code ∙ z)))
       (λ n. repaired-zero a n .0 ∙ sym (repaired-zero b (λ z. n (one-code ∙ z)) .0))
 
 -- two repairs of one word

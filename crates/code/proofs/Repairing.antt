@@ -101,7 +101,7 @@ refuses O most n m marks r c k f = record {
   cells = λ z. absurd (k z);
   clean = λ z. absurd (k z);
   reach = λ z. absurd (k z);
-  mended = λ z. absurd (k z);
+  mended-is = λ z. absurd (k z);
   repainted-is = λ z. absurd (k z);
   kept = λ _. refl;
 }
@@ -116,7 +116,7 @@ repairs-alike O most most' n n' m m' marks r w a e A = record {
   cells = A .cells;
   clean = A .clean;
   reach = A .reach;
-  mended = A .mended;
+  mended-is = A .mended-is;
   repainted-is = A .repainted-is;
   kept = A .kept;
 }
@@ -152,7 +152,7 @@ module _ (marks r : List ℕ) where
     cells = λ _. mended .2;
     clean = λ _. mended .0;
     reach = λ _. mended .1;
-    mended = λ _. counts .0;
+    mended-is = λ _. counts .0;
     repainted-is = λ _. counts .1;
     kept = λ n. absurd (n refl);
   }

@@ -45,7 +45,7 @@ pub record Repairs (O : Ops) (most n m : ℕ) (marks old new : List ℕ) (a : Re
   pub cells : repairedNumbers a .code ≡ 0 → Cells O new
   pub clean : repairedNumbers a .code ≡ 0 → Clean O new
   pub reach : repairedNumbers a .code ≡ 0 → Reach marks old new
-  pub mended : repairedNumbers a .code ≡ 0 → repairedNumbers a .mended ≡ differing marks old new
+  pub mended-is : repairedNumbers a .code ≡ 0 → repairedNumbers a .mended ≡ differing marks old new
   pub repainted-is : repairedNumbers a .code ≡ 0 → repairedNumbers a .repainted ≡ repainted marks old new
   pub kept : repairedNumbers a .code ≢ 0 → new ≡ old
 

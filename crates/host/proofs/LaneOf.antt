@@ -44,7 +44,7 @@ none marks old c r n f e = record {
     cells = λ z. absurd (n z);
     clean = λ z. absurd (n z);
     reach = λ z. absurd (n z);
-    mended = λ z. absurd (n z);
+    mended-is = λ z. absurd (n z);
     repainted-is = λ z. absurd (n z);
     kept = λ _. refl;
   };

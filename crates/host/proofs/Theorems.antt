@@ -81,7 +81,7 @@ word-repair-told most marks old new r E =
     ap unpackedRepair (E .is)
     ∙ back-repair (repairedNumbers (E .answer))
     (few (repairing gf256 most (length old) (length marks) marks old) (repairedNumbers (E .answer) .code) tt (E .kept .code))
-    (either (repairedNumbers (E .answer) .mended < 64) (repairedNumbers (E .answer) .code) (λ z. omega (arith, E .kept .mended z, E .kept .reach z .few))
+    (either (repairedNumbers (E .answer) .mended < 64) (repairedNumbers (E .answer) .code) (λ z. omega (arith, E .kept .mended-is z, E .kept .reach z .few))
     (λ n. omega (arith, repaired-zero (E .answer) n .0)))
     (omega (arith, repainted-few gf256 most (length old) (length marks) marks old new (E .answer) (E .kept)))
 

@@ -164,3 +164,8 @@ pub erratum-below : (n : ℕ) (e : Errata) → ErrataFor n e → (i : ℕ) → i
 erratum-below n e F i l =
     subst (λ (x : ℕ). x < n) (getD-take (e .count) (e .cells) i 0 l)
     (below-at (cellsOf e) n i (F .below) (omega (arith, length-take-le (e .count) (e .cells) (omega (arith, F .few, F .room)))))
+
+-- and of a lane's errata one of the strip
+pub erratum-inside : (R : ℕ) (marks : List ℕ) (l : ℕ) (e : Errata) → l < R → ErrataFor (length marks / R) e → (i : ℕ) → i < e .count
+    → R * getD (e .cells) i 0 + l < length marks
+erratum-inside R marks l e hl F i h = lane-inside R marks l (getD (e .cells) i 0) hl (erratum-below (length marks / R) e F i h)

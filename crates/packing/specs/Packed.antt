@@ -6,13 +6,9 @@ use Rattle.rules.specs.Refusal.{Numbers}
 use Rattle.code.specs.Repair.{RepairNumbers}
 use Rattle.level.specs.Reading.{ReadNumbers}
 
--- the code in bits 0 to 4, and a value below m from bit k on
-abbrev pub packedAt : ℕ → ℕ → ℕ → ℕ → ℕ
-packedAt k m code value = code % 32 + value % m * 2 ^ k
-
--- a length, or whether a word is clean: bits 48 to 63
+-- code in bits 0 to 4, and a length, or whether a word is clean, in bits 48 to 63
 abbrev pub packedLength : Numbers → ℕ
-packedLength a = packedAt 48 65536 (a .code) (a .value)
+packedLength n = n .code % 32 + n .value % 65536 * 2 ^ 48
 
 -- a reader's numbers: code in bits 0 to 4, lane from 5, width from 11, height from 16, par from 21, mended from 31, repainted from 37, wear from 44
 abbrev pub packedRead : ReadNumbers → ℕ

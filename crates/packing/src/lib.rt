@@ -4,7 +4,7 @@ ghost use Rattle.code.specs.Word.{writtenNumbers, testedNumbers};
 ghost use Rattle.code.specs.Repair.{repairedNumbers};
 ghost use Rattle.record.specs.Reading.{recordNumbers};
 ghost use Rattle.strip.specs.Reading.{stripNumbers};
-ghost use Rattle.packing.specs.Packed.{packedAt, packedLength, packedRead, packedRepair};
+ghost use Rattle.packing.specs.Packed.{packedLength, packedRead, packedRepair};
 use code::repair::Repaired;
 use code::word::Tested;
 use code::word::Written;
@@ -13,7 +13,7 @@ use strip::read::Reading;
 
 // A code in the lowest five bits, and a value from bit 48 on.
 fn pack_length(code: u8, value: usize) -> u64
-    ensures { λ r. ⌜ r ≡ packedAt 48 65536 code value ⌝ }
+    ensures { λ r. ⌜ r ≡ packedLength record { code = code; value = value } ⌝ }
 {
     (code % 32) as u64 + ((value % 65536) as u64) * 281474976710656
 }

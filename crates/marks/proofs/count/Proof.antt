@@ -6,7 +6,7 @@ use lib.ListN.{length, getD}
 use lib.Seq.{slice, length-slice}
 use Rattle.account.specs.Lanes.{lane}
 use Rattle.marks.specs.Marks.{CountsAll}
-use Rattle.marks.proofs.Counting.{lane-inside, lane-counts, counts-start, counts-more, counts-few, erratum-below}
+use Rattle.marks.proofs.Counting.{lane-counts, counts-start, counts-more, counts-few, erratum-below, erratum-inside}
 use Rattle.marks.proofs.count.Statement.{statement}
 use Rattle.marks.proofs.count.Tie as tie
 
@@ -35,24 +35,14 @@ mul-count-one-2 c =
     let a = c .before .before .before .before .before .args in
     let p = c .before .before .before .before .before .pre in
     let l = c .before .loop in
-    omega (
-      arith,
-      p .2,
-      lane-inside (a .lanes) (a .marks .now) (a .l) (getD (a .e .cells) (l .i - 1) 0) (p .1) (erratum-below (length (a .marks .now) / a .lanes) (a .e) (p .0)
-          (l .i - 1) (omega arith)),
-    )
+    omega (arith, p .2, erratum-inside (a .lanes) (a .marks .now) (a .l) (a .e) (p .1) (p .0) (l .i - 1) (omega arith))
 
 add-count-one : tie.Need-add-count-one Inv-loop μ-loop
 add-count-one c =
     let a = c .before .before .before .before .before .args in
     let p = c .before .before .before .before .before .pre in
     let l = c .before .loop in
-    omega (
-      arith,
-      p .2,
-      lane-inside (a .lanes) (a .marks .now) (a .l) (getD (a .e .cells) (l .i - 1) 0) (p .1) (erratum-below (length (a .marks .now) / a .lanes) (a .e) (p .0)
-          (l .i - 1) (omega arith)),
-    )
+    omega (arith, p .2, erratum-inside (a .lanes) (a .marks .now) (a .l) (a .e) (p .1) (p .0) (l .i - 1) (omega arith))
 
 array-read-count-one-2 : tie.Need-array-read-count-one-2 Inv-loop μ-loop
 array-read-count-one-2 c = omega (arith, c .before .before .before .before .before .pre .0 .few)
@@ -65,8 +55,7 @@ count-one-requires c κs =
     let s = slice (l .i) (a .e .count) (a .e .cells) in
     let f = counts-few (lane (a .lanes) (a .l) (a .marks .now)) s (slice (l .i) (a .e .count) (a .e .values)) (l .c) (l .inv .1) in
     let n : length s ≤ 5 = omega (arith, length-slice (l .i) (a .e .count) (a .e .cells) (omega (arith, p .0 .few, p .0 .room)), p .0 .few) in (
-      lane-inside (a .lanes) (a .marks .now) (a .l) (getD (a .e .cells) (l .i - 1) 0) (p .1) (erratum-below (length (a .marks .now) / a .lanes) (a .e) (p .0)
-          (l .i - 1) (omega arith)),
+      erratum-inside (a .lanes) (a .marks .now) (a .l) (a .e) (p .1) (p .0) (l .i - 1) (omega arith),
       omega (arith, f .0),
       omega (arith, f .1),
     )

@@ -1,7 +1,7 @@
 -- Errata applied, from the last cell down.
 use mathlib.Core.Path.{_≡_, refl, sym, ap, _∙_, subst}
 use mathlib.Core.List.{List, _∷_}
-use Prim.Native.Nat.{ℕ, _-_, _≤_, _<_}
+use Prim.Native.Nat.{ℕ, _+_, _-_, _≤_, _<_}
 use native.Mathlib.Decide.{ℕ-discrete}
 use native.Mathlib.Omega.{arith}
 use lib.Bits.{bitXor}
@@ -12,7 +12,14 @@ use Rattle.account.proofs.Laws as laws
 use Rattle.account.proofs.Solve.{only-here, only-off}
 use Rattle.gf256.specs.Gf256.{gf256}
 use Rattle.gf256.proofs.Field256.{field256}
-use Rattle.marks.proofs.Counting.{before}
+use Rattle.values.proofs.Values.{from}
+
+-- one cell more in front
+before : (xs : List ℕ) (k i : ℕ) → 0 < i → i ≤ k → k ≤ length xs → slice (i - 1) k xs ≡ getD xs (i - 1) 0 ∷ slice i k xs
+before xs k i h l e = from (i - 1) k xs (omega arith) e ∙ ap (λ (j : ℕ). getD xs (i - 1) 0 ∷ slice j k xs) back
+  where
+    back : i - 1 + 1 ≡ i
+    back = omega arith
 
 pub apply-starts : (cells values r : List ℕ) (k : ℕ) → Applied gf256 (slice k k cells) (slice k k values) r r
 apply-starts cells values r k =

@@ -1,17 +1,14 @@
--- One erratum more, at the end: what is added, and what is counted.
+-- One erratum more, at the end: what is added.
 use mathlib.Core.Path.{_≡_, refl, sym, ap, ap₂, _∙_, subst}
 use mathlib.Core.Logic.{_≢_}
-use mathlib.Core.Bool.{Bool, not}
 use mathlib.Core.List.{List, [], _∷_, _++_}
 use Prim.Native.Nat.{ℕ, zero, suc, _+_, _≤_, _<_}
 use native.Mathlib.Decide.{ℕ-discrete}
 use native.Mathlib.Omega.{arith}
 use lib.Bits.{bitXor}
-use lib.Dec.{eqb}
 use lib.ListN.{length, getD, take, set, length-set}
 use lib.Seq.{getD-set-same, getD-set-other, length-take-le}
 use Rattle.account.specs.Errata.{Outside, Distinct, added, only, Applied}
-use Rattle.account.specs.Reach.{isMarked, isRead, oneIf, and}
 use Rattle.account.proofs.Laws as laws
 use Rattle.account.proofs.Solve as solve
 use Rattle.account.proofs.Solve.{only-here, only-off}
@@ -19,8 +16,6 @@ use Rattle.gf256.specs.Gf256.{gf256}
 use Rattle.gf256.proofs.Field256.{field256}
 use Rattle.values.specs.declared.Errata.{Errata}
 use Rattle.errata.specs.Errata.{ErrataFor}
-use Rattle.marks.specs.declared.Counts.{Counts}
-use Rattle.marks.specs.Marks.{countedOf, CountsOne, CountsAll}
 
 added-last : (ps vs : List ℕ) (p v j : ℕ) → length vs ≡ length ps → added gf256 (ps ++ p ∷ []) (vs ++ v ∷ []) j ≡ bitXor (added gf256 ps vs j) (only p v j)
 added-last [] [] p v j e = field256 .add-comm (only p v j) 0
@@ -68,31 +63,3 @@ applied-last ps vs r w p v e o h A = record {
     at j l (no n) =
         getD-set-other w p j b 0 n ∙ A .cell j l
         ∙ ap (bitXor (getD r j 0)) (sym (ap (bitXor (added gf256 ps vs j)) (only-off p v j n) ∙ field256 .add-zero (added gf256 ps vs j)))
-
-counted-last : (f : ℕ → Bool) (ps vs : List ℕ) (p v : ℕ) → length vs ≡ length ps
-    → countedOf f (ps ++ p ∷ []) (vs ++ v ∷ []) ≡ countedOf f ps vs + oneIf (and (f p) (not (eqb v 0)))
-counted-last f [] [] p v e = swap (oneIf (and (f p) (not (eqb v 0))))
-  where
-    swap : (a : ℕ) → a + 0 ≡ 0 + a
-    swap a = omega arith
-counted-last f [] (w ∷ vs) p v e = absurd (omega arith)
-counted-last f (q ∷ ps) [] p v e = absurd (omega arith)
-counted-last f (q ∷ ps) (w ∷ vs) p v e =
-    ap (λ (x : ℕ). one q w + x) (counted-last f ps vs p v (omega arith)) ∙ again (one q w) (countedOf f ps vs) (one p v)
-  where
-    one : ℕ → ℕ → ℕ
-    one i x = oneIf (and (f i) (not (eqb x 0)))
-
-    again : (a b c : ℕ) → a + (b + c) ≡ a + b + c
-    again a b c = omega arith
-
-pub counts-last : (marks ps vs : List ℕ) (p v : ℕ) (c r : Counts) → length vs ≡ length ps → CountsAll marks ps vs c → CountsOne marks p v c r
-    → CountsAll marks (ps ++ p ∷ []) (vs ++ v ∷ []) r
-counts-last marks ps vs p v c r e C D = record {
-  mended = last (isRead marks) (c .mended) (r .mended) (C .mended) (D .mended);
-  repainted = last (isMarked marks) (c .repainted) (r .repainted) (C .repainted) (D .repainted);
-}
-  where
-    last : (f : ℕ → Bool) (x y : ℕ) → x ≡ countedOf f ps vs → y ≡ x + oneIf (and (f p) (not (eqb v 0)))
-        → y ≡ countedOf f (ps ++ p ∷ []) (vs ++ v ∷ [])
-    last f x y ex ey = ey ∙ ap (λ (n : ℕ). n + oneIf (and (f p) (not (eqb v 0)))) ex ∙ sym (counted-last f ps vs p v e)

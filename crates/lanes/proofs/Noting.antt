@@ -13,16 +13,16 @@ use Rattle.account.specs.Errata.{Applied}
 use Rattle.account.proofs.Lanes.{length-lane}
 use Rattle.gf256.specs.Gf256.{gf256}
 use Rattle.values.specs.declared.Errata.{Errata}
-use Rattle.marks.specs.Marks.{CountsOne, CountsAll}
+use Rattle.marks.specs.Marks.{CountsOne}
 use Rattle.marks.specs.declared.Counts.{Counts}
-use Rattle.marks.proofs.Counting.{lane-inside, lane-counts, counts-few, erratum-below}
+use Rattle.marks.proofs.Counting.{lane-inside, lane-counts, counts-few, counts-next, erratum-below}
 use Rattle.code.specs.Lane.{wordOf}
 use Rattle.code.specs.declared.lane.Lane.{Lane}
 use Rattle.patches.specs.Patched.{patched}
 use Rattle.lanes.specs.Fixes.{Noting, Noted}
 use Rattle.patches.proofs.Patching.{patched-pushed, length-patched}
 use Rattle.lanes.proofs.Setting.{lane-set, lane-set-other}
-use Rattle.lanes.proofs.Adding.{alike, outside-before, applied-none, applied-last, counts-last}
+use Rattle.lanes.proofs.Adding.{alike, outside-before, applied-none, applied-last}
 
 module _ (R l k : ℕ) (w : Lane) (e : Errata) (marks cells bytes : List ℕ) (N : Noting R l k w e marks cells bytes) where
   some : 0 < R
@@ -96,10 +96,8 @@ module _ (R l k : ℕ) (w : Lane) (e : Errata) (marks cells bytes : List ℕ) (N
             (outside-before (e .cells) (e .count) i h (omega (arith, N .errata .few, N .errata .room)) (N .errata .distinct)) (in-word s z same) (H .own s z same))));
         others = λ s z j a n. ap (lane R j) (pushed s) ∙ lane-set-other R some (old s) l c b (N .inside) (inside s z) j a n ∙ H .others s z j a n;
         counts =
-            subst (λ (ps : List ℕ). CountsAll (lane R l marks) ps (take (i + 1) (e .values)) x) (sym cells-more)
-            (subst (λ (vs : List ℕ). CountsAll (lane R l marks) (take i (e .cells) ++ c ∷ []) vs x) (sym values-more)
-            (counts-last (lane R l marks) (take i (e .cells)) (take i (e .values)) c v m x as-many (H .counts)
-            (lane-counts R marks l c v m x (N .inside) in-columns C)));
+            counts-next (lane R l marks) (e .cells) (e .values) i m x (omega (arith, N .errata .few, N .errata .room))
+            (omega (arith, N .errata .few, N .errata .values-room)) (H .counts) (lane-counts R marks l c v m x (N .inside) in-columns C);
       }
         where
           old : List ℕ → List ℕ

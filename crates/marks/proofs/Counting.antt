@@ -1,14 +1,15 @@
--- Errata counted, from the last cell down: what is counted are the cells that differ, unmarked and marked.
+-- Errata counted: what is counted are the cells that differ, unmarked and marked.
 use mathlib.Core.Path.{_≡_, refl, sym, ap, ap₂, _∙_, subst}
 use mathlib.Core.Bool.{Bool, true, false, not}
-use mathlib.Core.List.{List, [], _∷_}
+use mathlib.Core.List.{List, [], _∷_, _++_}
 use Prim.Native.Nat.{ℕ, _+_, _*_, _-_, _/_, _≤_, _<_}
 use native.Mathlib.Decide.{ℕ-discrete}
+use native.Mathlib.Numerals.{add-one}
 use native.Mathlib.Omega.{arith}
 use lib.Bits.{bitXor}
 use lib.Dec.{T, eqb}
-use lib.ListN.{length, getD}
-use lib.Seq.{slice, slice-empty, getD-take, length-take-le}
+use lib.ListN.{length, getD, take}
+use lib.Seq.{take-suc, getD-take, length-take-le}
 use borrow.Author.Tests.{eq-eqb, ne-eqb}
 use Rattle.account.specs.Lanes.{lane}
 use Rattle.account.proofs.Lanes.{getD-lane, cell-below}
@@ -22,18 +23,10 @@ use Rattle.gf256.specs.Gf256.{gf256}
 use Rattle.gf256.proofs.Field256.{field256}
 use Rattle.values.specs.declared.Errata.{Errata}
 use Rattle.values.specs.Values.{cellsOf, ErrataFor}
-use Rattle.values.proofs.Values.{from}
 use Rattle.marks.specs.declared.Counts.{Counts}
 use Rattle.marks.specs.Marks.{countedOf, CountsOne, CountsAll}
 
 -- ---- counting
-
--- one cell more in front
-pub before : (xs : List ℕ) (k i : ℕ) → 0 < i → i ≤ k → k ≤ length xs → slice (i - 1) k xs ≡ getD xs (i - 1) 0 ∷ slice i k xs
-before xs k i h l e = from (i - 1) k xs (omega arith) e ∙ ap (λ (j : ℕ). getD xs (i - 1) 0 ∷ slice j k xs) back
-  where
-    back : i - 1 + 1 ≡ i
-    back = omega arith
 
 -- a cell of a lane, as one of the strip
 module _ (R : ℕ) (marks : List ℕ) (l i : ℕ) (hl : l < R) (hi : i < length marks / R) where
@@ -66,33 +59,47 @@ counts-few marks ps vs c C = (
   omega (arith, C .repainted, counted-few (isMarked marks) ps vs),
 )
 
-module _ (marks cells values : List ℕ) (k : ℕ) where
-  pub counts-start : CountsAll marks (slice k k cells) (slice k k values) (record { mended = 0; repainted = 0 })
-  counts-start = record { mended = none (isRead marks); repainted = none (isMarked marks) }
-    where
-      none : (f : ℕ → Bool) → 0 ≡ countedOf f (slice k k cells) (slice k k values)
-      none f = sym (ap (λ (ps : List ℕ). countedOf f ps (slice k k values)) (slice-empty k cells))
+-- one erratum more, at the end
+counted-last : (f : ℕ → Bool) (ps vs : List ℕ) (p v : ℕ) → length vs ≡ length ps
+    → countedOf f (ps ++ p ∷ []) (vs ++ v ∷ []) ≡ countedOf f ps vs + oneIf (and (f p) (not (eqb v 0)))
+counted-last f [] [] p v e = swap (oneIf (and (f p) (not (eqb v 0))))
+  where
+    swap : (a : ℕ) → a + 0 ≡ 0 + a
+    swap a = omega arith
+counted-last f [] (w ∷ vs) p v e = absurd (omega arith)
+counted-last f (q ∷ ps) [] p v e = absurd (omega arith)
+counted-last f (q ∷ ps) (w ∷ vs) p v e =
+    ap (λ (x : ℕ). one q w + x) (counted-last f ps vs p v (omega arith)) ∙ again (one q w) (countedOf f ps vs) (one p v)
+  where
+    one : ℕ → ℕ → ℕ
+    one i x = oneIf (and (f i) (not (eqb x 0)))
 
-  pub counts-more : (i : ℕ) (c r : Counts) → 0 < i → i ≤ k → k ≤ length cells → k ≤ length values
-      → CountsAll marks (slice i k cells) (slice i k values) c → CountsOne marks (getD cells (i - 1) 0) (getD values (i - 1) 0) c r
-      → CountsAll marks (slice (i - 1) k cells) (slice (i - 1) k values) r
-  counts-more i c r h l lc lv C D = record {
-    mended = more (isRead marks) (c .mended) (r .mended) (C .mended) (D .mended);
-    repainted = more (isMarked marks) (c .repainted) (r .repainted) (C .repainted) (D .repainted);
-  }
-    where
-      more : (f : ℕ → Bool) (x y : ℕ) → x ≡ countedOf f (slice i k cells) (slice i k values)
-          → y ≡ x + oneIf (and (f (getD cells (i - 1) 0)) (not (eqb (getD values (i - 1) 0) 0)))
-          → y ≡ countedOf f (slice (i - 1) k cells) (slice (i - 1) k values)
-      more f x y ex ey =
-          ey ∙ ap (λ (n : ℕ). n + one) ex ∙ swap (countedOf f (slice i k cells) (slice i k values)) one
-          ∙ sym (ap₂ (countedOf f) (before cells k i h l lc) (before values k i h l lv))
-        where
-          one : ℕ
-          one = oneIf (and (f (getD cells (i - 1) 0)) (not (eqb (getD values (i - 1) 0) 0)))
+    again : (a b c : ℕ) → a + (b + c) ≡ a + b + c
+    again a b c = omega arith
 
-          swap : (a b : ℕ) → a + b ≡ b + a
-          swap a b = omega arith
+pub counts-last : (marks ps vs : List ℕ) (p v : ℕ) (c r : Counts) → length vs ≡ length ps → CountsAll marks ps vs c → CountsOne marks p v c r
+    → CountsAll marks (ps ++ p ∷ []) (vs ++ v ∷ []) r
+counts-last marks ps vs p v c r e C D = record {
+  mended = last (isRead marks) (c .mended) (r .mended) (C .mended) (D .mended);
+  repainted = last (isMarked marks) (c .repainted) (r .repainted) (C .repainted) (D .repainted);
+}
+  where
+    last : (f : ℕ → Bool) (x y : ℕ) → x ≡ countedOf f ps vs → y ≡ x + oneIf (and (f p) (not (eqb v 0)))
+        → y ≡ countedOf f (ps ++ p ∷ []) (vs ++ v ∷ [])
+    last f x y ex ey = ey ∙ ap (λ (n : ℕ). n + oneIf (and (f p) (not (eqb v 0)))) ex ∙ sym (counted-last f ps vs p v e)
+
+-- the first i errata, and the next
+pub counts-next : (marks cells values : List ℕ) (i : ℕ) (c r : Counts) → i < length cells → i < length values
+    → CountsAll marks (take i cells) (take i values) c → CountsOne marks (getD cells i 0) (getD values i 0) c r
+    → CountsAll marks (take (i + 1) cells) (take (i + 1) values) r
+counts-next marks cells values i c r lc lv C D =
+    subst (λ (ps : List ℕ). CountsAll marks ps (take (i + 1) values) r) (sym (next cells lc))
+    (subst (λ (vs : List ℕ). CountsAll marks (take i cells ++ getD cells i 0 ∷ []) vs r) (sym (next values lv))
+    (counts-last marks (take i cells) (take i values) (getD cells i 0) (getD values i 0) c r
+    (length-take-le i values (omega arith) ∙ sym (length-take-le i cells (omega arith))) C D))
+  where
+    next : (xs : List ℕ) → i < length xs → take (i + 1) xs ≡ take i xs ++ getD xs i 0 ∷ []
+    next xs l = ap (λ (n : ℕ). take n xs) (add-one i) ∙ take-suc xs i 0 l
 
 -- ---- what is counted are the cells that differ
 

@@ -161,10 +161,10 @@ pub fn count(e: values::Errata, marks: &[u8], lanes: usize, l: usize) -> Counts
         mended: 0,
         repainted: 0,
     };
-    let mut i = e.count;
-    while 0 < i {
-        i -= 1;
+    let mut i: usize = 0;
+    while i < e.count {
         c = count_one(c, marks, lanes * cells[i] + l, values[i]);
+        i += 1;
     }
     c
 }

@@ -1,87 +1,81 @@
-use mathlib.Core.Path.{_≡_, subst}
+use mathlib.Core.Path.{_≡_, refl, subst}
 use Prim.Native.Nat.{ℕ, _-_, _/_, _≤_}
 use native.Mathlib.Omega.{arith}
 use borrow.Author.Needs.{needs}
-use lib.ListN.{length, getD}
-use lib.Seq.{slice, length-slice}
+use lib.ListN.{length, getD, take}
+use lib.Seq.{length-take-le}
 use Rattle.account.specs.Lanes.{lane}
 use Rattle.marks.specs.Marks.{CountsAll}
-use Rattle.marks.proofs.Counting.{lane-counts, counts-start, counts-more, counts-few, erratum-below, erratum-inside}
+use Rattle.marks.proofs.Counting.{lane-counts, counts-next, counts-few, erratum-below, erratum-inside}
 use Rattle.marks.proofs.count.Statement.{statement}
 use Rattle.marks.proofs.count.Tie as tie
 
 abbrev Inv-loop : tie.InvT-loop
-Inv-loop marks lanes l cells values c₀ i₀ c i = (i ≤ i₀) × CountsAll (lane lanes l marks) (slice i i₀ cells) (slice i i₀ values) c
+Inv-loop e marks lanes l cells values c₀ i₀ c i = (i ≤ e .count) × CountsAll (lane lanes l marks) (take i (e .cells)) (take i (e .values)) c
 
 abbrev μ-loop : tie.MeasureT-loop
-μ-loop marks lanes l cells values c₀ i₀ c i = i
+μ-loop e marks lanes l cells values c₀ i₀ c i = e .count - i
 
 loop-holds : tie.Need-loop-holds Inv-loop μ-loop
-loop-holds c =
-    let a = c .before .before .before .args in
-    (search needs, counts-start (lane (a .lanes) (a .l) (a .marks .now)) (a .e .cells) (a .e .values) (a .e .count))
-
-sub-i : tie.Need-sub-i Inv-loop μ-loop
-sub-i c = search needs
+loop-holds c = (omega arith, record { mended = refl; repainted = refl })
 
 mul-count-one : tie.Need-mul-count-one Inv-loop μ-loop
 mul-count-one c = search needs
 
 array-read-count-one : tie.Need-array-read-count-one Inv-loop μ-loop
-array-read-count-one c = omega (arith, c .before .before .before .before .before .pre .0 .few)
+array-read-count-one c = omega (arith, c .before .before .before .before .before .before .pre .0 .few)
 
 mul-count-one-2 : tie.Need-mul-count-one-2 Inv-loop μ-loop
 mul-count-one-2 c =
-    let a = c .before .before .before .before .before .args in
-    let p = c .before .before .before .before .before .pre in
-    let l = c .before .loop in
-    omega (arith, p .2, erratum-inside (a .lanes) (a .marks .now) (a .l) (a .e) (p .1) (p .0) (l .i - 1) (omega arith))
+    let a = c .before .before .before .before .before .before .args in
+    let p = c .before .before .before .before .before .before .pre in
+    omega (arith, p .2, erratum-inside (a .lanes) (a .marks .now) (a .l) (a .e) (p .1) (p .0) (c .before .before .loop .i) (omega arith))
 
 add-count-one : tie.Need-add-count-one Inv-loop μ-loop
 add-count-one c =
-    let a = c .before .before .before .before .before .args in
-    let p = c .before .before .before .before .before .pre in
-    let l = c .before .loop in
-    omega (arith, p .2, erratum-inside (a .lanes) (a .marks .now) (a .l) (a .e) (p .1) (p .0) (l .i - 1) (omega arith))
+    let a = c .before .before .before .before .before .before .args in
+    let p = c .before .before .before .before .before .before .pre in
+    omega (arith, p .2, erratum-inside (a .lanes) (a .marks .now) (a .l) (a .e) (p .1) (p .0) (c .before .before .loop .i) (omega arith))
 
 array-read-count-one-2 : tie.Need-array-read-count-one-2 Inv-loop μ-loop
-array-read-count-one-2 c = omega (arith, c .before .before .before .before .before .pre .0 .few)
+array-read-count-one-2 c = omega (arith, c .before .before .before .before .before .before .pre .0 .few)
 
 count-one-requires : tie.Need-count-one-requires Inv-loop μ-loop
 count-one-requires c κs =
-    let a = c .before .before .before .before .before .args in
-    let p = c .before .before .before .before .before .pre in
-    let l = c .before .loop in
-    let s = slice (l .i) (a .e .count) (a .e .cells) in
-    let f = counts-few (lane (a .lanes) (a .l) (a .marks .now)) s (slice (l .i) (a .e .count) (a .e .values)) (l .c) (l .inv .1) in
-    let n : length s ≤ 5 = omega (arith, length-slice (l .i) (a .e .count) (a .e .cells) (omega (arith, p .0 .few, p .0 .room)), p .0 .few) in (
-      erratum-inside (a .lanes) (a .marks .now) (a .l) (a .e) (p .1) (p .0) (l .i - 1) (omega arith),
+    let a = c .before .before .before .before .before .before .args in
+    let p = c .before .before .before .before .before .before .pre in
+    let l = c .before .before .loop in
+    let f = counts-few (lane (a .lanes) (a .l) (a .marks .now)) (take (l .i) (a .e .cells)) (take (l .i) (a .e .values)) (l .c) (l .inv .1) in
+    let n : length (take (l .i) (a .e .cells)) ≤ 5 = omega (arith, length-take-le (l .i) (a .e .cells) (omega (arith, p .0 .few, p .0 .room)), p .0 .few) in (
+      erratum-inside (a .lanes) (a .marks .now) (a .l) (a .e) (p .1) (p .0) (l .i) (omega arith),
       omega (arith, f .0),
       omega (arith, f .1),
     )
+
+add-i : tie.Need-add-i Inv-loop μ-loop
+add-i c = search needs
 
 loop-less : tie.Need-loop-less Inv-loop μ-loop
 loop-less c = search needs
 
 loop-again : tie.Need-loop-again Inv-loop μ-loop
 loop-again c =
-    let a = c .before .before .before .before .before .before .args in
-    let p = c .before .before .before .before .before .before .pre in
-    let l = c .before .before .loop in (
+    let a = c .before .before .before .before .before .before .before .args in
+    let p = c .before .before .before .before .before .before .before .pre in
+    let l = c .before .before .before .loop in (
       omega arith,
-      counts-more (lane (a .lanes) (a .l) (a .marks .now)) (a .e .cells) (a .e .values) (a .e .count) (l .i) (l .c) (c .count-one .result) (search needs) (l .inv .0)
+      counts-next (lane (a .lanes) (a .l) (a .marks .now)) (a .e .cells) (a .e .values) (l .i) (l .c) (c .count-one .result)
           (omega (arith, p .0 .few, p .0 .room)) (omega (arith, p .0 .few, p .0 .values-room)) (l .inv .1)
-          (lane-counts (a .lanes) (a .marks .now) (a .l) (getD (a .e .cells) (l .i - 1) 0) (getD (a .e .values) (l .i - 1) 0) (l .c) (c .count-one .result) (p .1)
-          (erratum-below (length (a .marks .now) / a .lanes) (a .e) (p .0) (l .i - 1) (omega arith)) (c .count-one .ensures)),
+          (lane-counts (a .lanes) (a .marks .now) (a .l) (getD (a .e .cells) (l .i) 0) (getD (a .e .values) (l .i) 0) (l .c) (c .count-one .result) (p .1)
+          (erratum-below (length (a .marks .now) / a .lanes) (a .e) (p .0) (l .i) (omega arith)) (c .count-one .ensures)),
     )
 
 returns : tie.Need-returns Inv-loop μ-loop
 returns c =
-    let a = c .before .before .before .before .before .args in
-    let l = c .before .loop in
-    let z : l .i ≡ 0 = omega arith in
-    subst (λ (j : ℕ). CountsAll (lane (a .lanes) (a .l) (a .marks .now)) (slice j (a .e .count) (a .e .cells)) (slice j (a .e .count) (a .e .values)) (l .c)) z
-    (l .inv .1)
+    let a = c .before .before .before .before .before .before .args in
+    let l = c .before .before .loop in
+    let z : l .i ≡ a .e .count = omega (arith, l .inv .0) in
+    subst (λ (j : ℕ). CountsAll (lane (a .lanes) (a .l) (a .marks .now)) (take j (a .e .cells)) (take j (a .e .values)) (l .c)) z (l .inv .1)
 
 pub count-spec : {M : Type 1} → statement M
 count-spec =
@@ -90,13 +84,13 @@ count-spec =
     Inv-loop
     μ-loop
     loop-holds
-    sub-i
     mul-count-one
     array-read-count-one
     mul-count-one-2
     add-count-one
     array-read-count-one-2
     count-one-requires
+    add-i
     loop-less
     loop-again
     returns)

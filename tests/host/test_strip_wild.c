@@ -278,6 +278,14 @@ static void test_swapped_lanes(void)
 
 /* ---- the editor's way ---- */
 
+/* Where all pictures are refused, nothing was compared. */
+static void end_with_levels(size_t levels)
+{
+    if (levels == 0)
+        group_fail("no level was read");
+    group_end();
+}
+
 /* Damage that is within reach in most lanes; what is read is redrawn. */
 static void test_redrawn(void)
 {
@@ -298,9 +306,7 @@ static void test_redrawn(void)
         }
         levels += check_redrawn(&p);
     }
-    if (levels == 0)
-        group_fail("no level was read");
-    group_end();
+    end_with_levels(levels);
 }
 
 /* A sticker, and marks over other cells than those that it covers. */
@@ -321,9 +327,7 @@ static void test_redrawn_stickers(void)
             p.marks[draw_below(p.strip_len)] = 1;
         levels += check_redrawn(&p);
     }
-    if (levels == 0)
-        group_fail("no level was read");
-    group_end();
+    end_with_levels(levels);
 }
 
 void test_strip_wild(void)

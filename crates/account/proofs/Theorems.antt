@@ -11,7 +11,7 @@ use lib.ListN.{length, getD, take, length-append, replicate, getD-replicate, Lis
 use lib.Seq.{ext-getD, getD-take, length-take-le, getD-append-add}
 use Rattle.account.specs.Field.{Ops, In, IsField}
 use Rattle.account.specs.Code.{Cells, Clean, WordOf}
-use Rattle.account.specs.Reach.{countTo, isMarked, isRead, and, differs, differsAt, marked, differing, repainted, Reach, SameRead}
+use Rattle.account.specs.Reach.{countTo, isMarked, isRead, and, differs, differsAt, marked, differing, repainted, Reach, SameRead, Reachable}
 use Rattle.account.specs.Lists.{listOf}
 use Rattle.account.specs.Errata.{Outside, Below, added, Applied}
 use Rattle.account.specs.Search.{places}
@@ -28,6 +28,12 @@ repainted-marked marks r w = count-both (isMarked marks) (differs r w) (length r
 
 -- ---- FORMAT 3.6: what stands under a mark does not matter
 
+pub read-itself : (marks r : List ℕ) → SameRead marks r r
+read-itself marks r = record { same-length = refl; read = λ p e. refl }
+
+pub read-turned : (marks r s : List ℕ) → SameRead marks r s → SameRead marks s r
+read-turned marks r s same = record { same-length = sym (same .same-length); read = λ p e. sym (same .read p e) }
+
 pub same-differing : (marks r s w : List ℕ) → SameRead marks r s → differing marks r w ≡ differing marks s w
 same-differing marks r s w same =
     count-cong (differsAt marks r w) (differsAt marks s w) (length r) (λ p _. at p (isMarked marks p) refl)
@@ -41,6 +47,14 @@ pub same-reach : (marks r s w : List ℕ) → SameRead marks r s → Reach marks
 same-reach marks r s w same R = record {
   same-length = R .same-length ∙ same .same-length;
   few = rw (← same-differing marks r s w same, ← same .same-length) (R .few);
+}
+
+pub same-reachable : (O : Ops) (marks r s : List ℕ) → SameRead marks r s → Reachable O marks r → Reachable O marks s
+same-reachable O marks r s same R = record {
+  word = R .word;
+  cells = R .cells;
+  clean = R .clean;
+  reach = same-reach marks r s (R .word) same (R .reach);
 }
 
 -- the five cells from m on

@@ -29,6 +29,7 @@ GoodMarks marks = (p : ℕ) → p < length marks → getD marks p 0 ≤ 1
 abbrev pub isMarked : List ℕ → ℕ → Bool
 isMarked marks p = not (eqb (getD marks p 0) 0)
 
+-- FORMAT 3.1: or it is read
 abbrev pub isRead : List ℕ → ℕ → Bool
 isRead marks p = not (isMarked marks p)
 

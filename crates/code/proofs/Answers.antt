@@ -4,7 +4,7 @@ use mathlib.Core.Logic.{_≢_, _⊎_, inl, inr}
 use mathlib.Core.List.{List, _++_}
 use Prim.Native.Nat.{ℕ, _≤_}
 use lib.ListN.{length, take, drop, take-append-drop}
-use Rattle.account.specs.Reach.{differing, repainted, SameRead, Reachable}
+use Rattle.account.specs.Reach.{differing, repainted, SameRead}
 use Rattle.account.proofs.Theorems as theorems
 use Rattle.gf256.specs.Gf256.{gf256}
 use Rattle.gf256.proofs.Field256.{field256}
@@ -48,15 +48,12 @@ same-repair x y c m p =
     made : ℕ → ℕ → ℕ → RepairNumbers
     made i j k = record { code = i; mended = j; repainted = k }
 
-other-side : (marks r s : List ℕ) → SameRead marks r s → SameRead marks s r
-other-side marks r s same = record { same-length = sym (same .same-length); read = λ p e. sym (same .read p e) }
-
-reachable : (marks r s : List ℕ) → SameRead marks r s → Reachable gf256 marks r → Reachable gf256 marks s
-reachable marks r s same R = record { word = R .word; cells = R .cells; clean = R .clean; reach = theorems.same-reach marks r s (R .word) same (R .reach) }
-
 -- two repairs, of words that are the same but for the bytes under marks
 module _ (most n m : ℕ) (marks r s v w : List ℕ) (a b : Repaired) (same : SameRead marks r s) (short : n ≤ most → length r ≤ wordMost)
     (A : Repairs gf256 most n m marks r v a) (B : Repairs gf256 most n m marks s w b) where
+  back : SameRead marks s r
+  back = theorems.read-turned marks r s same
+
   alike : Alike (repairing gf256 most n m marks s) (repairing gf256 most n m marks r)
   alike = (
     refl,
@@ -70,50 +67,50 @@ module _ (most n m : ℕ) (marks r s v w : List ℕ) (a b : Repaired) (same : Sa
         refl,
         (λ x. x),
         (λ x. x),
-        (refl, reachable marks s r (other-side marks r s same), reachable marks r s same, tt),
+        (refl, theorems.same-reachable gf256 marks s r back, theorems.same-reachable gf256 marks r s same, tt),
       ),
     ),
   )
 
-  pub one-code : repairedNumbers a .code ≡ repairedNumbers b .code
+  one-code : repairedNumbers a .code ≡ repairedNumbers b .code
   one-code =
       first-fixes (repairing gf256 most n m marks r) (repairedNumbers a .code) (repairedNumbers b .code) (A .code)
       (first-alike (repairing gf256 most n m marks s) (repairing gf256 most n m marks r) (repairedNumbers b .code) alike (B .code))
 
-  pub one-word : repairedNumbers a .code ≡ 0 → v ≡ w
+  one-word : repairedNumbers a .code ≡ 0 → v ≡ w
   one-word z =
       let y : repairedNumbers b .code ≡ 0 = sym one-code ∙ z in
       theorems.one-in-reach gf256 field256 marks r v w (short (all-hold 6 (repairing gf256 most n m marks r) (repairedNumbers a .code) tt (A .code) z .0 .to))
-      (A .cells z) (B .cells y) (A .clean z) (B .clean y) (A .reach z) (theorems.same-reach marks s r w (other-side marks r s same) (B .reach y))
+      (A .cells z) (B .cells y) (A .clean z) (B .clean y) (A .reach z) (theorems.same-reach marks s r w back (B .reach y))
 
-  pub one-mended : repairedNumbers a .mended ≡ repairedNumbers b .mended
+  one-mended : repairedNumbers a .mended ≡ repairedNumbers b .mended
   one-mended =
       either (repairedNumbers a .mended ≡ repairedNumbers b .mended) (repairedNumbers a .code)
       (λ z. A .mended-is z ∙ ap (differing marks r) (one-word z) ∙ theorems.same-differing marks r s w same ∙ sym (B .mended-is (sym one-code ∙ z)))
       (λ n. repaired-zero a n .0 ∙ sym (repaired-zero b (λ z. n (one-code ∙ z)) .0))
 
+  -- the same but for repainted
+  pub one-but-repainted : (repairedNumbers a .code ≡ repairedNumbers b .code) × (repairedNumbers a .mended ≡ repairedNumbers b .mended)
+      × (repairedNumbers a .code ≡ 0 → v ≡ w)
+  one-but-repainted = (one-code, one-mended, one-word)
+
 -- two repairs of one word
 module _ (most n m : ℕ) (marks old v w : List ℕ) (a b : Repaired) (short : n ≤ most → length old ≤ wordMost)
     (A : Repairs gf256 most n m marks old v a) (B : Repairs gf256 most n m marks old w b) where
-  itself : SameRead marks old old
-  itself = record { same-length = refl; read = λ p e. refl }
-
-  codes : repairedNumbers a .code ≡ repairedNumbers b .code
-  codes = one-code most n m marks old old v w a b itself short A B
-
-  words : repairedNumbers a .code ≡ 0 → v ≡ w
-  words = one-word most n m marks old old v w a b itself short A B
+  alike-but : (repairedNumbers a .code ≡ repairedNumbers b .code) × (repairedNumbers a .mended ≡ repairedNumbers b .mended)
+      × (repairedNumbers a .code ≡ 0 → v ≡ w)
+  alike-but = one-but-repainted most n m marks old old v w a b (theorems.read-itself marks old) short A B
 
   one-repainted : repairedNumbers a .repainted ≡ repairedNumbers b .repainted
   one-repainted =
       either (repairedNumbers a .repainted ≡ repairedNumbers b .repainted) (repairedNumbers a .code)
-      (λ z. A .repainted-is z ∙ ap (repainted marks old) (words z) ∙ sym (B .repainted-is (sym codes ∙ z)))
-      (λ n. repaired-zero a n .1 ∙ sym (repaired-zero b (λ z. n (codes ∙ z)) .1))
+      (λ z. A .repainted-is z ∙ ap (repainted marks old) (alike-but .2 z) ∙ sym (B .repainted-is (sym (alike-but .0) ∙ z)))
+      (λ n. repaired-zero a n .1 ∙ sym (repaired-zero b (λ z. n (alike-but .0 ∙ z)) .1))
 
   pub one-repair : (v ≡ w) × (repairedNumbers a ≡ repairedNumbers b)
   one-repair = (
-    either (v ≡ w) (repairedNumbers a .code) words (λ k. A .kept k ∙ sym (B .kept (λ z. k (codes ∙ z)))),
-    same-repair (repairedNumbers a) (repairedNumbers b) codes (one-mended most n m marks old old v w a b itself short A B) one-repainted,
+    either (v ≡ w) (repairedNumbers a .code) (alike-but .2) (λ k. A .kept k ∙ sym (B .kept (λ z. k (alike-but .0 ∙ z)))),
+    same-repair (repairedNumbers a) (repairedNumbers b) (alike-but .0) (alike-but .1) one-repainted,
   )
 
 -- ---- a lane

@@ -25,7 +25,7 @@ use Rattle.rules.proofs.Laws.{first-fixes, same-numbers, decided, either, all-h
 use Rattle.code.specs.Word.{wordMost, writing, testing, WritesAs, TestsAs, writtenNumbers, testedNumbers}
 use Rattle.code.specs.Repair.{Repairs, RepairsAs, repairedNumbers}
 use Rattle.code.specs.Lane.{laneMost, wordOf, LaneRepairsAs}
-use Rattle.code.proofs.Answers.{written-zero, tested-bit, repaired-zero, one-repair, one-code, one-mended, one-word, lane-is, lane-same}
+use Rattle.code.proofs.Answers.{written-zero, tested-bit, repaired-zero, one-repair, one-but-repainted, lane-is, lane-same}
 
 -- FORMAT 1.6: the first 255 powers of α are different from each other, and none is zero.
 pub powers-differ : (i j : ℕ) → i < 255 → j < 255 → i ≢ j → power gf256 2 i ≢ power gf256 2 j
@@ -104,28 +104,28 @@ tests-fixed w a b A B = same-numbers (testedNumbers a) (testedNumbers b) codes (
     go (inr p) (inl q) = p .0 ∙ sym (B .always (sym codes ∙ p .1) (A .only (p .0)))
     go (inr p) (inr q) = p .0 ∙ sym (q .0)
 
--- Repair: there is one word, and one of each number.
-pub repairs-fixed : (marks old v w : List ℕ) (a b : Repaired) → RepairsAs gf256 wordMost marks old v a → RepairsAs gf256 wordMost marks old w b
-    → (v ≡ w) × (repairedNumbers a ≡ repairedNumbers b)
-repairs-fixed marks old v w a b A B = one-repair wordMost (length old) (length marks) marks old v w a b (λ h. h) A B
+-- Repair, of words of at most so many bytes: there is one word, and one of each number.
+pub repairs-fixed : (most : ℕ) → most ≤ wordMost → (marks old v w : List ℕ) (a b : Repaired) → RepairsAs gf256 most marks old v a
+    → RepairsAs gf256 most marks old w b → (v ≡ w) × (repairedNumbers a ≡ repairedNumbers b)
+repairs-fixed most h marks old v w a b A B = one-repair most (length old) (length marks) marks old v w a b (λ k. omega arith) A B
 
 -- FORMAT 4.5: the byte under a mark influences repainted and nothing else: the code, what is mended and the word it becomes are the same.
-pub under-marks : (marks r s v w : List ℕ) (a b : Repaired) → SameRead marks r s → RepairsAs gf256 wordMost marks r v a → RepairsAs gf256 wordMost marks s w b
+pub under-marks : (most : ℕ) → most ≤ wordMost → (marks r s v w : List ℕ) (a b : Repaired) → SameRead marks r s → RepairsAs gf256 most marks r v a
+    → RepairsAs gf256 most marks s w b
     → (repairedNumbers a .code ≡ repairedNumbers b .code) × (repairedNumbers a .mended ≡ repairedNumbers b .mended) × (repairedNumbers a .code ≡ 0 → v ≡ w)
-under-marks marks r s v w a b same A B = (
-  one-code wordMost (length r) (length marks) marks r s v w a b same (λ h. h) A B',
-  one-mended wordMost (length r) (length marks) marks r s v w a b same (λ h. h) A B',
-  one-word wordMost (length r) (length marks) marks r s v w a b same (λ h. h) A B',
-)
-  where
-    B' : Repairs gf256 wordMost (length r) (length marks) marks s w b
-    B' = subst (λ (n : ℕ). Repairs gf256 wordMost n (length marks) marks s w b) (sym (same .same-length)) B
+under-marks most h marks r s v w a b same A B =
+    one-but-repainted most (length r) (length marks) marks r s v w a b same (λ k. omega arith) A
+    (subst (λ (n : ℕ). Repairs gf256 most n (length marks) marks s w b) (sym (same .same-length)) B)
 
 -- FORMAT 4.6: at most five cells are repainted.
 pub repainted-few : (O : Ops) (most n m : ℕ) (marks old new : List ℕ) (a : Repaired) → Repairs O most n m marks old new a → repairedNumbers a .repainted ≤ 5
 repainted-few O most n m marks old new a A =
     either (repairedNumbers a .repainted ≤ 5) (repairedNumbers a .code)
     (λ z. omega (arith, A .repainted-is z, theorems.repainted-marked marks old new, A .reach z .few)) (λ k. omega (arith, repaired-zero a k .1))
+
+-- a lane's word is no longer than a word
+lane-short : (lane : Lane) → length (lane .bytes) ≡ laneMost → lane .len ≤ laneMost → length (wordOf lane) ≤ wordMost
+lane-short lane room h = omega (arith, length-take-le (lane .len) (lane .bytes) (omega arith))
 
 -- Repair of a lane by value: there is one lane, and one of each number.
 pub lane-repairs-fixed : (lane marks : Lane) (r s : LaneRepair) → length (lane .bytes) ≡ laneMost → LaneRepairsAs lane marks r → LaneRepairsAs lane marks s
@@ -137,13 +137,20 @@ lane-repairs-fixed lane marks r s room A B = (
   one .1,
 )
   where
-    short : lane .len ≤ laneMost → length (wordOf lane) ≤ wordMost
-    short h = omega (arith, length-take-le (lane .len) (lane .bytes) (omega arith))
-
     one : (wordOf (r .lane) ≡ wordOf (s .lane)) × (repairedNumbers (r .answer) ≡ repairedNumbers (s .answer))
     one =
-        one-repair laneMost (lane .len) (marks .len) (wordOf marks) (wordOf lane) (wordOf (r .lane)) (wordOf (s .lane)) (r .answer) (s .answer) short
-        (A .repairs) (B .repairs)
+        one-repair laneMost (lane .len) (marks .len) (wordOf marks) (wordOf lane) (wordOf (r .lane)) (wordOf (s .lane)) (r .answer) (s .answer)
+        (lane-short lane room) (A .repairs) (B .repairs)
+
+-- FORMAT 4.5: and of a lane by value too the byte under a mark influences repainted and nothing else.
+pub lane-under-marks : (lane lane' marks : Lane) (r s : LaneRepair) → length (lane .bytes) ≡ laneMost → lane .len ≡ lane' .len
+    → SameRead (wordOf marks) (wordOf lane) (wordOf lane') → LaneRepairsAs lane marks r → LaneRepairsAs lane' marks s
+    → (repairedNumbers (r .answer) .code ≡ repairedNumbers (s .answer) .code) × (repairedNumbers (r .answer) .mended ≡ repairedNumbers (s .answer) .mended)
+    × (repairedNumbers (r .answer) .code ≡ 0 → wordOf (r .lane) ≡ wordOf (s .lane))
+lane-under-marks lane lane' marks r s room e same A B =
+    one-but-repainted laneMost (lane .len) (marks .len) (wordOf marks) (wordOf lane) (wordOf lane') (wordOf (r .lane)) (wordOf (s .lane)) (r .answer)
+    (s .answer) same (lane-short lane room) (A .repairs)
+    (subst (λ (n : ℕ). Repairs gf256 laneMost n (marks .len) (wordOf marks) (wordOf lane') (wordOf (s .lane)) (s .answer)) (sym e) (B .repairs))
 
 -- FORMAT 10.2: a lane that is refused is kept whole.
 pub lane-kept : (lane marks : Lane) (r : LaneRepair) → LaneRepairsAs lane marks r → repairedNumbers (r .answer) .code ≢ 0 → r .lane ≡ lane

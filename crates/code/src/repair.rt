@@ -110,7 +110,7 @@ pub fn repair(word: &mut [u8], marks: &[u8]) -> Repaired
         return Repaired::Refused(6);
     }
     let errata = found.errata;
-    let counts = marks::count(errata, marks, 1, 0);
+    let counts = marks::count(errata, marks);
     let mended = counts.mended;
     let repainted = counts.repainted;
     apply(errata, word);

@@ -3,11 +3,10 @@ use mathlib.Core.Path.{_≡_, refl, sym, ap, _∙_, subst}
 use mathlib.Core.List.{List, [], _∷_, _++_}
 use Prim.Native.Nat.{ℕ, _+_, _*_, _/_, _≤_, _<_}
 use native.Mathlib.Nat.{mul-le-mul, le-of-lt}
-use native.Mathlib.Numerals.{add-one}
 use native.Mathlib.Omega.{arith}
 use lib.Bits.{bitXor}
 use lib.ListN.{length, getD, take, set, length-set}
-use lib.Seq.{take-suc, getD-take, length-take-le}
+use lib.Seq.{getD-take, length-take-le}
 use Rattle.account.specs.Lanes.{lane}
 use Rattle.account.specs.Errata.{Applied}
 use Rattle.account.proofs.Lanes.{length-lane}
@@ -15,7 +14,7 @@ use Rattle.gf256.specs.Gf256.{gf256}
 use Rattle.values.specs.declared.Errata.{Errata}
 use Rattle.marks.specs.Marks.{CountsOne}
 use Rattle.marks.specs.declared.Counts.{Counts}
-use Rattle.marks.proofs.Counting.{lane-inside, lane-counts, counts-few, counts-next, erratum-below}
+use Rattle.marks.proofs.Counting.{lane-inside, lane-counts, counts-few, take-next, counts-next, erratum-below}
 use Rattle.code.specs.Lane.{wordOf}
 use Rattle.code.specs.declared.lane.Lane.{Lane}
 use Rattle.patches.specs.Patched.{patched}
@@ -68,10 +67,10 @@ module _ (R l k : ℕ) (w : Lane) (e : Errata) (marks cells bytes : List ℕ) (N
     cell-inside = lane-inside R marks l c (N .inside) in-columns
 
     cells-more : take (i + 1) (e .cells) ≡ take i (e .cells) ++ c ∷ []
-    cells-more = ap (λ (n : ℕ). take n (e .cells)) (add-one i) ∙ take-suc (e .cells) i 0 (omega (arith, N .errata .few, N .errata .room))
+    cells-more = take-next (e .cells) i (omega (arith, N .errata .few, N .errata .room))
 
     values-more : take (i + 1) (e .values) ≡ take i (e .values) ++ v ∷ []
-    values-more = ap (λ (n : ℕ). take n (e .values)) (add-one i) ∙ take-suc (e .values) i 0 (omega (arith, N .errata .few, N .errata .values-room))
+    values-more = take-next (e .values) i (omega (arith, N .errata .few, N .errata .values-room))
 
     as-many : length (take i (e .values)) ≡ length (take i (e .cells))
     as-many = alike (w .len) e (N .errata) i (omega arith)

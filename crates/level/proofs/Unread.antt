@@ -9,7 +9,7 @@ use Rattle.account.specs.Field.{Ops}
 use Rattle.account.specs.Lanes.{lane}
 use Rattle.account.specs.Reach.{SameRead}
 use Rattle.account.proofs.Lanes.{length-lane, getD-lane, getD-past, columns-of}
-use Rattle.account.proofs.Theorems.{same-differing, same-reach}
+use Rattle.account.proofs.Theorems.{same-differing, same-reach, same-reachable}
 use Rattle.level.specs.Level.{Level}
 use Rattle.level.specs.Strip.{wrongIn, mendedOf, StripReach, Reached, Mends, Mendable}
 use Rattle.rules.proofs.Numbers.{lt-or-ge}
@@ -47,12 +47,7 @@ module _ (R : ℕ) (some : 0 < R) (marks r s : List ℕ) (m : ℕ) (full : lengt
   same-mends O t h = record { cells = h .cells; clean = h .clean; reach = same-strip-reach t (h .reach) }
 
   pub same-mendable : (O : Ops) (j : ℕ) → Mendable O R marks r j → Mendable O R marks s j
-  same-mendable O j h = record {
-    word = h .word;
-    cells = h .cells;
-    clean = h .clean;
-    reach = same-reach (lane R j marks) (lane R j r) (lane R j s) (h .word) (lane-same j) (h .reach);
-  }
+  same-mendable O j = same-reachable O (lane R j marks) (lane R j r) (lane R j s) (lane-same j)
 
   -- and as much is mended
   pub same-mended : (t : List ℕ) → mendedOf R marks r t ≡ mendedOf R marks s t
@@ -61,7 +56,3 @@ module _ (R : ℕ) (some : 0 < R) (marks r s : List ℕ) (m : ℕ) (full : lengt
     where
       each : (j : ℕ) → wrongIn R marks r t j ≡ wrongIn R marks s t j
       each j = rw (length-lane R some j r, length-lane R some j s) at (same-differing (lane R j marks) (lane R j r) (lane R j s) (lane R j t) (lane-same j))
-
--- the other way
-pub turned : (marks r s : List ℕ) → SameRead marks r s → SameRead marks s r
-turned marks r s h = record { same-length = sym (h .same-length); read = λ p e. sym (h .read p e) }

@@ -88,18 +88,18 @@ counts-last marks ps vs p v c r e C D = record {
         → y ≡ countedOf f (ps ++ p ∷ []) (vs ++ v ∷ [])
     last f x y ex ey = ey ∙ ap (λ (n : ℕ). n + oneIf (and (f p) (not (eqb v 0)))) ex ∙ sym (counted-last f ps vs p v e)
 
+pub take-next : (xs : List ℕ) (i : ℕ) → i < length xs → take (i + 1) xs ≡ take i xs ++ getD xs i 0 ∷ []
+take-next xs i l = ap (λ (n : ℕ). take n xs) (add-one i) ∙ take-suc xs i 0 l
+
 -- the first i errata, and the next
 pub counts-next : (marks cells values : List ℕ) (i : ℕ) (c r : Counts) → i < length cells → i < length values
     → CountsAll marks (take i cells) (take i values) c → CountsOne marks (getD cells i 0) (getD values i 0) c r
     → CountsAll marks (take (i + 1) cells) (take (i + 1) values) r
 counts-next marks cells values i c r lc lv C D =
-    subst (λ (ps : List ℕ). CountsAll marks ps (take (i + 1) values) r) (sym (next cells lc))
-    (subst (λ (vs : List ℕ). CountsAll marks (take i cells ++ getD cells i 0 ∷ []) vs r) (sym (next values lv))
+    subst (λ (ps : List ℕ). CountsAll marks ps (take (i + 1) values) r) (sym (take-next cells i lc))
+    (subst (λ (vs : List ℕ). CountsAll marks (take i cells ++ getD cells i 0 ∷ []) vs r) (sym (take-next values i lv))
     (counts-last marks (take i cells) (take i values) (getD cells i 0) (getD values i 0) c r
     (length-take-le i values (omega arith) ∙ sym (length-take-le i cells (omega arith))) C D))
-  where
-    next : (xs : List ℕ) → i < length xs → take (i + 1) xs ≡ take i xs ++ getD xs i 0 ∷ []
-    next xs l = ap (λ (n : ℕ). take n xs) (add-one i) ∙ take-suc xs i 0 l
 
 -- ---- what is counted are the cells that differ
 
@@ -171,8 +171,3 @@ pub erratum-below : (n : ℕ) (e : Errata) → ErrataFor n e → (i : ℕ) → i
 erratum-below n e F i l =
     subst (λ (x : ℕ). x < n) (getD-take (e .count) (e .cells) i 0 l)
     (below-at (cellsOf e) n i (F .below) (omega (arith, length-take-le (e .count) (e .cells) (omega (arith, F .few, F .room)))))
-
--- and of a lane's errata one of the strip
-pub erratum-inside : (R : ℕ) (marks : List ℕ) (l : ℕ) (e : Errata) → l < R → ErrataFor (length marks / R) e → (i : ℕ) → i < e .count
-    → R * getD (e .cells) i 0 + l < length marks
-erratum-inside R marks l e hl F i h = lane-inside R marks l (getD (e .cells) i 0) hl (erratum-below (length marks / R) e F i h)

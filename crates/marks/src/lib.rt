@@ -150,10 +150,10 @@ pub fn count_one(c: Counts, marks: &[u8], p: usize, v: u8) -> Counts
     }
 }
 
-// How many cells of lane l the errata change.
-pub fn count(e: values::Errata, marks: &[u8], lanes: usize, l: usize) -> Counts
-    requires { ⌜ ErrataFor (length (now marks) / lanes) e × (l < lanes) × (length (now marks) ≤ 4096) ⌝ }
-    ensures { λ r. ⌜ CountsAll (lane lanes l (now (marks .entry))) (cellsOf e) (valuesOf e) r ⌝ }
+// How many cells of a word the errata change.
+pub fn count(e: values::Errata, marks: &[u8]) -> Counts
+    requires { ⌜ ErrataFor (length (now marks)) e ⌝ }
+    ensures { λ r. ⌜ CountsAll (now (marks .entry)) (cellsOf e) (valuesOf e) r ⌝ }
 {
     let cells = e.cells;
     let values = e.values;
@@ -163,7 +163,7 @@ pub fn count(e: values::Errata, marks: &[u8], lanes: usize, l: usize) -> Counts
     };
     let mut i: usize = 0;
     while i < e.count {
-        c = count_one(c, marks, lanes * cells[i] + l, values[i]);
+        c = count_one(c, marks, cells[i], values[i]);
         i += 1;
     }
     c

@@ -11,6 +11,7 @@ use lib.ListN.{length, getD, take, drop, take-append-drop}
 use Rattle.account.specs.Lanes.{lane}
 use Rattle.account.specs.Reach.{differing, repainted, isMarked, isRead, Reach, SameRead}
 use Rattle.account.proofs.Cells.{count-none, none-differ}
+use Rattle.account.proofs.Theorems.{read-itself, read-turned}
 use Rattle.account.proofs.Lanes.{length-lane, getD-lane, getD-past}
 use Rattle.gf256.specs.Gf256.{gf256}
 use Rattle.gf256.proofs.Field256.{field256}
@@ -21,7 +22,7 @@ use Rattle.level.specs.Strip.{columns, Legal, IsStrip, StripReach, Reached, Low
 use Rattle.level.specs.Reading.{ReadNumbers, refusedAt, butRepainted, returned, entering, mending, judging, OfMended}
 use Rattle.rules.proofs.Numbers.{lt-or-ge}
 use Rattle.level.proofs.Strips.{strip-size, same-strip}
-use Rattle.level.proofs.Unread.{same-reached, same-mends, same-mendable, same-mended, turned}
+use Rattle.level.proofs.Unread.{same-reached, same-mends, same-mendable, same-mended}
 use Rattle.strip.specs.declared.read.Reading.{Reading}
 use Rattle.strip.specs.Writing.{stripLength}
 use Rattle.strip.specs.Reading.{stripNumbers, LevelRead, StripReadsAs}
@@ -110,7 +111,7 @@ module _ (R : ℕ) (some : 0 < R) (short : columns R 364 + 5 ≤ 255) (r s marks
     matched' = h .1 .0 ∙ same .same-length
 
     back : SameRead marks s r
-    back = turned marks r s same
+    back = read-turned marks r s same
 
     mend-alike : Alike (mending gf256 R r marks) (mending gf256 R s marks)
     mend-alike = (
@@ -237,7 +238,7 @@ module _ (R : ℕ) (some : 0 < R) (short : columns R 364 + 5 ≤ 255) (r s marks
 module _ (R : ℕ) (some : 0 < R) (short : columns R 364 + 5 ≤ 255) (s marks tiles t1 t2 u u' v v' : List ℕ) (eu : length u ≡ length v) (a b : Reading)
     (A : StripReadsAs R s marks tiles t1 u u' a) (B : StripReadsAs R s marks tiles t2 v v' b) where
   itself : SameRead marks s s
-  itself = record { same-length = refl; read = λ p e. refl }
+  itself = read-itself marks s
 
   one-code : stripNumbers a .code ≡ stripNumbers b .code
   one-code = codes R some short s s marks tiles t1 t2 u u' v v' itself eu a b A B

@@ -1,20 +1,19 @@
 use mathlib.Core.Path.{_≡_, refl, subst}
-use Prim.Native.Nat.{ℕ, _-_, _/_, _≤_}
+use Prim.Native.Nat.{ℕ, _-_, _≤_}
 use native.Mathlib.Omega.{arith}
 use borrow.Author.Needs.{needs}
-use lib.ListN.{length, getD, take}
+use lib.ListN.{length, take}
 use lib.Seq.{length-take-le}
-use Rattle.account.specs.Lanes.{lane}
 use Rattle.marks.specs.Marks.{CountsAll}
-use Rattle.marks.proofs.Counting.{lane-counts, counts-next, counts-few, erratum-below, erratum-inside}
+use Rattle.marks.proofs.Counting.{counts-next, counts-few, erratum-below}
 use Rattle.marks.proofs.count.Statement.{statement}
 use Rattle.marks.proofs.count.Tie as tie
 
 abbrev Inv-loop : tie.InvT-loop
-Inv-loop e marks lanes l cells values c₀ i₀ c i = (i ≤ e .count) × CountsAll (lane lanes l marks) (take i (e .cells)) (take i (e .values)) c
+Inv-loop e marks cells values c₀ i₀ c i = (i ≤ e .count) × CountsAll marks (take i (e .cells)) (take i (e .values)) c
 
 abbrev μ-loop : tie.MeasureT-loop
-μ-loop e marks lanes l cells values c₀ i₀ c i = e .count - i
+μ-loop e marks cells values c₀ i₀ c i = e .count - i
 
 loop-holds : tie.Need-loop-holds Inv-loop μ-loop
 loop-holds c = (omega arith, record { mended = refl; repainted = refl })
@@ -23,34 +22,19 @@ mul-count-one : tie.Need-mul-count-one Inv-loop μ-loop
 mul-count-one c = search needs
 
 array-read-count-one : tie.Need-array-read-count-one Inv-loop μ-loop
-array-read-count-one c = omega (arith, c .before .before .before .before .before .before .pre .0 .few)
-
-mul-count-one-2 : tie.Need-mul-count-one-2 Inv-loop μ-loop
-mul-count-one-2 c =
-    let a = c .before .before .before .before .before .before .args in
-    let p = c .before .before .before .before .before .before .pre in
-    omega (arith, p .2, erratum-inside (a .lanes) (a .marks .now) (a .l) (a .e) (p .1) (p .0) (c .before .before .loop .i) (omega arith))
-
-add-count-one : tie.Need-add-count-one Inv-loop μ-loop
-add-count-one c =
-    let a = c .before .before .before .before .before .before .args in
-    let p = c .before .before .before .before .before .before .pre in
-    omega (arith, p .2, erratum-inside (a .lanes) (a .marks .now) (a .l) (a .e) (p .1) (p .0) (c .before .before .loop .i) (omega arith))
+array-read-count-one c = omega (arith, c .before .before .before .before .before .before .pre .few)
 
 array-read-count-one-2 : tie.Need-array-read-count-one-2 Inv-loop μ-loop
-array-read-count-one-2 c = omega (arith, c .before .before .before .before .before .before .pre .0 .few)
+array-read-count-one-2 c = omega (arith, c .before .before .before .before .before .before .pre .few)
 
 count-one-requires : tie.Need-count-one-requires Inv-loop μ-loop
 count-one-requires c κs =
     let a = c .before .before .before .before .before .before .args in
     let p = c .before .before .before .before .before .before .pre in
     let l = c .before .before .loop in
-    let f = counts-few (lane (a .lanes) (a .l) (a .marks .now)) (take (l .i) (a .e .cells)) (take (l .i) (a .e .values)) (l .c) (l .inv .1) in
-    let n : length (take (l .i) (a .e .cells)) ≤ 5 = omega (arith, length-take-le (l .i) (a .e .cells) (omega (arith, p .0 .few, p .0 .room)), p .0 .few) in (
-      erratum-inside (a .lanes) (a .marks .now) (a .l) (a .e) (p .1) (p .0) (l .i) (omega arith),
-      omega (arith, f .0),
-      omega (arith, f .1),
-    )
+    let f = counts-few (a .marks .now) (take (l .i) (a .e .cells)) (take (l .i) (a .e .values)) (l .c) (l .inv .1) in
+    let n : length (take (l .i) (a .e .cells)) ≤ 5 = omega (arith, length-take-le (l .i) (a .e .cells) (omega (arith, p .few, p .room)), p .few) in
+    (erratum-below (length (a .marks .now)) (a .e) p (l .i) (omega arith), omega (arith, f .0), omega (arith, f .1))
 
 add-i : tie.Need-add-i Inv-loop μ-loop
 add-i c = search needs
@@ -64,10 +48,8 @@ loop-again c =
     let p = c .before .before .before .before .before .before .before .pre in
     let l = c .before .before .before .loop in (
       omega arith,
-      counts-next (lane (a .lanes) (a .l) (a .marks .now)) (a .e .cells) (a .e .values) (l .i) (l .c) (c .count-one .result)
-          (omega (arith, p .0 .few, p .0 .room)) (omega (arith, p .0 .few, p .0 .values-room)) (l .inv .1)
-          (lane-counts (a .lanes) (a .marks .now) (a .l) (getD (a .e .cells) (l .i) 0) (getD (a .e .values) (l .i) 0) (l .c) (c .count-one .result) (p .1)
-          (erratum-below (length (a .marks .now) / a .lanes) (a .e) (p .0) (l .i) (omega arith)) (c .count-one .ensures)),
+      counts-next (a .marks .now) (a .e .cells) (a .e .values) (l .i) (l .c) (c .count-one .result) (omega (arith, p .few, p .room))
+          (omega (arith, p .few, p .values-room)) (l .inv .1) (c .count-one .ensures),
     )
 
 returns : tie.Need-returns Inv-loop μ-loop
@@ -75,7 +57,7 @@ returns c =
     let a = c .before .before .before .before .before .before .args in
     let l = c .before .before .loop in
     let z : l .i ≡ a .e .count = omega (arith, l .inv .0) in
-    subst (λ (j : ℕ). CountsAll (lane (a .lanes) (a .l) (a .marks .now)) (take j (a .e .cells)) (take j (a .e .values)) (l .c)) z (l .inv .1)
+    subst (λ (j : ℕ). CountsAll (a .marks .now) (take j (a .e .cells)) (take j (a .e .values)) (l .c)) z (l .inv .1)
 
 pub count-spec : {M : Type 1} → statement M
 count-spec =
@@ -86,8 +68,6 @@ count-spec =
     loop-holds
     mul-count-one
     array-read-count-one
-    mul-count-one-2
-    add-count-one
     array-read-count-one-2
     count-one-requires
     add-i

@@ -1,10 +1,6 @@
-use mathlib.Core.Path.{_≡_, subst}
-use mathlib.Core.List.{List}
-use Prim.Native.Nat.{ℕ, _/_}
-use lib.ListN.{length}
-use Rattle.remainder.proofs.LanesOf.{lane-word}
-use Rattle.errata.specs.Errata.{cellsOf, valuesOf, ErrataFor}
-use Rattle.marks.specs.Marks.{CountsAll}
+use mathlib.Core.Path.{sym, subst}
+use Prim.Native.Nat.{ℕ}
+use Rattle.errata.specs.Errata.{ErrataFor}
 use native.Mathlib.Omega.{arith}
 use borrow.Author.Tests.{not-true, not-false}
 use Rattle.code.proofs.Repairing.{entry-of, repair-refused, repair-beyond, too-many, searchable, repair-mends, searched, unsearched}
@@ -58,12 +54,8 @@ count-requires c κs =
     let f = c .before .before .search in
     let good = not-false (f .result .good) (c .before .if3 .left) in
     let E = entry-of (s .args .marks .now) (s .args .word .now) (e .result) (e .ensures) z in
-    let n : length (s .args .word .now) ≡ length (s .args .marks .now) / 1 = omega (arith, E .1 .0) in (
-      subst (λ (k : ℕ). ErrataFor k (f .result .errata)) n
-          (searched (f .result .good) (s .args .marks .now) (s .args .word .now) (f .result .errata) good (f .ensures) .listed),
-      omega arith,
-      omega (arith, E .1 .0, E .0 .to),
-    )
+    subst (λ (k : ℕ). ErrataFor k (f .result .errata)) (sym (E .1 .0))
+    (searched (f .result .good) (s .args .marks .now) (s .args .word .now) (f .result .errata) good (f .ensures) .listed)
 
 apply-requires : tie.Need-apply-requires
 apply-requires c κs =
@@ -87,7 +79,7 @@ returns-4 c =
     (entry-of (s .args .marks .now) (s .args .word .now) (e .result) (e .ensures) z)
     (searched (f .result .good) (s .args .marks .now) (s .args .word .now) (f .result .errata) good (f .ensures))
     (c .before .before .apply .ensures)
-    (subst (λ (m : List ℕ). CountsAll m (cellsOf (f .result .errata)) (valuesOf (f .result .errata)) (n .result)) (lane-word (s .args .marks .now)) (n .ensures))
+    (n .ensures)
 
 pub repair-spec : {M : Type 1} → statement M
 repair-spec =

@@ -178,8 +178,8 @@ static bool is_right(const struct batch *b, int i)
         .width = (unsigned)l->width, .height = (unsigned)l->height,
         .par = (unsigned)l->par, .mended = (unsigned)(REF_LANES * d->wrong),
         .repainted = (unsigned)(REF_LANES * d->marked), /* none is right */
-        .wear = (unsigned)(100 * REF_LANES * d->wrong /
-                           b->picture[i].strip_len)};
+        .wear = ref_wear((unsigned)(REF_LANES * d->wrong),
+                         b->picture[i].strip_len)};
     const struct ref_result refused = {.code = 6,
                                        .lane = (unsigned)d->first_lane};
 

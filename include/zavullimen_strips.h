@@ -30,8 +30,8 @@ static inline unsigned zav_lane(uint64_t result)
     return (unsigned)(result >> 5 & 0xF);
 }
 
-/* 100 times mended over the cells of the strip, rounded down: 0 to 33, in
- * bits 44 to 49. */
+/* 100 times mended over the cells of the strip, to the nearest whole number, an
+ * exact half to the even one: 0 to 33, in bits 44 to 49. */
 static inline unsigned zav_wear(uint64_t result)
 {
     return (unsigned)(result >> 44 & 0x3F);

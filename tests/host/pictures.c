@@ -24,6 +24,21 @@ void picture_board(struct picture *p, const struct board *b)
     picture_data(p, data, ref_k_of(record_of(b, data)));
 }
 
+bool picture_length(struct picture *p, size_t k)
+{
+    uint8_t data[REF_RECORD_MAX];
+    struct board b;
+
+    if (draw_level_for(&b, REF_LANES * k, REF_LANES)) {
+        picture_board(p, &b);
+        return true;
+    }
+    draw_bytes(data, REF_LANES * k);
+    data[0] = (uint8_t)(0x10 | draw_below(16));
+    picture_data(p, data, k);
+    return false;
+}
+
 void picture_any_level(struct picture *p, struct board *b)
 {
     draw_any_level(b);
@@ -161,8 +176,7 @@ void check_counts(const struct picture *p, const struct board *b,
                                  .par = (unsigned)b->par,
                                  .mended = mended,
                                  .repainted = repainted,
-                                 .wear = 100 * mended /
-                                         (unsigned)p->strip_len};
+                                 .wear = ref_wear(mended, p->strip_len)};
 
     check_read(p, r, b->tiles);
 }

@@ -25,6 +25,10 @@ void picture_data(struct picture *p, const uint8_t *data, size_t k);
 /* The board's record, filled up, in the same way. */
 void picture_board(struct picture *p, const struct board *b);
 
+/* A level with k data bytes in each lane, or, where there is none, data with a
+   level's front. Returns whether there is one. */
+bool picture_length(struct picture *p, size_t k);
+
 /* A random level's strip, and the level. */
 void picture_any_level(struct picture *p, struct board *b);
 

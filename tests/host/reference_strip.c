@@ -43,6 +43,31 @@ size_t ref_lay_strip(const uint8_t *data, size_t k, uint8_t *strip)
     return REF_LANES * word_len;
 }
 
+/* ---- wear ---- */
+
+/* How far wear is from 100 * mended / len, times len. */
+static unsigned wear_error(unsigned wear, unsigned mended, size_t len)
+{
+    const unsigned asked = 100 * mended, told = wear * (unsigned)len;
+
+    return asked > told ? asked - told : told - asked;
+}
+
+/* Every percentage is tried. */
+unsigned ref_wear(unsigned mended, size_t len)
+{
+    unsigned best = 0;
+
+    for (unsigned wear = 1; wear <= 100; wear++) {
+        const unsigned error = wear_error(wear, mended, len);
+        const unsigned least = wear_error(best, mended, len);
+
+        if (error < least || (error == least && wear % 2 == 0))
+            best = wear;
+    }
+    return best;
+}
+
 /* ---- entries ---- */
 
 struct ref_result ref_strip_write(size_t width, size_t height, size_t par,
@@ -123,7 +148,7 @@ static struct ref_result read_cells(const uint8_t *strip,
         return level;
     level.mended = mended;
     level.repainted = repainted;
-    level.wear = 100 * mended / (unsigned)len;
+    level.wear = ref_wear(mended, len);
     return level;
 }
 

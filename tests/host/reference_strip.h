@@ -23,6 +23,10 @@ struct ref_result ref_strip_write(size_t width, size_t height, size_t par,
                                   const uint8_t *tiles, size_t tiles_len,
                                   uint8_t *strip, size_t strip_len);
 
+/* 100 times mended over len to the nearest whole number, a half to the even
+   one. */
+unsigned ref_wear(unsigned mended, size_t len);
+
 /* The scratch may hold anything afterwards, so only its length matters. */
 struct ref_result ref_strip_read(const uint8_t *strip, size_t strip_len,
                                  const uint8_t *marks, size_t marks_len,

@@ -32,22 +32,6 @@ static const struct reader reader = {"strip reader", REF_LANES,
 
 /* ---- every legal length ---- */
 
-/* A level if there is one of this length, and data with its front if not. */
-static bool draw_length(struct picture *p, size_t k)
-{
-    uint8_t data[REF_RECORD_MAX];
-    struct board b;
-
-    if (draw_level_for(&b, REF_LANES * k, REF_LANES)) {
-        picture_board(p, &b);
-        return true;
-    }
-    draw_bytes(data, REF_LANES * k);
-    data[0] = (uint8_t)(0x10 | draw_below(16));
-    picture_data(p, data, k);
-    return false;
-}
-
 static void damage_lanes(struct picture *p, size_t most)
 {
     for (size_t lane = 0; lane < REF_LANES; lane++) {
@@ -66,11 +50,11 @@ static void test_lengths(void)
     group_begin(reader.name, "every legal length, clean and damaged");
     for (size_t k = 1; k <= REF_K_MAX; k++)
         for (size_t n = 0; n < scaled(8); n++) {
-            draw_length(&p, k);
+            picture_length(&p, k);
             check_picture(&p);
             damage_lanes(&p, REF_REACH);
             check_picture(&p);
-            draw_length(&p, k);
+            picture_length(&p, k);
             damage_lanes(&p, REF_REACH + 1);
             check_picture(&p);
         }
@@ -86,7 +70,7 @@ static void test_lengths_without_levels(void)
     group_begin(reader.name, "lengths that no level has");
     for (size_t k = 1; k <= REF_K_MAX; k++)
         for (size_t n = 0; n < scaled(20); n++)
-            if (!draw_length(&p, k)) {
+            if (!picture_length(&p, k)) {
                 const unsigned code = check_picture(&p).code;
 
                 if (code != 7 && code != 8)

@@ -331,29 +331,67 @@ static void test_under_marks(void)
 
 /* ---- mended and wear ---- */
 
-/* So many wrong cells, at most two in a lane, the lanes in turn. */
-static void check_wear(size_t k, unsigned wrong)
+/* So many wrong cells, at most two in a lane, the lanes in turn. Returns what
+   the second implementation says. */
+static struct ref_result check_wear(size_t k, unsigned wrong)
 {
     const size_t first = draw_below(REF_LANES);
     struct picture p;
-    struct board b;
+    const bool is_level = picture_length(&p, k);
 
-    if (!draw_level_for(&b, REF_LANES * k, REF_LANES))
-        return;
-    picture_board(&p, &b);
     for (size_t lane = 0; lane < REF_LANES; lane++)
         damage_lane(&p, (first + lane) % REF_LANES,
                     wrong / REF_LANES + (lane < wrong % REF_LANES),
-                    draw_below(2), WRONG_BYTE);
-    check_level(&p, &b, wrong);
+                    draw_below(2), draw_under_mark());
+
+    const struct ref_result r = check_picture(&p);
+
+    check_number(r.mended, is_level ? wrong : 0, "mended");
+    return r;
 }
 
 static void test_wear(void)
 {
-    group_begin(subject, "0 to 8 wrong cells at every length of a level");
+    group_begin(subject, "0 to 8 wrong cells at every legal length");
     for (size_t k = 1; k <= REF_K_MAX; k++)
         for (unsigned wrong = 0; wrong <= 2 * REF_LANES; wrong++)
             check_wear(k, wrong);
+    group_end();
+}
+
+/* The rows of FORMAT 12.12. */
+static const struct worn {
+    unsigned mended;
+    size_t len;
+    unsigned wear;
+} worn[] = {
+    {0, 24, 0}, {8, 24, 33},
+    {1, 40, 2}, {1, 200, 0}, {2, 80, 2}, {3, 24, 12}, {3, 40, 8},
+    {3, 120, 2}, {3, 200, 2}, {4, 32, 12}, {4, 160, 2}, {5, 40, 12},
+    {5, 200, 2}, {6, 48, 12}, {6, 80, 8}, {6, 240, 2}, {7, 40, 18},
+    {7, 56, 12}, {7, 200, 4}, {7, 280, 2}, {8, 64, 12}, {8, 320, 2}};
+
+static bool is_worn(unsigned mended, size_t len)
+{
+    for (size_t i = 0; i < COUNT(worn); i++)
+        if (worn[i].mended == mended && worn[i].len == len)
+            return true;
+    return false;
+}
+
+static void test_worked_wear(void)
+{
+    group_begin(subject, "the wear of FORMAT, with every exact half");
+    for (size_t i = 0; i < COUNT(worn); i++) {
+        const struct worn *row = &worn[i];
+        const size_t k = row->len / REF_LANES - REF_CHECK_BYTES;
+
+        check_number(check_wear(k, row->mended).wear, row->wear, "reference");
+    }
+    for (size_t len = REF_STRIP_MIN; len <= REF_STRIP_MAX; len += REF_LANES)
+        for (unsigned mended = 0; mended <= 2 * REF_LANES; mended++)
+            if (200 * mended % (2 * len) == len && !is_worn(mended, len))
+                group_fail("%u in %zu is a half, and not there", mended, len);
     group_end();
 }
 
@@ -423,6 +461,7 @@ void test_strip_damage(void)
     test_marked_runs();
     test_under_marks();
     test_wear();
+    test_worked_wear();
     test_spoilt_filling();
     test_single_cells();
 }

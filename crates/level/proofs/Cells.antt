@@ -27,6 +27,7 @@ use Rattle.level.specs.Strip.{IsStrip}
 use Rattle.level.specs.Cells.{All, table}
 use Rattle.level.proofs.Written.{spelled, recordBit, recordByte, recordOf}
 use Rattle.level.proofs.RecordOf.{record-of}
+use Rattle.level.proofs.Worn.{every-row}
 
 -- bytes, by a computed test
 abbrev allBytes : List ℕ → Bool
@@ -191,7 +192,7 @@ cells = (
                           (
                             at-six ones (0x02 ∷ 0 ∷ 0 ∷ 0 ∷ 0 ∷ 0 ∷ []) (0x02 ∷ 0x81 ∷ 0xD1 ∷ 0xD1 ∷ 0x81 ∷ 0x02 ∷ []) (omega arith)
                                 (bytes-of (0x02 ∷ 0x81 ∷ 0xD1 ∷ 0xD1 ∷ 0x81 ∷ 0x02 ∷ []) tt) clean2 refl refl,
-                            ((clean3, record { same-length = refl; few = omega arith }, refl, refl), (outside, ((is-level, is-record, is-strip), tt))),
+                            ((clean3, record { same-length = refl; few = omega arith }, refl, refl), (outside, ((is-level, is-record, is-strip), (every-row, tt)))),
                           ),
                         ),
                       ),

@@ -4,7 +4,7 @@ use mathlib.Core.Bool.{Bool, not}
 use mathlib.Core.Logic.{⊎-elim}
 use mathlib.Core.List.{List}
 use Prim.Native.Nat.{ℕ, zero, suc, _+_, _*_, _-_, _/_, _≤_, _<_}
-use native.Mathlib.Nat.{mul-suc, mul-zero, mul-le-mul-left, div-lt-iff-lt-mul, div-add-mod, mod-lt, eq-zero-or-pos}
+use native.Mathlib.Nat.{mul-suc, mul-zero, mul-le-mul-left, div-add-mod, mod-lt, eq-zero-or-pos}
 use native.Mathlib.Omega.{arith}
 use lib.Dec.{eqb}
 use lib.ListN.{length, getD}
@@ -14,7 +14,8 @@ use Rattle.account.specs.Reach.{oneIf, and, countTo, isMarked, differing, repai
 use Rattle.account.proofs.Cells.{count-cong}
 use Rattle.account.proofs.Theorems.{repainted-marked}
 use Rattle.account.proofs.Lanes.{length-lane, getD-lane, columns-of}
-use Rattle.level.specs.Strip.{columns, Legal, StripReach, wrongIn, mendedOf, repaintedIn, repaintedOf, wearOf}
+use Rattle.level.specs.Strip.{columns, Legal, StripReach, wrongIn, mendedOf, repaintedIn, repaintedOf, IsWear}
+use Rattle.level.proofs.Nearest.{nearest-most}
 
 sum-none : (R : ℕ) → sumOf R (λ j. 0) ≡ 0
 unfolding sumOf
@@ -51,6 +52,18 @@ count-lanes f R (suc m) =
     ∙ ap (λ (x : ℕ). x + sumOf R (λ j. oneIf (f (R * m + j)))) (count-lanes f R m)
     ∙ sym (sum-add R (λ j. countTo (λ i. f (R * i + j)) m) (λ j. oneIf (f (R * m + j))))
 
+-- a strip of legal length has six cells or more in each lane
+pub legal-long : (R : ℕ) → 0 < R → {N : ℕ} → Legal R N → R * 6 ≤ N
+legal-long R some legal = rw (legal .cells) (mul-le-mul-left R (omega (arith, legal .from, one-column)))
+  where
+    one-column : 1 ≤ columns R 4
+    one-column =
+        ⊎-elim (λ z. absurd (omega (arith, div-add-mod (4 + (R - 1)) R, mod-lt (4 + (R - 1)) some, ap (λ (q : ℕ). R * q) z, mul-zero R))) (λ p. p)
+        (eq-zero-or-pos (columns R 4))
+
+pub legal-some : (R : ℕ) → 0 < R → {N : ℕ} → Legal R N → 0 < N
+legal-some R some legal = omega (arith, some, legal-long R some legal)
+
 module _ (R : ℕ) (some : 0 < R) (marks s t : List ℕ) where
   -- a lane within reach
   module _ (j : ℕ) (h : Reach (lane R j marks) (lane R j s) (lane R j t)) where
@@ -71,22 +84,11 @@ module _ (R : ℕ) (some : 0 < R) (marks s t : List ℕ) where
   unfolding repaintedOf
   repainted-most h = sum-most R 5 (repaintedIn R marks s t) (λ j l. repainted-few j (h .each j l))
 
-  pub wear-most : Legal R (length s) → StripReach R marks s t → wearOf (mendedOf R marks s t) (length s) ≤ 33
-  wear-most legal h = omega (arith, div-lt-iff-lt-mul {k = length s} positive .1 small)
+  pub wear-most : (w : ℕ) → Legal R (length s) → StripReach R marks s t → IsWear (mendedOf R marks s t) (length s) w → w ≤ 33
+  wear-most w legal h = nearest-most (100 * mendedOf R marks s t) (length s) (legal-some R some legal) 33 w small
     where
-      one-column : 1 ≤ columns R 4
-      one-column =
-          ⊎-elim (λ z. absurd (omega (arith, div-add-mod (4 + (R - 1)) R, mod-lt (4 + (R - 1)) some, ap (λ (q : ℕ). R * q) z, mul-zero R))) (λ p. p)
-          (eq-zero-or-pos (columns R 4))
-
-      long : R * 6 ≤ length s
-      long = rw (legal .cells) (mul-le-mul-left R (omega (arith, legal .from, one-column)))
-
-      positive : 0 < length s
-      positive = omega (arith, long, some)
-
-      small : 100 * mendedOf R marks s t < 34 * length s
-      small = omega (arith, mended-most h, long, some)
+      small : 2 * (100 * mendedOf R marks s t) < 2 * (length s * 33) + length s
+      small = omega (arith, mended-most h, legal-long R some legal, some)
 
   -- what is counted lane by lane, of each cell by its mark and its bytes, is counted of the strip
   over-lanes : (D : ℕ → ℕ → ℕ → Bool) (m : ℕ) → length s ≡ R * m → length marks ≡ length s → length t ≡ length s

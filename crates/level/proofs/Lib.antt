@@ -8,7 +8,9 @@ pub mod RecordOf
 pub mod Windows
 pub mod Judged
 pub mod Mended
+pub mod Nearest
 pub mod Counts
 pub mod Unread
+pub mod Worn
 pub mod Cells
 pub mod Theorems

@@ -2,7 +2,7 @@
 use mathlib.Core.Path.{_≡_}
 use mathlib.Core.List.{List}
 use Prim.Native.Nat.{ℕ, _+_, _*_, _≤_, _<_}
-use native.Mathlib.Nat.{mul-le-mul}
+use native.Mathlib.Nat.{mul-zero, mul-le-mul}
 use native.Mathlib.Omega.{arith}
 use lib.ListN.{length}
 use Rattle.account.specs.Field.{Ops, IsField}
@@ -11,13 +11,14 @@ use Rattle.gf256.specs.Gf256.{gf256}
 use Rattle.gf256.proofs.Field256.{field256}
 use Rattle.level.specs.Level.{Level, IsLevel}
 use Rattle.level.specs.Record.{recordLength, IsRecord}
-use Rattle.level.specs.Strip.{columns, Legal, Dealt, IsStrip, StripReach, Reached, wrongIn, markedIn, mendedOf, repaintedOf, wearOf}
+use Rattle.level.specs.Strip.{columns, Legal, Dealt, IsStrip, StripReach, Reached, wrongIn, markedIn, mendedOf, repaintedOf, IsWear}
 use Rattle.level.proofs.Written.{recordOf}
 use Rattle.level.proofs.Dealing.{some-dealt, columns-more, lanes-short}
 use Rattle.level.proofs.Fields as fields
 use Rattle.level.proofs.Determined as determined
 use Rattle.level.proofs.RecordOf as records
 use Rattle.level.proofs.Strips as strips
+use Rattle.level.proofs.Nearest.{rounded, nearest-one, nearest-rounded, nearest-most}
 use Rattle.level.proofs.Counts as counts
 
 -- FORMAT 6.8: each level has a record, and one.
@@ -76,11 +77,23 @@ every-strip R two l il =
     short : recordLength (l .width) (l .height) ≤ 364
     short = omega (arith, mul-le-mul (il .ranged .sized .not-wider) (il .ranged .sized .not-higher))
 
+-- FORMAT 7.16: out of any number of cells but 0, exactly one number is the wear, and it is the quotient or one more.
+pub wear-one : (mended N v w : ℕ) → 0 < N → IsWear mended N v → IsWear mended N w → v ≡ w
+wear-one mended N v w some = nearest-one (100 * mended) N some v w
+
+pub wear-rounded : (mended N : ℕ) → 0 < N → IsWear mended N (rounded (100 * mended) N)
+wear-rounded mended N = nearest-rounded (100 * mended) N
+
+-- FORMAT 7.16: with nothing mended it is 0.
+pub wear-none : (N w : ℕ) → 0 < N → IsWear 0 N w → w ≡ 0
+wear-none N w some worn = omega (arith, nearest-most 0 N some 0 w (omega (arith, some, mul-zero N)) worn)
+
 -- FORMAT 7.15, 7.16: at most two cells of each lane are mended, and wear is at most 33.
 pub mended-most : (R : ℕ) → 0 < R → (marks s t : List ℕ) → StripReach R marks s t → mendedOf R marks s t ≤ 2 * R
 mended-most = counts.mended-most
 
-pub wear-most : (R : ℕ) → 0 < R → (marks s t : List ℕ) → Legal R (length s) → StripReach R marks s t → wearOf (mendedOf R marks s t) (length s) ≤ 33
+pub wear-most : (R : ℕ) → 0 < R → (marks s t : List ℕ) (w : ℕ) → Legal R (length s) → StripReach R marks s t
+    → IsWear (mendedOf R marks s t) (length s) w → w ≤ 33
 wear-most = counts.wear-most
 
 -- FORMAT 11.6: mended is the number of unmarked cells in which the two strips differ.

@@ -1,5 +1,6 @@
--- FORMAT 12.1, 12.2, 12.4 to 12.6: the worked examples that are proved, as one table.
+-- FORMAT 12.1, 12.2, 12.4 to 12.6, 12.12: the worked examples that are proved, as one table.
 use mathlib.Core.Path.{_≡_}
+use mathlib.Core.Logic.{_⊎_}
 use mathlib.Core.List.{List, [], _∷_}
 use Prim.Native.Nat.{ℕ}
 use Rattle.account.specs.Code.{Clean, WordOf}
@@ -7,7 +8,23 @@ use Rattle.account.specs.Reach.{differing, repainted, Reach, Reachable}
 use Rattle.gf256.specs.Gf256.{gf256, times}
 use Rattle.level.specs.Level.{Level, IsLevel}
 use Rattle.level.specs.Record.{IsRecord}
-use Rattle.level.specs.Strip.{IsStrip}
+use Rattle.level.specs.Strip.{IsStrip, IsWear}
+
+-- FORMAT 12.12: m cells mended out of N are wear w
+pub data Worn : Type 0 where
+  row : ℕ → ℕ → ℕ → Worn
+
+abbrev pub IsWorn : Worn → Type 0
+IsWorn (row m N w) = IsWear m N w
+
+abbrev pub AllWorn : List Worn → Type 0
+AllWorn [] = Unit {0}
+AllWorn (r ∷ rs) = IsWorn r × AllWorn rs
+
+-- a row stands among others
+abbrev pub Has : Worn → List Worn → Type 0
+Has r [] = ⊥
+Has r (q ∷ rs) = (r ≡ q) ⊎ Has r rs
 
 pub data Cell : Type 0 where
   -- FORMAT 12.1: a times b is c
@@ -20,6 +37,8 @@ pub data Cell : Type 0 where
   refused : List ℕ → List ℕ → Cell
   -- FORMAT 12.5, 12.6: a level with its record and its strip of four lanes
   lays : Level → List ℕ → List ℕ → Cell
+  -- FORMAT 12.12: rows of cells mended, cells, and wear
+  wears : List Worn → Cell
 
 abbrev pub Holds : Cell → Type 0
 Holds (product a b c) = times a b ≡ c
@@ -27,6 +46,7 @@ Holds (gives d w) = WordOf gf256 d w
 Holds (becomes marks r w e d) = Clean gf256 w × Reach marks r w × (differing marks r w ≡ e) × (repainted marks r w ≡ d)
 Holds (refused marks r) = Reachable gf256 marks r → ⊥
 Holds (lays l bs s) = IsLevel l × IsRecord l bs × IsStrip gf256 4 l s
+Holds (wears rows) = AllWorn rows
 
 abbrev pub All : List Cell → Type 0
 All [] = Unit {0}
@@ -37,6 +57,33 @@ none6 = 0 ∷ 0 ∷ 0 ∷ 0 ∷ 0 ∷ 0 ∷ []
 
 abbrev none7 : List ℕ
 none7 = 0 ∷ none6
+
+-- nothing mended, the most, and each exact half that a legal length allows
+abbrev pub worn : List Worn
+worn =
+    row 0 24 0
+    ∷ row 8 24 33
+    ∷ row 1 40 2
+    ∷ row 1 200 0
+    ∷ row 2 80 2
+    ∷ row 3 24 12
+    ∷ row 3 40 8
+    ∷ row 3 120 2
+    ∷ row 3 200 2
+    ∷ row 4 32 12
+    ∷ row 4 160 2
+    ∷ row 5 40 12
+    ∷ row 5 200 2
+    ∷ row 6 48 12
+    ∷ row 6 80 8
+    ∷ row 6 240 2
+    ∷ row 7 40 18
+    ∷ row 7 56 12
+    ∷ row 7 200 4
+    ∷ row 7 280 2
+    ∷ row 8 64 12
+    ∷ row 8 320 2
+    ∷ []
 
 abbrev pub table : List Cell
 table =
@@ -59,4 +106,5 @@ table =
     ∷ lays (record { version = 1; width = 2; height = 1; par = 5; tiles = 4 ∷ 5 ∷ [] }) (0x11 ∷ 0x04 ∷ 0x05 ∷ 0x94 ∷ [])
     (0x11 ∷ 0x04 ∷ 0x05 ∷ 0x94 ∷ 0xB2 ∷ 0x1F ∷ 0xD1 ∷ 0xA4 ∷ 0x20 ∷ 0xBF ∷ 0x59 ∷ 0x07
     ∷ 0x20 ∷ 0xBF ∷ 0x59 ∷ 0x07 ∷ 0xB2 ∷ 0x1F ∷ 0xD1 ∷ 0xA4 ∷ 0x11 ∷ 0x04 ∷ 0x05 ∷ 0x94 ∷ [])
+    ∷ wears worn
     ∷ []

@@ -1,5 +1,6 @@
 -- FORMAT 7, for R lanes: strips, cells of a field dealt to lanes, each lane a word of the code.
 use mathlib.Core.Path.{_≡_}
+use mathlib.Core.Logic.{_≢_}
 use Prim.Native.Nat.{ℕ, _+_, _*_, _-_, _/_, _%_, _≤_, _<_}
 use mathlib.Core.List.{List}
 use lib.ListN.{length, getD}
@@ -52,9 +53,18 @@ module _ (R : ℕ) where
   unfolding sumOf
   repaintedOf marks s t = sumOf R (repaintedIn marks s t)
 
--- FORMAT 7.16: wear, 100 times mended over the cells, rounded down
-abbrev pub wearOf : ℕ → ℕ → ℕ
-wearOf mended N = 100 * mended / N
+-- FORMAT 7.16: how far w is from a over b, in parts of one b-th
+unfoldable pub distance : ℕ → ℕ → ℕ → ℕ
+distance a b w = (a - b * w) + (b * w - a)
+
+-- FORMAT 7.16: w is the whole number nearest to a over b: none is closer, and of two that are equally near it is the even one
+pub record Nearest (a b w : ℕ) : Type 0 where
+  pub closest : (v : ℕ) → distance a b w ≤ distance a b v
+  pub even : (v : ℕ) → v ≢ w → distance a b v ≡ distance a b w → w % 2 ≡ 0
+
+-- FORMAT 7.16: wear, of so many cells mended out of N
+abbrev pub IsWear : ℕ → ℕ → ℕ → Type 0
+IsWear mended N w = Nearest (100 * mended) N w
 
 -- ---- over the field and the lanes
 

@@ -18,10 +18,12 @@ use Rattle.gf256.proofs.Field256.{field256}
 use Rattle.rules.specs.Refusal.{First, Hold}
 use Rattle.rules.proofs.Laws.{first-fixes, all-hold, hold-both, parts, before, after, first-alike, asked-alike, Alike, at-most, either}
 use Rattle.level.specs.Level.{Level}
-use Rattle.level.specs.Strip.{columns, Legal, IsStrip, StripReach, Reached, Lowest, Mendable, mendedOf, repaintedOf, wearOf}
+use Rattle.level.specs.Strip.{columns, Legal, IsStrip, StripReach, Reached, Lowest, Mendable, mendedOf, repaintedOf, IsWear}
 use Rattle.level.specs.Reading.{ReadNumbers, refusedAt, butRepainted, returned, entering, mending, judging, OfMended}
 use Rattle.rules.proofs.Numbers.{lt-or-ge}
 use Rattle.level.proofs.Strips.{strip-size, same-strip}
+use Rattle.level.proofs.Counts.{legal-some}
+use Rattle.level.proofs.Theorems.{wear-one}
 use Rattle.level.proofs.Unread.{same-reached, same-mends, same-mendable, same-mended}
 use Rattle.strip.specs.declared.read.Reading.{Reading}
 use Rattle.strip.specs.Writing.{stripLength}
@@ -212,10 +214,16 @@ module _ (R : ℕ) (some : 0 < R) (short : columns R 364 + 5 ≤ 255) (r s marks
     highs : stripNumbers a .height ≡ stripNumbers b .height
     highs = ap (λ (l : Level). l .height) level
 
+    wears : stripNumbers a .wear ≡ stripNumbers b .wear
+    wears =
+        wear-one (stripNumbers b .mended) (length r) (stripNumbers a .wear) (stripNumbers b .wear) (legal-some R some (h .0))
+        (subst (λ (m : ℕ). IsWear m (length r) (stripNumbers a .wear)) mendeds (za .wear-is))
+        (subst (λ (n : ℕ). IsWear (stripNumbers b .mended) n (stripNumbers b .wear)) (sym (same .same-length)) (zb .wear-is))
+
     read-numbers : butRepainted (stripNumbers a) ≡ butRepainted (stripNumbers b)
     read-numbers =
         same-numbers (stripNumbers a) (stripNumbers b) codes lanes wides highs (ap (λ (l : Level). l .par) level) mendeds
-        (za .wear-is ∙ ap₂ (λ (m n : ℕ). wearOf m n) mendeds (same .same-length) ∙ sym (zb .wear-is))
+        wears
 
     read-tiles : t1 ≡ t2
     read-tiles =

@@ -10,7 +10,7 @@ use Rattle.gf256.proofs.Field256.{field256}
 use Rattle.rules.specs.Refusal.{First, Hold, asked}
 use Rattle.rules.proofs.Laws.{before, after, stops, numbered, none-first}
 use Rattle.level.specs.Level.{Level}
-use Rattle.level.specs.Strip.{columns, Reached, Mends, Lowest, mendedOf, repaintedOf, wearOf}
+use Rattle.level.specs.Strip.{columns, Reached, Mends, Lowest, mendedOf, repaintedOf, IsWear}
 use Rattle.level.specs.Reading.{refusedAt, returned, entering, mending, judging, dataOf, levelOf}
 use Rattle.level.proofs.Strips.{mendable, reached-mends}
 use Rattle.level.proofs.Mended.{level-reached, passing, found, none-reached}
@@ -41,7 +41,7 @@ module _ (R : ℕ) where
       kept = A .kept;
     }
 
-    pub finish-read : (v : ℕ) → j .code ≡ 0 → v ≡ wearOf e N → FinishedAs R bs N e d tiles tiles'
+    pub finish-read : (v : ℕ) → j .code ≡ 0 → IsWear e N v → FinishedAs R bs N e d tiles tiles'
         (stripNumbers (reading.Read (j .width) (j .height) (j .par) e d v))
     finish-read v z ev = record {
       first = subst (First (asked (λ ask. ask bs) (judging R))) z (A .first);
@@ -105,7 +105,7 @@ module _ (R : ℕ) where
           only = λ l u q. sym (passing gf256 field256 (omega arith) R some marks s t (h .0 .k) full shorter M l u q .level) ∙ same;
           mended-is = F .mended z ∙ counted;
           repainted-is = F .repainted z ∙ painted;
-          wear-is = F .wear z ∙ ap (λ (x : ℕ). wearOf x (length s)) (sym (F .mended z));
+          wear-is = subst (λ (x : ℕ). IsWear x (length s) (stripNumbers a .wear)) (sym (F .mended z)) (F .wear z);
           rest =
               tiles-past (dataOf R t) tiles tiles' (stripNumbers a .width) (stripNumbers a .height) (stripNumbers a .par) (F .wide z) (F .high z) (F .par z)
               (F .tiles-are z);

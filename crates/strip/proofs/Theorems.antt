@@ -15,10 +15,11 @@ use Rattle.code.specs.declared.word.Written.{Written}
 use Rattle.code.proofs.Answers.{written-zero}
 use Rattle.level.specs.Level.{Level, IsLevel}
 use Rattle.level.specs.Record.{recordLength}
-use Rattle.level.specs.Strip.{columns, Legal, StripReach, Reached, wrongIn, markedIn, mendedOf, repaintedOf}
+use Rattle.level.specs.Strip.{columns, Legal, StripReach, Reached, wrongIn, markedIn, mendedOf, repaintedOf, IsWear}
 use Rattle.level.specs.Reading.{ReadNumbers, butRepainted, returned, entering, mending}
 use Rattle.level.specs.Writing.{writingLevel}
 use Rattle.level.proofs.Dealing.{columns-more, lanes-short}
+use Rattle.level.proofs.Counts.{legal-some}
 use Rattle.level.proofs.Strips.{same-strip}
 use Rattle.level.proofs.Theorems as levels
 use Rattle.lending.proofs.Lent.{written-level, level-written}
@@ -46,7 +47,7 @@ module _ (R : ℕ) (two : 2 ≤ R) where
     pub read-when-reached : (l : Level) (t : List ℕ) → Reached gf256 R marks s l t → stripNumbers a .code ≡ 0
     read-when-reached l t q = either (stripNumbers a .code ≡ 0) (stripNumbers a .code) (λ z. z) (λ n. absurd (A .no-level h n l t q))
 
-    -- FORMAT 11.2 to 11.7: and one is returned only then: it is such a level, and no other is. With it: mended, wear, the other tile bytes.
+    -- FORMAT 11.2 to 11.7: and one is returned only then: it is such a level, and no other is. With it: mended, repainted, wear, the other tile bytes.
     pub reached-when-read : stripNumbers a .code ≡ 0 → LevelRead gf256 R s marks tiles tiles' (stripNumbers a)
     reached-when-read = A .level
 
@@ -81,9 +82,17 @@ module _ (R : ℕ) (two : 2 ≤ R) where
     pub wear-most : stripNumbers a .wear ≤ 33
     wear-most =
         either (stripNumbers a .wear ≤ 33) (stripNumbers a .code)
-        (λ z. rw (A .level z .wear-is, A .level z .mended-is)
-        (levels.wear-most R some marks s (A .level z .strip) (entered-when-read z .0) (A .level z .reached .reach)))
+        (λ z. levels.wear-most R some marks s (A .level z .strip) (stripNumbers a .wear) (entered-when-read z .0) (A .level z .reached .reach)
+        (subst (λ (m : ℕ). IsWear m (length s) (stripNumbers a .wear)) (A .level z .mended-is) (A .level z .wear-is)))
         (λ n. omega (arith, ap (λ (x : ReadNumbers). x .wear) (zeros a n)))
+
+    -- FORMAT 11.9: with nothing mended there is no wear.
+    pub wear-none : stripNumbers a .mended ≡ 0 → stripNumbers a .wear ≡ 0
+    wear-none e =
+        either (stripNumbers a .wear ≡ 0) (stripNumbers a .code)
+        (λ z. levels.wear-none (length s) (stripNumbers a .wear) (legal-some R some (entered-when-read z .0))
+        (subst (λ (m : ℕ). IsWear m (length s) (stripNumbers a .wear)) e (A .level z .wear-is)))
+        (λ n. ap (λ (x : ReadNumbers). x .wear) (zeros a n))
 
   -- FORMAT 10.8, 10.9: the reader's promise fixes every number and every tile byte; the scratch's old bytes have no influence.
   pub strip-reads-fixed : (s marks tiles t1 t2 u u' v v' : List ℕ) (a b : Reading) → length u ≡ length v → StripReadsAs R s marks tiles t1 u u' a
@@ -184,17 +193,19 @@ module _ (R : ℕ) (two : 2 ≤ R) where
           (reach .same-length),
     )
 
-  -- FORMAT 11.9: reading what was written, with no marks, gives the level back; nothing is mended or repainted.
+  -- FORMAT 11.9: reading what was written, with no marks, gives the level back; nothing is mended, repainted or worn.
   pub strip-read-back : (l : Level) (old new : List ℕ) (b : Written) → StripWritesAs R l old new b → writtenNumbers b .code ≡ 0
       → (marks tiles tiles' scratch scratch' : List ℕ) (a : Reading) → StripReadsAs R (take (stripLength R l) new) marks tiles tiles' scratch scratch' a
       → length marks ≡ stripLength R l → ((p : ℕ) → getD marks p 0 ≡ 0) → 961 ≤ length tiles → 384 ≤ length scratch
       → (stripNumbers a .code ≡ 0) × (returned (stripNumbers a) tiles' ≡ l) × (stripNumbers a .mended ≡ 0) × (stripNumbers a .repainted ≡ 0)
+      × (stripNumbers a .wear ≡ 0)
   strip-read-back l old new b W zb marks tiles tiles' scratch scratch' a A em none room room' =
       let s = take (stripLength R l) new in
       let e = alike.written-size R some l new (W .strip zb) in
       let d = damaged-read-back l old new b W zb s marks tiles tiles' scratch scratch' a A (em ∙ sym e) (λ p k. omega (arith, none p)) room room'
       (alike.at-home R some marks s none) in
-      (d .0, d .1, d .2 ∙ alike.nothing-differs marks s, d .3 ∙ alike.nothing-repainted marks s)
+      let unmended = d .2 ∙ alike.nothing-differs marks s in
+      (d .0, d .1, unmended, d .3 ∙ alike.nothing-repainted marks s, wear-none s marks tiles tiles' scratch scratch' a A unmended)
 
   -- ---- drawn again
 

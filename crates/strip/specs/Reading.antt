@@ -8,7 +8,7 @@ use Rattle.gf256.specs.Gf256.{gf256}
 use Rattle.rules.specs.Refusal.{First, Hold, asked}
 use Rattle.level.specs.Level.{Level}
 use Rattle.level.specs.Record.{fieldAt}
-use Rattle.level.specs.Strip.{Reached, Lowest, mendedOf, repaintedOf, wearOf}
+use Rattle.level.specs.Strip.{Reached, Lowest, mendedOf, repaintedOf, IsWear}
 use Rattle.level.specs.Reading.{ReadNumbers, refusedAt, returned, entering, mending, judging, tilesOf}
 use Rattle.strip.specs.declared.read.Reading.{Reading}
 use Rattle.strip.specs.declared.read.Reading.the-variants as reading
@@ -28,7 +28,7 @@ pub record LevelRead (O : Ops) (R : ℕ) (s marks tiles tiles' : List ℕ) (n : 
   pub only : (l : Level) (t : List ℕ) → Reached O R marks s l t → l ≡ returned n tiles'
   pub mended-is : n .mended ≡ mendedOf R marks s strip
   pub repainted-is : n .repainted ≡ repaintedOf R marks s strip
-  pub wear-is : n .wear ≡ wearOf (n .mended) (length s)
+  pub wear-is : IsWear (n .mended) (length s) (n .wear)
   pub rest : drop (n .width * n .height) tiles' ≡ drop (n .width * n .height) tiles
 
 -- FORMAT 8.13, 9.44, 9.45, 10.2 to 10.4: refused before the picture was looked at, the scratch is kept; refused by the picture, no level is
@@ -54,7 +54,7 @@ pub record FinishedAs (R : ℕ) (bs : List ℕ) (N e d : ℕ) (tiles tiles' : Li
   pub par : n .code ≡ 0 → n .par ≡ fieldAt bs 14 10
   pub mended : n .code ≡ 0 → n .mended ≡ e
   pub repainted : n .code ≡ 0 → n .repainted ≡ d
-  pub wear : n .code ≡ 0 → n .wear ≡ wearOf e N
+  pub wear : n .code ≡ 0 → IsWear e N (n .wear)
   pub tiles-are : n .code ≡ 0 → tiles' ≡ tilesOf bs ++ drop (n .width * n .height) tiles
   pub kept : (n .code ≡ 0 → ⊥) → tiles' ≡ tiles
 

@@ -1,9 +1,8 @@
 // Reading a strip: what is to be put right in its lanes, and the record in the mended strip judged and unpacked.
-ghost use mathlib.Core.Path.{_≡_};
 ghost use Prim.Native.Nat.{_≤_};
 ghost use lib.ListN.{length};
 ghost use Rattle.rules.specs.Refusal.{Within};
-ghost use Rattle.level.specs.Strip.{Legal, wearOf};
+ghost use Rattle.level.specs.Strip.{Legal, IsWear};
 ghost use Rattle.level.specs.Reading.{dataOf};
 ghost use Rattle.patches.specs.Patched.{patched};
 ghost use Rattle.fields.specs.Judged.{AcceptedAs};
@@ -33,12 +32,18 @@ pub enum Reading {
     },
 }
 
-// Percent of the cells that were mended, rounded down.
+// Percent of the cells that were mended, to the nearest whole number. The quotient is too low where more than half a percent is left; an exact
+// half goes to the even number, so an odd quotient gives way to it.
 fn wear(mended: usize, n: usize) -> usize
     requires { ⌜ (mended ≤ 8) × Within stripLeast stripMost n ⌝ }
-    ensures { λ r. ⌜ r ≡ wearOf mended n ⌝ }
+    ensures { λ r. ⌜ IsWear mended n r ⌝ }
 {
-    100 * mended / n
+    let percents = 100 * mended;
+    let down = percents / n;
+    if 2 * (percents % n) + down % 2 > n {
+        return down + 1;
+    }
+    down
 }
 
 // The record in the data cells of the strip, of which count are to be put right. With nothing to put right the strip is its own window.

@@ -278,56 +278,53 @@ static void test_swapped_lanes(void)
 
 /* ---- the editor's way ---- */
 
-/* Where all pictures are refused, nothing was compared. */
-static void end_with_levels(size_t levels)
+/* Damage that is within reach in most lanes. */
+static void draw_lanes(struct picture *p, size_t k)
 {
-    if (levels == 0)
-        group_fail("no level was read");
-    group_end();
-}
-
-/* Damage that is within reach in most lanes; what is read is redrawn. */
-static void test_redrawn(void)
-{
-    struct picture p;
     struct board b;
-    size_t levels = 0;
 
-    group_begin(subject, "read, written again and compared cell by cell");
-    for (size_t k = 0; k < scaled(20000); k++) {
-        picture_any_level(&p, &b);
-        for (size_t lane = 0; lane < REF_LANES; lane++) {
-            const size_t wrong = draw_below(3);
+    (void)k;
+    picture_any_level(p, &b);
+    for (size_t lane = 0; lane < REF_LANES; lane++) {
+        const size_t wrong = draw_below(3);
 
-            damage_lane(&p, lane, wrong,
-                        draw_below(REF_REACH + 1 - 2 * wrong +
-                                   (draw_below(16) == 0)),
-                        draw_under_mark());
-        }
-        levels += check_redrawn(&p);
+        damage_lane(p, lane, wrong,
+                    draw_below(REF_REACH + 1 - 2 * wrong +
+                               (draw_below(16) == 0)),
+                    draw_under_mark());
     }
-    end_with_levels(levels);
 }
 
 /* A sticker, and marks over other cells than those that it covers. */
-static void test_redrawn_stickers(void)
+static void draw_sticker(struct picture *p, size_t k)
+{
+    struct board b;
+
+    draw_plain_level(&b);
+    picture_board(p, &b);
+    put_sticker(p, fitting(p, draw_between(3, 16)),
+                p->strip[draw_below(p->strip_len)],
+                (enum marking)(k % MARKINGS));
+    for (size_t marked = draw_below(5); marked > 0; marked--)
+        p->marks[draw_below(p->strip_len)] = 1;
+}
+
+/* What is read is redrawn. Where all pictures are refused, nothing was
+   compared. */
+static void test_redrawn(const char *name, size_t cases,
+                         void (*draw)(struct picture *p, size_t k))
 {
     struct picture p;
-    struct board b;
     size_t levels = 0;
 
-    group_begin(subject, "stickers, read, written again and compared");
-    for (size_t k = 0; k < scaled(4000); k++) {
-        draw_plain_level(&b);
-        picture_board(&p, &b);
-        put_sticker(&p, fitting(&p, draw_between(3, 16)),
-                    p.strip[draw_below(p.strip_len)],
-                    (enum marking)(k % MARKINGS));
-        for (size_t marked = draw_below(5); marked > 0; marked--)
-            p.marks[draw_below(p.strip_len)] = 1;
+    group_begin(subject, name);
+    for (size_t k = 0; k < scaled(cases); k++) {
+        draw(&p, k);
         levels += check_redrawn(&p);
     }
-    end_with_levels(levels);
+    if (levels == 0)
+        group_fail("no level was read");
+    group_end();
 }
 
 void test_strip_wild(void)
@@ -342,6 +339,8 @@ void test_strip_wild(void)
     test_forgotten_sums();
     test_cut_strips();
     test_swapped_lanes();
-    test_redrawn();
-    test_redrawn_stickers();
+    test_redrawn("read, written again and compared cell by cell", 20000,
+                 draw_lanes);
+    test_redrawn("stickers, read, written again and compared", 4000,
+                 draw_sticker);
 }

@@ -1,6 +1,7 @@
 -- A test that antt computes at each number below n.
 use mathlib.Core.Bool.{Bool, true, false}
 use mathlib.Core.Path.{_≡_, subst, sym}
+use mathlib.Core.Logic.{_⊎_, inl, inr}
 use Prim.Native.Nat.{ℕ, zero, suc, _<_}
 use native.Mathlib.Decide.{ℕ-discrete}
 use native.Mathlib.Omega.{arith}
@@ -17,6 +18,14 @@ both-left false b t = t
 pub both-right : (a b : Bool) → T (both a b) → T b
 both-right true b t = t
 both-right false b t = absurd t
+
+abbrev pub or : Bool → Bool → Bool
+or true b = true
+or false b = b
+
+pub or-one : (a b : Bool) → T (or a b) → T a ⊎ T b
+or-one true b t = inl tt
+or-one false b t = inr t
 
 -- f passes at 0 .. n - 1
 abbrev pub upto : (ℕ → Bool) → ℕ → Bool

@@ -1,7 +1,7 @@
 -- The rules of the table, each by one computed test.
-use mathlib.Core.Path.{_≡_, refl, sym, ap, _∙_, subst}
-use mathlib.Core.Logic.{_⊎_, inl, inr}
-use mathlib.Core.Bool.{Bool, true, false}
+use mathlib.Core.Path.{_≡_, sym, ap, _∙_, subst}
+use mathlib.Core.Logic.{_⊎_, inl, inr, ⊎-elim}
+use mathlib.Core.Bool.{Bool, true}
 use mathlib.Core.List.{List, [], _∷_, _++_}
 use Prim.Native.Nat.{ℕ, zero, suc, _+_, _<_}
 use native.Mathlib.Nat.{add-zero, add-suc, suc-add, zero-add}
@@ -13,7 +13,7 @@ use lib.Seq.{getD-append-add}
 use Rattle.account.specs.Field.{power}
 use Rattle.account.specs.Product.{product}
 use Rattle.account.specs.Search.{HalfOf}
-use Rattle.account.proofs.Test.{both, both-left, both-right, upto, upto-at}
+use Rattle.account.proofs.Test.{both, both-left, both-right, or, or-one, upto, upto-at}
 use Rattle.gf256.specs.Gf256.{gf256, times}
 use Rattle.gf256.specs.Tables.{Tables}
 
@@ -131,10 +131,6 @@ log-at (suc a) l h =
 
 -- ---- halves
 
-abbrev or : Bool → Bool → Bool
-or true b = true
-or false b = b
-
 right : ℕ → Bool
 right z = or (eqb (getD halvesList (bitXor (times z z) z) 0) z) (eqb (getD halvesList (bitXor (times z z) z) 0) (bitXor z 1))
 
@@ -143,11 +139,7 @@ unfolding right product
 halves-tested = tt
 
 either : (a b c : ℕ) → T (or (eqb a b) (eqb a c)) → (a ≡ b) ⊎ (a ≡ c)
-either a b c t = go (eqb a b) refl t
-  where
-    go : (x : Bool) → eqb a b ≡ x → T (or x (eqb a c)) → (a ≡ b) ⊎ (a ≡ c)
-    go true e u = inl (eqb→eq a b (subst T (sym e) tt))
-    go false e u = inr (eqb→eq a c u)
+either a b c t = ⊎-elim (λ u. inl (eqb→eq a b u)) (λ u. inr (eqb→eq a c u)) (or-one (eqb a b) (eqb a c) t)
 
 half-at : (c : ℕ) → HalfOf gf256 c (getD halvesList c 0)
 unfolding right

@@ -14,6 +14,7 @@ use Rattle.code.specs.declared.repair.Repaired.{Repaired}
 use Rattle.code.specs.declared.repair.Repaired.the-variants as repaired
 use Rattle.code.specs.declared.lane.Lane.{Lane}
 use Rattle.code.specs.declared.lane.LaneRepair.{LaneRepair}
+use Rattle.code.proofs.Repairing.{refuses}
 use Rattle.packing.specs.Packed.{packedRepair}
 use Rattle.host.specs.Export.{RepairExport}
 
@@ -38,16 +39,7 @@ none : (marks old : List ℕ) (c r : ℕ) → (c ≡ 0 → ⊥) → First (repai
     → r ≡ packedRepair (repairedNumbers (repaired.Refused c)) → RepairExport 96 marks old old r
 none marks old c r n f e = record {
   answer = repaired.Refused c;
-  kept = record {
-    told = n;
-    code = f;
-    cells = λ z. absurd (n z);
-    clean = λ z. absurd (n z);
-    reach = λ z. absurd (n z);
-    mended-is = λ z. absurd (n z);
-    repainted-is = λ z. absurd (n z);
-    kept = λ _. refl;
-  };
+  kept = refuses gf256 96 (length old) (length marks) marks old c n f;
   is = e;
 }
 

@@ -1,6 +1,6 @@
 -- The nearest whole number: there is exactly one, and how it is had from quotient and remainder.
-use mathlib.Core.Path.{_≡_, refl, sym, subst}
-use mathlib.Core.Logic.{_≢_, ⊎-elim}
+use mathlib.Core.Path.{_≡_, refl, sym, _∙_, subst}
+use mathlib.Core.Logic.{_≢_, _⊎_, inl, inr, ⊎-elim}
 use Prim.Native.Nat.{ℕ, suc, _+_, _*_, _-_, _/_, _%_, _≤_, _<_}
 use native.Mathlib.Nat.{mul-suc, mul-add, mul-le-mul-left, div-add-mod, mod-lt}
 use native.Mathlib.Omega.{arith}
@@ -33,31 +33,6 @@ module _ (a b : ℕ) where
     -- each whole number further on is b more
     ahead : (v w : ℕ) → v < w → b * v + b ≤ b * w
     ahead v w l = omega (arith, mul-suc b v, mul-le-mul-left {m = suc v} {n = w} b l)
-
-    -- ---- one is nearest at the most
-
-    -- Were two, both would be even, and a number between them closer.
-    not-below : (v w : ℕ) → Nearest a b v → Nearest a b w → v < w → ⊥
-    not-below v w p q l = omega (arith, some, distant, p .closest (suc v), closer)
-      where
-        alike : distance a b v ≡ distance a b w
-        alike = omega (arith, p .closest w, q .closest v)
-
-        apart : suc v < w
-        apart = omega (arith, l, p .even w (λ e. omega (arith, e, l)) (sym alike), q .even v (λ e. omega (arith, e, l)) alike)
-
-        wide : b * v + b + b ≤ b * w
-        wide = omega (arith, mul-suc b v, ahead (suc v) w apart)
-
-        distant : b ≤ distance a b v
-        distant = omega (arith, alike, wide, not-under v, not-over w)
-
-        closer : distance a b (suc v) ≤ distance a b v - 1
-        closer = within (suc v) (distance a b v - 1) (omega (arith, distant, mul-suc b v, not-under v)) (omega (arith, distant, mul-suc b v, alike, wide, not-over w))
-
-    pub nearest-one : (v w : ℕ) → Nearest a b v → Nearest a b w → v ≡ w
-    nearest-one v w p q =
-        ⊎-elim (λ l. absurd (not-below v w p q l)) (λ g. ⊎-elim (λ l. absurd (not-below w v q p l)) (λ h. omega (arith, g, h)) (lt-or-ge w v)) (lt-or-ge v w)
 
     -- ---- it is the quotient, or one more: all others are b or more away
 
@@ -127,6 +102,25 @@ module _ (a b : ℕ) where
     pub nearest-half : (v : ℕ) → v ≢ rounded a b → distance a b v ≡ distance a b (rounded a b) → 2 * (a % b) ≡ b
     nearest-half v =
         which (λ w. v ≢ w → distance a b v ≡ distance a b w → 2 * (a % b) ≡ b) (λ _. half-down v) (λ h. half-up (omega (arith, some, h)) v)
+
+    -- ---- one is nearest at the most: were both of them, both would be even
+
+    two : (w : ℕ) → Nearest a b w → (w ≡ a / b) ⊎ (w ≡ a / b + 1)
+    two =
+        three (λ w. Nearest a b w → (w ≡ a / b) ⊎ (w ≡ a / b + 1)) (λ _. inl refl) (λ _. inr refl)
+        (λ w f p. absurd (omega (arith, f, left, quotient-off, p .closest (a / b))))
+
+    not-both : (v w : ℕ) → v ≡ a / b → w ≡ a / b + 1 → Nearest a b v → Nearest a b w → ⊥
+    not-both v w e f p q = omega (arith, e, f, p .even w (λ g. omega (arith, e, f, g)) (sym alike), q .even v (λ g. omega (arith, e, f, g)) alike)
+      where
+        alike : distance a b v ≡ distance a b w
+        alike = omega (arith, p .closest w, q .closest v)
+
+    pub nearest-one : (v w : ℕ) → Nearest a b v → Nearest a b w → v ≡ w
+    nearest-one v w p q =
+        ⊎-elim (λ e. ⊎-elim (λ f. e ∙ sym f) (λ f. absurd (not-both v w e f p q)) (two w q))
+        (λ e. ⊎-elim (λ f. absurd (not-both w v f e q p)) (λ f. e ∙ sym f) (two w q))
+        (two v p)
 
     -- ---- it is no more than a over b and a half
 

@@ -1,15 +1,15 @@
 -- The rows of FORMAT 12.12 hold, and have every exact half of a legal length: both by computed tests.
 use mathlib.Core.Path.{_≡_, sym, ap, ap₂, _∙_, subst}
 use mathlib.Core.Bool.{Bool, true, false, not}
-use mathlib.Core.Logic.{_≢_, _⊎_, inl, inr}
+use mathlib.Core.Logic.{_≢_, inl, inr, ⊎-elim}
 use mathlib.Core.List.{List, [], _∷_}
 use Prim.Native.Nat.{ℕ, _+_, _*_, _%_, _≤_, _<_}
 use native.Mathlib.Omega.{arith}
 use borrow.Author.Tests.{eq-eqb}
 use lib.Dec.{T, eqb, eqb→eq, ltb, ltb→lt}
-use Rattle.account.proofs.Test.{both, both-left, both-right, upto, upto-at}
+use Rattle.account.proofs.Test.{both, both-left, both-right, or, or-one, upto, upto-at}
 use Rattle.level.specs.Strip.{Legal, distance, IsWear}
-use Rattle.level.specs.Cells.{Worn, row, IsWorn, AllWorn, Has, worn}
+use Rattle.level.specs.Cells.{Worn, row, IsWorn, Has, worn}
 use Rattle.level.proofs.Nearest.{rounded, nearest-one, nearest-rounded, nearest-half}
 use Rattle.level.proofs.Counts.{legal-some}
 
@@ -27,11 +27,12 @@ is-worn (row m N w) t =
     subst (IsWear m N) (eqb→eq (rounded (100 * m) N) w (both-right (ltb 0 N) (eqb (rounded (100 * m) N) w) t))
     (nearest-rounded (100 * m) N (ltb→lt 0 N (both-left (ltb 0 N) (eqb (rounded (100 * m) N) w) t)))
 
-all-worn : (rs : List Worn) → T (allWorn rs) → AllWorn rs
-all-worn [] t = tt
-all-worn (r ∷ rs) t = (is-worn r (both-left (isWorn r) (allWorn rs) t), all-worn rs (both-right (isWorn r) (allWorn rs) t))
+all-worn : (rs : List Worn) → T (allWorn rs) → (r : Worn) → Has r rs → IsWorn r
+all-worn [] t r h = absurd h
+all-worn (q ∷ rs) t r (inl e) = subst IsWorn (sym e) (is-worn q (both-left (isWorn q) (allWorn rs) t))
+all-worn (q ∷ rs) t r (inr h) = all-worn rs (both-right (isWorn q) (allWorn rs) t) r h
 
-pub every-row : AllWorn worn
+pub every-row : (r : Worn) → Has r worn → IsWorn r
 every-row = all-worn worn tt
 
 -- ---- each exact half is there
@@ -45,21 +46,13 @@ is-row m N w (row x y z) t =
     ap₂ (λ (i j : ℕ). row i j w) (eqb→eq m x (both-left (eqb m x) (both (eqb N y) (eqb w z)) t)) (eqb→eq N y (both-left (eqb N y) (eqb w z) u))
     ∙ ap (row x y) (eqb→eq w z (both-right (eqb N y) (eqb w z) u))
 
-abbrev or : Bool → Bool → Bool
-or true b = true
-or false b = b
-
-one-or : (P Q : Type 0) (a b : Bool) → (T a → P) → (T b → Q) → T (or a b) → P ⊎ Q
-one-or P Q true b f g t = inl (f tt)
-one-or P Q false b f g t = inr (g t)
-
 abbrev has : ℕ → ℕ → ℕ → List Worn → Bool
 has m N w [] = false
 has m N w (r ∷ rs) = or (isRow m N w r) (has m N w rs)
 
 has-row : (m N w : ℕ) (rs : List Worn) → T (has m N w rs) → Has (row m N w) rs
 has-row m N w [] t = absurd t
-has-row m N w (r ∷ rs) t = one-or (row m N w ≡ r) (Has (row m N w) rs) (isRow m N w r) (has m N w rs) (is-row m N w r) (has-row m N w rs) t
+has-row m N w (r ∷ rs) t = ⊎-elim (λ u. inl (is-row m N w r u)) (λ u. inr (has-row m N w rs u)) (or-one (isRow m N w r) (has m N w rs) t)
 
 -- where a half is left there is a row for it
 abbrev toldHalf : ℕ → ℕ → Bool

@@ -17,11 +17,7 @@ pub data Worn : Type 0 where
 abbrev pub IsWorn : Worn → Type 0
 IsWorn (row m N w) = IsWear m N w
 
-abbrev pub AllWorn : List Worn → Type 0
-AllWorn [] = Unit {0}
-AllWorn (r ∷ rs) = IsWorn r × AllWorn rs
-
--- a row stands among others
+-- the row stands among these
 abbrev pub Has : Worn → List Worn → Type 0
 Has r [] = ⊥
 Has r (q ∷ rs) = (r ≡ q) ⊎ Has r rs
@@ -37,7 +33,7 @@ pub data Cell : Type 0 where
   refused : List ℕ → List ℕ → Cell
   -- FORMAT 12.5, 12.6: a level with its record and its strip of four lanes
   lays : Level → List ℕ → List ℕ → Cell
-  -- FORMAT 12.12: rows of cells mended, cells, and wear
+  -- FORMAT 12.12: each of these rows holds
   wears : List Worn → Cell
 
 abbrev pub Holds : Cell → Type 0
@@ -46,7 +42,7 @@ Holds (gives d w) = WordOf gf256 d w
 Holds (becomes marks r w e d) = Clean gf256 w × Reach marks r w × (differing marks r w ≡ e) × (repainted marks r w ≡ d)
 Holds (refused marks r) = Reachable gf256 marks r → ⊥
 Holds (lays l bs s) = IsLevel l × IsRecord l bs × IsStrip gf256 4 l s
-Holds (wears rows) = AllWorn rows
+Holds (wears rows) = (r : Worn) → Has r rows → IsWorn r
 
 abbrev pub All : List Cell → Type 0
 All [] = Unit {0}

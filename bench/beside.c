@@ -84,7 +84,8 @@ static struct times run_row(const struct row *r)
     struct times t = {1e18, 1e18};
 
     for (int round = 0; round < r->rounds; round++) {
-        r->fill(r->batch);
+        if (r->fill != NULL)
+            r->fill(r->batch);
         time_side(r, &r->theirs, &t.theirs);
         time_side(r, &r->ours, &t.ours);
     }
@@ -104,20 +105,44 @@ void print_heads(const char *theirs)
            "median", RUNS);
 }
 
-void print_row(const struct row *r)
+/* What the runs of a row came to. */
+struct figures {
+    struct times least;
+    double ratio[RUNS]; /* by size */
+};
+
+static struct figures run_all(const struct row *r)
 {
-    struct times least = {1e18, 1e18};
-    double ratio[RUNS];
+    struct figures f = {.least = {1e18, 1e18}};
 
     for (int run = 0; run < RUNS; run++) {
         const struct times t = run_row(r);
 
-        keep_least(&least.theirs, t.theirs);
-        keep_least(&least.ours, t.ours);
-        ratio[run] = t.theirs / t.ours;
+        keep_least(&f.least.theirs, t.theirs);
+        keep_least(&f.least.ours, t.ours);
+        f.ratio[run] = t.theirs / t.ours;
     }
-    qsort(ratio, RUNS, sizeof ratio[0], by_size);
-    printf(" %9.0f %8.0f %7.1f x  (%.1f to %.1f)\n", least.theirs, least.ours,
+    qsort(f.ratio, RUNS, sizeof f.ratio[0], by_size);
+    return f;
+}
+
+static void print_figures(double theirs, double ours, const double ratio[RUNS])
+{
+    printf(" %9.0f %8.0f %7.1f x  (%.1f to %.1f)\n", theirs, ours,
            ratio[RUNS / 2], ratio[0], ratio[RUNS - 1]);
     fflush(stdout);
+}
+
+void print_row(const struct row *r)
+{
+    const struct figures f = run_all(r);
+
+    print_figures(f.least.theirs, f.least.ours, f.ratio);
+}
+
+void print_rates(const struct row *r)
+{
+    const struct figures f = run_all(r);
+
+    print_figures(1e9 / f.least.theirs, 1e9 / f.least.ours, f.ratio);
 }

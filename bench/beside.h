@@ -33,17 +33,19 @@ struct row {
     int count;     /* words, strips or records in the batch */
     int rounds;    /* in a run: as many passes of each, the quickest counts */
     pass *fill;    /* before each round: new ones, so that no branch can be
-                      learnt by heart */
+                      learnt by heart. NULL: they are too many for that */
     pass *restore; /* before each pass: what the last one changed */
     struct side theirs, ours;
 };
 
 /*
- * Both follow what names the row: ns each, the least of all runs, and how many
+ * These follow what names the row: ns each, the least of all runs, and how many
  * times faster ours is, the median of the runs with the least and the greatest
- * beside it. Where these are far apart, the machine had other work.
+ * beside it. Where these are far apart, the machine had other work. Rates are
+ * how many a second instead of ns.
  */
 void print_heads(const char *theirs);
 void print_row(const struct row *r);
+void print_rates(const struct row *r);
 
 #endif

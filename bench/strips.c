@@ -13,10 +13,8 @@
 #include <stdlib.h>
 #include <string.h>
 
-#include "beside.h"
-#include "draw.h"
+#include "damage.h"
 #include "harness.h"
-#include "pictures.h"
 #include "zavullimen_strips.h"
 
 enum {
@@ -24,27 +22,14 @@ enum {
     ROUNDS = 32  /* of a run */
 };
 
-struct damage {
-    const char *name;
-    size_t first_lane; /* this lane and those after it are damaged */
-    size_t wrong;
-    size_t marked;
-};
-
 /* ---- a batch of strips with one kind of damage ---- */
-
-typedef uint8_t lanes[REF_LANES][REF_LANE_MAX];
-typedef int erasures[REF_LANES][REF_CHECK_BYTES];
 
 struct batch {
     void *fec;
     size_t width, height, cells;
     const struct damage *damage;
     struct board level[STRIPS];
-    struct picture picture[STRIPS];
-    lanes written[STRIPS]; /* what is right, and what libfec is given */
-    lanes damaged[STRIPS];
-    erasures marked[STRIPS];
+    struct damaged damaged[STRIPS];
     lanes work[STRIPS]; /* what a pass changes */
     erasures work_marked[STRIPS];
     uint8_t strip[STRIPS][REF_STRIP_MAX];
@@ -53,37 +38,25 @@ struct batch {
     uint64_t result[STRIPS];
 };
 
-static void fill_strip(struct batch *b, int i)
-{
-    struct picture *p = &b->picture[i];
-
-    draw_level(&b->level[i], b->width, b->height);
-    picture_board(p, &b->level[i]);
-    for (size_t lane = 0; lane < REF_LANES; lane++) {
-        struct sample s;
-
-        take_lane(p, lane, &s);
-        memcpy(b->written[i][lane], s.word, s.len);
-        if (lane >= b->damage->first_lane)
-            draw_damage(&s, b->damage->wrong, b->damage->marked, WRONG_BYTE);
-        put_lane(p, lane, &s);
-        memcpy(b->damaged[i][lane], s.word, s.len);
-        find_erasures(s.marks, s.len, b->marked[i][lane]);
-    }
-}
-
 static void fill(void *batch)
 {
-    for (int i = 0; i < STRIPS; i++)
-        fill_strip(batch, i);
+    struct batch *b = batch;
+
+    for (int i = 0; i < STRIPS; i++) {
+        draw_level(&b->level[i], b->width, b->height);
+        draw_damaged(&b->damaged[i], &b->level[i], b->damage);
+    }
 }
 
 static void restore(void *batch)
 {
     struct batch *b = batch;
 
-    memcpy(b->work, b->damaged, sizeof b->work);
-    memcpy(b->work_marked, b->marked, sizeof b->work_marked);
+    for (int i = 0; i < STRIPS; i++) {
+        memcpy(b->work[i], b->damaged[i].lane, sizeof b->work[i]);
+        memcpy(b->work_marked[i], b->damaged[i].marked,
+               sizeof b->work_marked[i]);
+    }
     memset(b->strip, 0, sizeof b->strip);
     memset(b->tiles, 0, sizeof b->tiles);
 }
@@ -106,7 +79,7 @@ static void our_write(void *batch)
 static void fec_write(void *batch)
 {
     struct batch *b = batch;
-    const size_t k = lane_len(&b->picture[0]) - REF_CHECK_BYTES;
+    const size_t k = b->cells / REF_LANES - REF_CHECK_BYTES;
 
     for (int i = 0; i < STRIPS; i++)
         for (size_t lane = 0; lane < REF_LANES; lane++)
@@ -118,7 +91,7 @@ static void our_read(void *batch)
     struct batch *b = batch;
 
     for (int i = 0; i < STRIPS; i++) {
-        const struct picture *p = &b->picture[i];
+        const struct picture *p = &b->damaged[i].picture;
 
         b->result[i] = zav_strip_read(p->strip, p->strip_len, p->marks,
                                       p->marks_len, b->tiles[i], REF_TILES_MAX,
@@ -129,32 +102,24 @@ static void our_read(void *batch)
 static void fec_read(void *batch)
 {
     struct batch *b = batch;
-    const int marked = (int)b->damage->marked;
 
     for (int i = 0; i < STRIPS; i++)
         for (size_t lane = 0; lane < REF_LANES; lane++)
-            decode_rs_char(b->fec, b->work[i][lane],
-                           marked > 0 ? b->work_marked[i][lane] : NULL,
-                           marked);
+            fec_read_lane(b->fec, b->work[i][lane], b->damage, lane,
+                          b->work_marked[i][lane]);
 }
 
 /* ---- what a pass must leave ---- */
 
-static bool is_reached(const struct damage *d)
-{
-    return 2 * d->wrong + d->marked <= REF_REACH;
-}
-
 static void check_lanes(void *batch)
 {
     const struct batch *b = batch;
-    const size_t len = lane_len(&b->picture[0]);
 
     for (int i = 0; i < STRIPS; i++)
         for (size_t lane = 0; lane < REF_LANES; lane++)
             require(!is_reached(b->damage) ||
-                    memcmp(b->work[i][lane], b->written[i][lane], len) == 0,
-                    "libfec");
+                    memcmp(b->work[i][lane], b->damaged[i].written[lane],
+                           b->cells / REF_LANES) == 0, "libfec");
 }
 
 static void check_strips(void *batch)
@@ -162,37 +127,26 @@ static void check_strips(void *batch)
     const struct batch *b = batch;
 
     for (int i = 0; i < STRIPS; i++) {
-        const struct picture *p = &b->picture[i];
+        const struct picture *p = &b->damaged[i].picture;
 
         require(zav_length(b->result[i]) == p->strip_len &&
                 memcmp(b->strip[i], p->strip, p->strip_len) == 0, "ours");
     }
 }
 
-/* The level, or refusal 6 and nothing in the tiles. */
-static bool is_right(const struct batch *b, int i)
-{
-    const struct board *l = &b->level[i];
-    const struct damage *d = b->damage;
-    const struct ref_result level = {
-        .width = (unsigned)l->width, .height = (unsigned)l->height,
-        .par = (unsigned)l->par, .mended = (unsigned)(REF_LANES * d->wrong),
-        .repainted = (unsigned)(REF_LANES * d->marked), /* none is right */
-        .wear = ref_wear((unsigned)(REF_LANES * d->wrong),
-                         b->picture[i].strip_len)};
-    const struct ref_result refused = {.code = 6,
-                                       .lane = (unsigned)d->first_lane};
-
-    if (!is_reached(d))
-        return b->result[i] == packed(refused) && b->tiles[i][0] == 0;
-    return b->result[i] == packed(level) &&
-           memcmp(b->tiles[i], l->tiles, l->tiles_len) == 0;
-}
-
+/* The level, or a refusal and nothing in the tiles. */
 static void check_levels(void *batch)
 {
-    for (int i = 0; i < STRIPS; i++)
-        require(is_right(batch, i), "ours");
+    static const uint8_t nothing[REF_TILES_MAX];
+    const struct batch *b = batch;
+
+    for (int i = 0; i < STRIPS; i++) {
+        const struct board *l = &b->level[i];
+
+        require(b->result[i] == due_result(l, b->damage, b->cells) &&
+                memcmp(b->tiles[i], is_reached(b->damage) ? l->tiles : nothing,
+                       l->tiles_len) == 0, "ours");
+    }
 }
 
 /* ---- timing ---- */

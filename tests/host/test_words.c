@@ -61,6 +61,40 @@ static void test_powers(void)
     group_end();
 }
 
+/* FORMAT 1.11: a byte other than zero has one logarithm. */
+static void test_logarithms(void)
+{
+    unsigned met[256] = {0};
+
+    group_begin("power", "each byte other than 0 is one of the 255 powers");
+    for (int32_t i = 0; i < 255; i++)
+        met[zav_power(i)]++;
+    for (unsigned a = 0; a < 256; a++) {
+        char what[40];
+
+        group_case();
+        sprintf(what, "powers that are %02X", a);
+        check_number(met[a], a != 0, what);
+    }
+    group_end();
+}
+
+/* FORMAT 1.12. */
+static void test_sums_of_logarithms(void)
+{
+    group_begin("product", "every two powers by the sum of their exponents");
+    for (int32_t i = 0; i < 255; i++)
+        for (int32_t j = 0; j < 255; j++) {
+            char what[60];
+
+            group_case();
+            sprintf(what, "exponents %" PRId32 " and %" PRId32, i, j);
+            check_number(zav_product(zav_power(i), zav_power(j)),
+                         zav_power((i + j) % 255), what);
+        }
+    group_end();
+}
+
 /* ---- the syndrome ---- */
 
 static void check_syndrome(const uint8_t *word, size_t len)
@@ -362,6 +396,8 @@ int main(int argc, char **argv)
     test_worked_cells();
     test_products();
     test_powers();
+    test_logarithms();
+    test_sums_of_logarithms();
     test_syndromes();
     test_single_sums();
     test_writing();

@@ -7,7 +7,7 @@ ghost use Rattle.gf256.specs.Gf256.{gf256, times};
 pub fn product(a: u8, b: u8) -> u8
     ensures { λ r. ⌜ r ≡ times a b ⌝ }
 {
-    let tables = gf256::tables::TABLES;
+    let tables = gf256::tables::make();
     gf256::product(&tables, a, b)
 }
 
@@ -15,6 +15,6 @@ pub fn product(a: u8, b: u8) -> u8
 pub fn power(j: i32) -> u8
     ensures { λ r. ⌜ r ≡ alphaTo gf256 j ⌝ }
 {
-    let tables = gf256::tables::TABLES;
+    let tables = gf256::tables::make();
     gf256::alpha_to(&tables, j)
 }

@@ -46,14 +46,14 @@ fn enter(n: usize, marks: &[u8]) -> Entered
     Entered { code: 0, marked }
 }
 
-// The errata of a word with the remainder r, with the table made here.
+// The errata of a word with the remainder r. The tables are laid out here.
 fn errata_of(r: u64, marks: &[u8], f: usize) -> errata::Found
     requires { ⌜ (r < packedEnd) × (length (now marks) ≤ 255) × (f ≡ countTo (isMarked (now marks)) (length (now marks))) × (f ≤ 5) ⌝ }
     ensures { λ x. ⌜ ((w : List ℕ) → length w ≡ length (now (marks .entry)) → Cells gf256 w → Remains w r → SearchedAs (x .good) (now (marks .entry)) w (x .errata)) ⌝ }
 {
     let cells = marks::all(marks, f);
     let s = remainder::syndrome_of(r);
-    let tables = gf256::tables::TABLES;
+    let tables = gf256::tables::make();
     errata::find(&tables, s, marks.len(), cells, f)
 }
 

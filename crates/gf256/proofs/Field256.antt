@@ -16,7 +16,7 @@ use Rattle.account.proofs.Product as laws
 use Rattle.account.proofs.Powers as powers
 use Rattle.gf256.specs.Gf256.{gf256, times}
 use Rattle.gf256.specs.Tables.{inverseOf}
-use Rattle.gf256.proofs.Rules.{powersList, logsList, log-at}
+use Rattle.gf256.proofs.Rules.{powersList, logsList, logs-right}
 
 t-lt : (a : ℕ) → a < 256 → timesT 128 0x11D a < 256
 unfolding timesT
@@ -60,9 +60,10 @@ two-back : times 2 0x8E ≡ 1
 unfolding product
 two-back = refl
 
--- the inverse that the table gives: of the power i the power 255 - i
+-- the inverse that the tables give: of the power i the power 255 - i
 found : ℕ → ℕ
-found a = getD powersList (255 - getD logsList a 0) 0
+found zero = 0
+found (suc a) = getD powersList ((255 - getD logsList a 0) % 255) 0
 
 found-right : (a : ℕ) → a < 256 → a ≢ 0 → times a (found a) ≡ 1
 unfolding product found
@@ -81,8 +82,9 @@ ones (suc k) = ap (λ (x : ℕ). times x 1) (ones k) ∙ by-table .mul-one 1 (by
 -- every byte but 0 is a power of α, so its power 255 is 1
 pub inverse-right : (a : ℕ) → a < 256 → a ≢ 0 → times a (inverseOf a) ≡ 1
 unfolding power inverseOf
-inverse-right a h n =
-    by-table .mul-comm a (power gf256 a 254) ∙ ap (λ (x : ℕ). power gf256 x 255) (sym (log-at a (omega arith) h))
+inverse-right zero h n = absurd (n refl)
+inverse-right (suc a) h n =
+    by-table .mul-comm (suc a) (power gf256 (suc a) 254) ∙ ap (λ (x : ℕ). power gf256 x 255) (sym (logs-right .log-at a (omega arith) .is))
     ∙ powers.pow-mul gf256 by-table 2 i 255 ∙ ap (power gf256 2) (mul-comm i 255) ∙ sym (powers.pow-mul gf256 by-table 2 255 i)
     ∙ ap (λ (x : ℕ). power gf256 x i) around ∙ ones i
   where

@@ -1,4 +1,5 @@
 pub mod Rules
 pub mod Field256
 pub mod Lookups
+pub mod Laying
 pub mod Signs

@@ -1,4 +1,4 @@
--- What is read from the table: products, quotients, places, and powers of α and of its inverse.
+-- What is read from the tables: products, quotients, places, and powers of α and of its inverse.
 use mathlib.Core.Path.{_≡_, sym, ap, ap₂, _∙_}
 use mathlib.Core.Logic.{_≢_}
 use mathlib.Core.List.{List}
@@ -8,9 +8,41 @@ use native.Mathlib.Omega.{arith}
 use lib.ListN.{getD}
 use Rattle.account.specs.Field.{power}
 use Rattle.account.proofs.Powers as powers
-use Rattle.gf256.specs.Gf256.{gf256, times}
-use Rattle.gf256.specs.Tables.{Tables, IsLog, placeOf, inverseOf}
+use Rattle.gf256.specs.Gf256.{gf256, times, IsLog}
+use Rattle.gf256.specs.Tables.{Powers, Tables, placeOf, inverseOf}
 use Rattle.gf256.proofs.Field256.{field256, inverse-right}
+
+-- ---- powers
+
+whole : (x i k : ℕ) → power gf256 x k ≡ 1 → power gf256 x (k * i) ≡ 1
+unfolding power
+whole x zero k e = ap (power gf256 x) (mul-zero k)
+whole x (suc i) k e =
+    ap (power gf256 x) (mul-suc k i) ∙ powers.pow-add gf256 field256 x (k * i) k ∙ ap₂ times (whole x i k e) e ∙ field256 .mul-one 1 (field256 .in-one)
+
+-- a power goes by the remainder of its exponent
+pub reduced : (x k : ℕ) → power gf256 x 255 ≡ 1 → power gf256 x (k % 255) ≡ power gf256 x k
+reduced x k e =
+    sym
+    (ap (power gf256 x) split ∙ powers.pow-add gf256 field256 x (255 * (k / 255)) (k % 255)
+    ∙ ap (λ (y : ℕ). times y (power gf256 x (k % 255))) (whole x (k / 255) 255 e)
+    ∙ field256 .mul-comm 1 (power gf256 x (k % 255)) ∙ field256 .mul-one (power gf256 x (k % 255)) (powers.pow-in gf256 field256 x (k % 255)))
+  where
+    split : k ≡ 255 * (k / 255) + k % 255
+    split = omega arith
+
+-- the 255 entries of the table of powers are all different
+pub entries-differ : (t : List ℕ) → Powers t → (i j : ℕ) → i < 255 → j < 255 → i ≢ j → getD t i 0 ≢ getD t j 0
+entries-differ t P i j hi hj n e = powers.pow-apart gf256 field256 i j hi hj n (sym (P .power-at i hi) ∙ e ∙ P .power-at j hj)
+
+-- ---- products
+
+log-sum : (a b i j : ℕ) → IsLog a i → IsLog b j → power gf256 2 (i + j) ≡ times a b
+log-sum a b i j I J = powers.pow-add gf256 field256 2 i j ∙ ap₂ times (I .is) (J .is)
+
+-- FORMAT 1.12
+pub product-of-logs : (a b i j : ℕ) → IsLog a i → IsLog b j → times a b ≡ power gf256 2 ((i + j) % 255)
+product-of-logs a b i j I J = sym (reduced 2 (i + j) (field256 .α-around) ∙ log-sum a b i j I J)
 
 -- dividing by a is multiplying with any inverse of it
 pub same-quotient : (u a i : ℕ) → a < 256 → a ≢ 0 → times a i ≡ 1 → times u i ≡ times u (inverseOf a)
@@ -24,7 +56,7 @@ same-quotient u a i ha na e =
 module _ (t : List ℕ) (T : Tables t) where
   pub product-by : (a b i j : ℕ) → IsLog a i → IsLog b j → getD t (i + j) 0 ≡ times a b
   product-by a b i j I J =
-      T .power-at (i + j) (omega (arith, I .small, J .small)) ∙ powers.pow-add gf256 field256 2 i j ∙ ap₂ times (I .is) (J .is)
+      T .power-at (i + j) (omega (arith, I .small, J .small)) ∙ log-sum a b i j I J
 
   pub inverse-by : (a i : ℕ) → IsLog a i → times a (getD t (255 - i) 0) ≡ 1
   inverse-by a i I =
@@ -47,23 +79,6 @@ module _ (t : List ℕ) (T : Tables t) where
       same = omega arith
 
 -- ---- powers of α and of its inverse by the table
-
-whole : (x i k : ℕ) → power gf256 x k ≡ 1 → power gf256 x (k * i) ≡ 1
-unfolding power
-whole x zero k e = ap (power gf256 x) (mul-zero k)
-whole x (suc i) k e =
-    ap (power gf256 x) (mul-suc k i) ∙ powers.pow-add gf256 field256 x (k * i) k ∙ ap₂ times (whole x i k e) e ∙ field256 .mul-one 1 (field256 .in-one)
-
--- a power goes by the remainder of its exponent
-reduced : (x k : ℕ) → power gf256 x 255 ≡ 1 → power gf256 x (k % 255) ≡ power gf256 x k
-reduced x k e =
-    sym
-    (ap (power gf256 x) split ∙ powers.pow-add gf256 field256 x (255 * (k / 255)) (k % 255)
-    ∙ ap (λ (y : ℕ). times y (power gf256 x (k % 255))) (whole x (k / 255) 255 e)
-    ∙ field256 .mul-comm 1 (power gf256 x (k % 255)) ∙ field256 .mul-one (power gf256 x (k % 255)) (powers.pow-in gf256 field256 x (k % 255)))
-  where
-    split : k ≡ 255 * (k / 255) + k % 255
-    split = omega arith
 
 inverse-around : power gf256 0x8E 255 ≡ 1
 inverse-around =

@@ -1,31 +1,44 @@
--- What the lent table holds, and what is read from it.
+-- The tables of the field, what is lent of them, and what is read from it.
 use mathlib.Core.Path.{_≡_}
 use mathlib.Core.List.{List}
-use Prim.Native.Nat.{ℕ, _+_, _<_}
-use lib.ListN.{getD}
+use Prim.Native.Nat.{ℕ, suc, _+_, _<_}
+use lib.ListN.{length, getD}
 use Rattle.account.specs.Field.{power}
 use Rattle.account.specs.Errata.{place}
 use Rattle.account.specs.Search.{HalfOf}
-use Rattle.gf256.specs.Gf256.{gf256}
+use Rattle.gf256.specs.Gf256.{gf256, IsLog}
 
--- where the logarithms begin, and where the halves do
+-- the 255 powers of α, from α^0 on
+pub record Powers (t : List ℕ) : Type 0 where
+  pub all : length t ≡ 255
+  pub power-at : (k : ℕ) → k < 255 → getD t k 0 ≡ power gf256 2 k
+
+-- the logarithms of the 255 bytes other than 0, that of 1 first
+pub record Logs (t : List ℕ) : Type 0 where
+  pub all : length t ≡ 255
+  pub log-at : (i : ℕ) → i < 255 → IsLog (suc i) (getD t i 0)
+
+-- for each byte c one of the two z with z z + z = c, wherever there are any
+pub record Halves (t : List ℕ) : Type 0 where
+  pub all : length t ≡ 256
+  pub half-at : (c : ℕ) → c < 256 → HalfOf gf256 c (getD t c 0)
+
+-- ---- what is lent
+
+-- the logarithm of a is at logs + a, the half of c at halves + c
 abbrev pub logs : ℕ
 logs = 510
 
 abbrev pub halves : ℕ
 halves = 766
 
--- the powers of α twice around, their logarithms, and for each c one of the two z with z z + z = c, wherever there are any
+-- the three in one, the powers twice around
 pub record Tables (t : List ℕ) : Type 0 where
   pub power-at : (k : ℕ) → k < logs → getD t k 0 ≡ power gf256 2 k
-  pub log-small : (a : ℕ) → a < 256 → getD t (logs + a) 0 < 255
-  pub log-at : (a : ℕ) → 0 < a → a < 256 → power gf256 2 (getD t (logs + a) 0) ≡ a
+  pub log-at : (a : ℕ) → 0 < a → a < 256 → IsLog a (getD t (logs + a) 0)
   pub half-at : (c : ℕ) → c < 256 → HalfOf gf256 c (getD t (halves + c) 0)
 
--- x is the power r of α
-pub record IsLog (x r : ℕ) : Type 0 where
-  pub small : r < 255
-  pub is : power gf256 2 r ≡ x
+-- ---- what is read from it
 
 -- the place of cell p of n
 abbrev pub placeOf : ℕ → ℕ → ℕ

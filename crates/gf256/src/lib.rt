@@ -1,15 +1,18 @@
-// GF(256): products, quotients and powers of α by a table that an entry makes once and lends.
+// GF(256): products, quotients and powers of α by the tables, which an entry lays out once and lends.
 ghost use mathlib.Core.Path.{_≡_};
 ghost use Prim.Native.Nat.{_≤_, _<_};
 ghost use Rattle.account.specs.Field.{power};
 ghost use Rattle.account.specs.Code.{alphaTo};
 ghost use Rattle.account.specs.Search.{HalfOf};
-ghost use Rattle.gf256.specs.Gf256.{gf256, times};
-ghost use Rattle.gf256.specs.Tables.{Tables, IsLog, placeOf, inverseOf};
+ghost use Rattle.gf256.specs.Gf256.{gf256, times, IsLog};
+ghost use Rattle.gf256.specs.Tables.{Tables, placeOf, inverseOf};
 use tables::HALVES;
 use tables::LOGS;
 
-pub mod tables; // the table
+pub mod tables; // what is lent
+mod halves;
+mod logs;
+mod powers;
 
 // The power of α that x is.
 pub fn log(tables: &[u8; 1022], x: u8) -> usize

@@ -120,7 +120,7 @@ fn mend_one(
     repair_one(tables, strip, marks, lanes, l, r, m, k, cells, bytes)
 }
 
-// Every lane in its turn, with its remainder. The table is made here, once for all lanes.
+// Every lane in its turn, with its remainder. The tables are laid out here, once for all lanes.
 fn mend_each(
     strip: &[u8],
     marks: &[u8],
@@ -133,7 +133,7 @@ fn mend_each(
     requires { ⌜ Entered lanes (now strip) (now marks) × NoneSet f (now marks) × Remaindered lanes (now strip) r × Room 0 (now cells) (now bytes) ⌝ }
     ensures { λ m. ⌜ MendedAs lanes (now (strip .entry)) (now (marks .entry)) (now (cells .exit)) (now (bytes .exit)) m ⌝ }
 {
-    let tables = gf256::tables::TABLES;
+    let tables = gf256::tables::make();
     let mut mended: usize = 0;
     let mut repainted: usize = 0;
     let mut noted: usize = 0;

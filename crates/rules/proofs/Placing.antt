@@ -1,12 +1,12 @@
--- Cells placed one after the other.
-use mathlib.Core.Path.{_≡_, refl, sym, _∙_, subst}
+-- Cells placed one after the other, or by a copy.
+use mathlib.Core.Path.{_≡_, refl, sym, ap, ap₂, _∙_, subst}
 use mathlib.Core.Logic.{_⊎_, inl, inr, ⊎-elim}
-use mathlib.Core.List.{List}
-use Prim.Native.Nat.{ℕ, _+_, _≤_, _<_}
+use mathlib.Core.List.{List, [], _++_, append-nil}
+use Prim.Native.Nat.{ℕ, _+_, _-_, _≤_, _<_}
 use native.Mathlib.Nat.{eq-or-lt-of-le}
 use native.Mathlib.Omega.{arith}
-use lib.ListN.{length, getD, set, length-set}
-use lib.Seq.{getD-set-same, getD-set-other}
+use lib.ListN.{length, getD, set, take, drop, length-set, length-append, length-drop, drop-of-length-le, List·getD-append}
+use lib.Seq.{getD-set-same, getD-set-other, getD-take, getD-drop, getD-append-add, take-length, length-take-le, drop-drop}
 use Rattle.rules.specs.Placed.{Placed}
 
 module _ (a : ℕ) (v : ℕ → ℕ) (o : List ℕ) where
@@ -25,3 +25,53 @@ module _ (a : ℕ) (v : ℕ → ℕ) (o : List ℕ) where
       apart : (p : ℕ) → (p < a) ⊎ (b + 1 ≤ p) → p ≡ b → ⊥
       apart p (inl l) q = omega arith
       apart p (inr l) q = omega arith
+
+-- t over the cells of o from a on
+module _ (a : ℕ) (t o : List ℕ) (room : a + length t ≤ length o) where
+  abbrev over : List ℕ
+  over = take a o ++ (t ++ drop (a + length t) o)
+
+  front : length (take a o) ≡ a
+  front = length-take-le a o (omega arith)
+
+  behind : (i : ℕ) → getD over (a + i) 0 ≡ getD (t ++ drop (a + length t) o) i 0
+  behind i = ap (λ (k : ℕ). getD over (k + i) 0) (sym front) ∙ getD-append-add (take a o) (t ++ drop (a + length t) o) i 0
+
+  over-placed : Placed a (a + length t) (λ p. getD t (p - a) 0) o over
+  over-placed = record {
+    long =
+        length-append (take a o) (t ++ drop (a + length t) o)
+        ∙ omega (arith, front, length-append t (drop (a + length t) o), length-drop (a + length t) o);
+    inside = λ p g k.
+        let e : p ≡ a + (p - a) = omega arith in
+        ap (λ (i : ℕ). getD over i 0) e ∙ behind (p - a) ∙ List·getD-append t (drop (a + length t) o) 0 (p - a) (omega arith);
+    outside = λ p s. ⊎-elim (before p) (past p) s;
+  }
+    where
+      before : (p : ℕ) → p < a → getD over p 0 ≡ getD o p 0
+      before p l = List·getD-append (take a o) (t ++ drop (a + length t) o) 0 p (omega (arith, front)) ∙ getD-take a o p 0 l
+
+      past : (p : ℕ) → a + length t ≤ p → getD over p 0 ≡ getD o p 0
+      past p l =
+          let e : p ≡ a + (length t + (p - (a + length t))) = omega arith in
+          let f : a + length t + (p - (a + length t)) ≡ p = omega arith in
+          ap (λ (i : ℕ). getD over i 0) e ∙ behind (length t + (p - (a + length t)))
+          ∙ getD-append-add t (drop (a + length t) o) (p - (a + length t)) 0 ∙ getD-drop (a + length t) o (p - (a + length t)) 0
+          ∙ ap (λ (i : ℕ). getD o i 0) f
+
+  -- what a copy to the cells from a on leaves
+  pub placed-copy : (x : List ℕ) → x ≡ t ++ drop (length t) (take (length o - a) (drop a o))
+      → Placed a (a + length t) (λ p. getD t (p - a) 0) o (take a o ++ (x ++ drop (length o - a) (drop a o)))
+  placed-copy x e = subst (Placed a (a + length t) (λ p. getD t (p - a) 0) o) (sym same) over-placed
+    where
+      all : take (length o - a) (drop a o) ≡ drop a o
+      all = ap (λ (n : ℕ). take n (drop a o)) (sym (length-drop a o)) ∙ take-length (drop a o)
+
+      none : drop (length o - a) (drop a o) ≡ []
+      none = drop-of-length-le (drop a o) {i = length o - a} (omega (arith, length-drop a o))
+
+      same : take a o ++ (x ++ drop (length o - a) (drop a o)) ≡ over
+      same =
+          ap (λ (y : List ℕ). take a o ++ y)
+          (ap₂ (λ (y z : List ℕ). y ++ z) (e ∙ ap (λ (y : List ℕ). t ++ drop (length t) y) all) none ∙ append-nil (t ++ drop (length t) (drop a o))
+          ∙ ap (λ (y : List ℕ). t ++ y) (drop-drop (length t) a o))

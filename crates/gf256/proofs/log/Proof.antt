@@ -10,13 +10,10 @@ element-copy-out-result : tie.Need-element-copy-out-result
 element-copy-out-result c = search needs
 
 cast-result : tie.Need-cast-result
-cast-result c = omega (arith, c .before .pre .0 .log-small (c .before .args .x) (omega arith))
+cast-result c = omega (arith, c .before .pre .0 .log-at (c .before .args .x) (omega arith) (omega arith) .small)
 
 returns : tie.Need-returns
-returns c = record {
-  small = c .before .pre .0 .log-small (c .before .args .x) (omega arith);
-  is = c .before .pre .0 .log-at (c .before .args .x) (omega arith) (omega arith);
-}
+returns c = c .before .pre .0 .log-at (c .before .args .x) (omega arith) (omega arith)
 
 pub log-spec : {M : Type 1} → statement M
 log-spec = tie.close (tie.spec add-result element-copy-out-result cast-result returns)

@@ -2,7 +2,6 @@ use Prim.Native.Nat.{_-_}
 use native.Mathlib.Omega.{arith}
 use borrow.Author.Tests.{not-true, not-false}
 use Rattle.gf256.specs.Tables.{Tables}
-use Rattle.gf256.proofs.Rules.{tables}
 use Rattle.lanes.proofs.Sofar.{Sofar, sofar-0, room-left, sofar-more, one-few, lost, all-mended}
 use borrow.Author.Needs.{needs}
 use Rattle.lanes.proofs.mend_each.Statement.{statement}
@@ -15,10 +14,13 @@ Inv-loop strip marks f lanes cells₀ bytes₀ r tables mended₀ repainted₀ n
 abbrev μ-loop : tie.MeasureT-loop
 μ-loop strip marks f lanes cells₀ bytes₀ r tables mended₀ repainted₀ noted₀ l₀ cells bytes mended repainted noted l = lanes - l
 
+make-requires : tie.Need-make-requires Inv-loop μ-loop
+make-requires c κs = search needs
+
 loop-holds : tie.Need-loop-holds Inv-loop μ-loop
 loop-holds c =
-    let a = c .before .before .args in
-    (tables, sofar-0 (a .lanes) (a .strip .now) (a .marks .now) (a .cells .now) (a .bytes .now) (c .before .before .pre .3))
+    let a = c .before .before .before .args in
+    (c .make .ensures, sofar-0 (a .lanes) (a .strip .now) (a .marks .now) (a .cells .now) (a .bytes .now) (c .before .before .before .pre .3))
 
 mul-mend-one : tie.Need-mul-mend-one Inv-loop μ-loop
 mul-mend-one c = search needs
@@ -28,8 +30,8 @@ array-read-mend-one c = search needs
 
 mend-one-requires : tie.Need-mend-one-requires Inv-loop μ-loop
 mend-one-requires c κs =
-    let a = c .before .before .before .before .before .before .before .args in
-    let p = c .before .before .before .before .before .before .before .pre in
+    let a = c .before .before .before .before .before .before .before .before .args in
+    let p = c .before .before .before .before .before .before .before .before .pre in
     let l = c .before .before .before .before .loop in (
       l .inv .0,
       record { entered = p .0; inside = omega arith; remains = record { remains = p .2 .each (l .l) (omega arith) } },
@@ -39,8 +41,8 @@ mend-one-requires c κs =
 
 returns : tie.Need-returns Inv-loop μ-loop
 returns c =
-    let a = c .before .before .before .before .before .before .before .before .before .args in
-    let p = c .before .before .before .before .before .before .before .before .before .pre in
+    let a = c .before .before .before .before .before .before .before .before .before .before .args in
+    let p = c .before .before .before .before .before .before .before .before .before .before .pre in
     let l = c .before .before .before .before .before .before .loop in
     let o = c .before .mend-one in
     lost (a .lanes) (a .strip .now) (a .marks .now) (p .0) (l .cells) (l .bytes) _ _ (l .mended) (l .repainted) (l .noted) (l .l) (omega arith) (l .inv .1) (o .result) (not-true (o .result .good) (c .if1 .taken))
@@ -48,8 +50,8 @@ returns c =
 
 add-mended : tie.Need-add-mended Inv-loop μ-loop
 add-mended c =
-    let a = c .before .before .before .before .before .before .before .before .before .before .args in
-    let p = c .before .before .before .before .before .before .before .before .before .before .pre in
+    let a = c .before .before .before .before .before .before .before .before .before .before .before .args in
+    let p = c .before .before .before .before .before .before .before .before .before .before .before .pre in
     let l = c .before .before .before .before .before .before .before .loop in
     let o = c .before .before .mend-one in
     omega (
@@ -62,8 +64,8 @@ add-mended c =
 
 add-repainted : tie.Need-add-repainted Inv-loop μ-loop
 add-repainted c =
-    let a = c .before .before .before .before .before .before .before .before .before .before .before .args in
-    let p = c .before .before .before .before .before .before .before .before .before .before .before .pre in
+    let a = c .before .before .before .before .before .before .before .before .before .before .before .before .args in
+    let p = c .before .before .before .before .before .before .before .before .before .before .before .before .pre in
     let l = c .before .before .before .before .before .before .before .before .loop in
     let o = c .before .before .before .mend-one in
     omega (
@@ -82,8 +84,8 @@ loop-less c = search needs
 
 loop-again : tie.Need-loop-again Inv-loop μ-loop
 loop-again c =
-    let a = c .before .before .before .before .before .before .before .before .before .before .before .args in
-    let p = c .before .before .before .before .before .before .before .before .before .before .before .pre in
+    let a = c .before .before .before .before .before .before .before .before .before .before .before .before .args in
+    let p = c .before .before .before .before .before .before .before .before .before .before .before .before .pre in
     let l = c .before .before .before .before .before .before .before .before .loop in
     let o = c .before .before .before .mend-one in (
       l .inv .0,
@@ -93,8 +95,8 @@ loop-again c =
 
 returns-2 : tie.Need-returns-2 Inv-loop μ-loop
 returns-2 c =
-    let a = c .before .before .before .before .args in
-    let p = c .before .before .before .before .pre in
+    let a = c .before .before .before .before .before .args in
+    let p = c .before .before .before .before .before .pre in
     let l = c .before .loop in
     all-mended (a .lanes) (a .strip .now) (a .marks .now) (p .0) (l .cells) (l .bytes) (l .mended) (l .repainted) (l .noted) (l .l) (omega arith) (l .inv .1)
 
@@ -104,6 +106,7 @@ mend-each-spec =
     (tie.spec
     Inv-loop
     μ-loop
+    make-requires
     loop-holds
     mul-mend-one
     array-read-mend-one

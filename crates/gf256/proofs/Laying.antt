@@ -4,6 +4,7 @@ use mathlib.Core.Logic.{inl, ⊎-elim}
 use mathlib.Core.List.{List}
 use Prim.Native.Nat.{ℕ, zero, suc, _+_, _-_, _%_, _≤_, _<_}
 use native.Mathlib.Omega.{arith}
+use lib.Bits.{bitXor}
 use lib.ListN.{length, getD}
 use Rattle.rules.specs.Placed.{Placed}
 use Rattle.rules.proofs.Numbers.{lt-or-ge}
@@ -47,8 +48,8 @@ module _ (p l h x0 x1 x2 x3 x4 : List ℕ) (P : Powers p) (L : Logs l) (H : Halv
           last .outside (logs + suc i) (inl (omega arith)) ∙ third .inside (logs + suc i) (omega arith) (omega (arith, L .all))
           ∙ ap (λ (j : ℕ). getD l j 0) e
 
-  half-laid : (c : ℕ) → c < 256 → HalfOf gf256 c (getD x4 (halves + c) 0)
-  half-laid c m = subst (HalfOf gf256 c) (sym found) (H .half-at c m)
+  half-laid : (c : ℕ) → c < 256 → HalfOf gf256 c (bitXor (getD x4 (halves + c) 0) c)
+  half-laid c m = subst (λ (w : ℕ). HalfOf gf256 c (bitXor w c)) (sym found) (H .half-at c m)
     where
       found : getD x4 (halves + c) 0 ≡ getD h c 0
       found =

@@ -2,6 +2,7 @@
 use mathlib.Core.Path.{_≡_}
 use mathlib.Core.List.{List}
 use Prim.Native.Nat.{ℕ, suc, _+_, _<_}
+use lib.Bits.{bitXor}
 use lib.ListN.{length, getD}
 use Rattle.account.specs.Field.{power}
 use Rattle.account.specs.Errata.{place}
@@ -18,14 +19,14 @@ pub record Logs (t : List ℕ) : Type 0 where
   pub all : length t ≡ 255
   pub log-at : (i : ℕ) → i < 255 → IsLog (suc i) (getD t i 0)
 
--- for each byte c one of the two z with z z + z = c, wherever there are any
+-- for each byte c the square of one of the two z with z z + z = c, wherever there are any: with c added it is z
 pub record Halves (t : List ℕ) : Type 0 where
   pub all : length t ≡ 256
-  pub half-at : (c : ℕ) → c < 256 → HalfOf gf256 c (getD t c 0)
+  pub half-at : (c : ℕ) → c < 256 → HalfOf gf256 c (bitXor (getD t c 0) c)
 
 -- ---- what is lent
 
--- the logarithm of a is at logs + a, the half of c at halves + c
+-- the logarithm of a is at logs + a, the square of the half of c at halves + c
 abbrev pub logs : ℕ
 logs = 510
 
@@ -36,7 +37,7 @@ halves = 766
 pub record Tables (t : List ℕ) : Type 0 where
   pub power-at : (k : ℕ) → k < logs → getD t k 0 ≡ power gf256 2 k
   pub log-at : (a : ℕ) → 0 < a → a < 256 → IsLog a (getD t (logs + a) 0)
-  pub half-at : (c : ℕ) → c < 256 → HalfOf gf256 c (getD t (halves + c) 0)
+  pub half-at : (c : ℕ) → c < 256 → HalfOf gf256 c (bitXor (getD t (halves + c) 0) c)
 
 -- ---- what is read from it
 

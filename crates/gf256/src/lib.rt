@@ -51,7 +51,7 @@ pub fn half(tables: &[u8; 1022], c: u8) -> u8
     requires { ⌜ Tables (now tables) ⌝ }
     ensures { λ z. ⌜ HalfOf gf256 c z ⌝ }
 {
-    tables[HALVES + c as usize]
+    tables[HALVES + c as usize] ^ c
 }
 
 // The place of cell p of n: α to the power of the cell.

@@ -8,7 +8,7 @@ ghost use Rattle.gf256.specs.Tables.{Tables};
 // The logarithm of x is at LOGS + x.
 pub(crate) const LOGS: usize = 510;
 
-// The half of c is at HALVES + c.
+// The square of the half of c is at HALVES + c.
 pub(crate) const HALVES: usize = 766;
 
 // Puts a table over the bytes from a place on.

@@ -22,7 +22,7 @@ enum {
     ROOM = STRIPS * REF_STRIP_MAX
 };
 
-/* ---- the mix ---- */
+/* ---- the mix, 100 % in all ---- */
 
 static const struct share {
     size_t percent;

@@ -5,8 +5,8 @@ use mathlib.Core.List.{List}
 use Prim.Native.Nat.{ℕ, zero, suc, _+_, _-_, _%_, _≤_, _<_}
 use native.Mathlib.Omega.{arith}
 use lib.Bits.{bitXor}
-use lib.ListN.{length, getD}
-use Rattle.rules.specs.Placed.{Placed}
+use lib.ListN.{getD}
+use Rattle.rules.specs.Placed.{Laid}
 use Rattle.rules.proofs.Numbers.{lt-or-ge}
 use Rattle.account.specs.Field.{power}
 use Rattle.account.specs.Search.{HalfOf}
@@ -14,10 +14,6 @@ use Rattle.gf256.specs.Gf256.{gf256, IsLog}
 use Rattle.gf256.specs.Tables.{Powers, Logs, Halves, Tables, logs, halves}
 use Rattle.gf256.proofs.Field256.{field256}
 use Rattle.gf256.proofs.Lookups.{reduced}
-
--- the table t is laid from a on
-abbrev pub Laid : ℕ → List ℕ → List ℕ → List ℕ → Type 0
-Laid a t = Placed a (a + length t) (λ p. getD t (p - a) 0)
 
 module _ (p l h x0 x1 x2 x3 x4 : List ℕ) (P : Powers p) (L : Logs l) (H : Halves h) (once : Laid 0 p x0 x1) (twice : Laid 255 p x1 x2)
     (third : Laid (logs + 1) l x2 x3) (last : Laid halves h x3 x4) where

@@ -12,7 +12,7 @@ use lib.ListN.{length, getD}
 use Rattle.account.specs.Field.{power}
 use Rattle.account.specs.Product.{product}
 use Rattle.account.proofs.Test.{both, both-left, both-right, or, or-one, upto, upto-at}
-use Rattle.gf256.specs.Gf256.{gf256, times}
+use Rattle.gf256.specs.Gf256.{gf256, times, IsLog}
 use Rattle.gf256.specs.Tables.{Powers, Logs, Halves}
 
 -- ---- the tables, as the program has them
@@ -101,19 +101,30 @@ powers-right = record { all = refl; power-at = λ k h. doubles-at powersList 0 p
 
 -- ---- logarithms
 
-log-small : (i : ℕ) → i < 255 → getD logsList i 0 < 255
-log-small i h = ltb→lt (getD logsList i 0) 255 (upto-at (λ x. ltb (getD logsList x 0) 255) 255 tt i h)
+-- the power is in the table, and is the byte
+undoes : ℕ → Bool
+undoes i = both (ltb (getD logsList i 0) 255) (eqb (getD powersList (getD logsList i 0) 0) (suc i))
 
-log-is : (i : ℕ) → i < 255 → getD powersList (getD logsList i 0) 0 ≡ suc i
+logs-tested : T (upto undoes 255)
+unfolding undoes
+logs-tested = tt
+
+log-is : (i : ℕ) → i < 255 → IsLog (suc i) (getD logsList i 0)
+unfolding undoes
 log-is i h =
-    eqb→eq (getD powersList (getD logsList i 0) 0) (suc i) (upto-at (λ x. eqb (getD powersList (getD logsList x 0) 0) (suc x)) 255 tt i h)
+    let t : T (undoes i) = upto-at undoes 255 logs-tested i h in
+    let s : getD logsList i 0 < 255 = ltb→lt (getD logsList i 0) 255 (both-left (ltb (getD logsList i 0) 255) (eqb (getD powersList (getD logsList i 0) 0) (suc i)) t) in
+    record {
+      small = s;
+      is =
+          sym (powers-right .power-at (getD logsList i 0) s)
+          ∙ eqb→eq (getD powersList (getD logsList i 0) 0) (suc i)
+          (both-right (ltb (getD logsList i 0) 255) (eqb (getD powersList (getD logsList i 0) 0) (suc i)) t);
+    }
 
 -- the logarithm of each byte other than 0 is right
 pub logs-right : Logs logsList
-logs-right = record {
-  all = refl;
-  log-at = λ i h. record { small = log-small i h; is = sym (powers-right .power-at (getD logsList i 0) (log-small i h)) ∙ log-is i h };
-}
+logs-right = record { all = refl; log-at = log-is }
 
 -- ---- halves
 

@@ -1,8 +1,8 @@
 // The tables of powers, logarithms and halves laid out in one array, which an entry makes once and lends: a `const` array is rebuilt at
 // each use.
-ghost use Prim.Native.Nat.{_+_, _-_, _≤_};
-ghost use lib.ListN.{length, getD};
-ghost use Rattle.rules.specs.Placed.{Placed};
+ghost use Prim.Native.Nat.{_+_, _≤_};
+ghost use lib.ListN.{length};
+ghost use Rattle.rules.specs.Placed.{Laid};
 ghost use Rattle.gf256.specs.Tables.{Tables};
 
 // The logarithm of x is at LOGS + x.
@@ -14,7 +14,7 @@ pub(crate) const HALVES: usize = 766;
 // Puts a table over the bytes from a place on.
 fn lay(table: &[u8], at: usize, bytes: &mut [u8])
     requires { ⌜ at + length (now table) ≤ length (now bytes) ⌝ }
-    ensures { λ _. ⌜ Placed at (at + length (now (table .entry))) (λ p. getD (now (table .entry)) (p - at) 0) (now (bytes .entry)) (now (bytes .exit)) ⌝ }
+    ensures { λ _. ⌜ Laid at (now (table .entry)) (now (bytes .entry)) (now (bytes .exit)) ⌝ }
 {
     rules::copy(table, &mut bytes[at..]);
 }

@@ -7,7 +7,7 @@ use native.Mathlib.Nat.{eq-or-lt-of-le}
 use native.Mathlib.Omega.{arith}
 use lib.ListN.{length, getD, set, take, drop, length-set, length-append, length-drop, drop-of-length-le, List·getD-append}
 use lib.Seq.{getD-set-same, getD-set-other, getD-take, getD-drop, getD-append-add, take-length, length-take-le, drop-drop}
-use Rattle.rules.specs.Placed.{Placed}
+use Rattle.rules.specs.Placed.{Placed, Laid}
 
 module _ (a : ℕ) (v : ℕ → ℕ) (o : List ℕ) where
   pub placed-0 : Placed a a v o o
@@ -37,8 +37,8 @@ module _ (a : ℕ) (t o : List ℕ) (room : a + length t ≤ length o) where
   behind : (i : ℕ) → getD over (a + i) 0 ≡ getD (t ++ drop (a + length t) o) i 0
   behind i = ap (λ (k : ℕ). getD over (k + i) 0) (sym front) ∙ getD-append-add (take a o) (t ++ drop (a + length t) o) i 0
 
-  over-placed : Placed a (a + length t) (λ p. getD t (p - a) 0) o over
-  over-placed = record {
+  over-laid : Laid a t o over
+  over-laid = record {
     long =
         length-append (take a o) (t ++ drop (a + length t) o)
         ∙ omega (arith, front, length-append t (drop (a + length t) o), length-drop (a + length t) o);
@@ -60,9 +60,9 @@ module _ (a : ℕ) (t o : List ℕ) (room : a + length t ≤ length o) where
           ∙ ap (λ (i : ℕ). getD o i 0) f
 
   -- what a copy to the cells from a on leaves
-  pub placed-copy : (x : List ℕ) → x ≡ t ++ drop (length t) (take (length o - a) (drop a o))
-      → Placed a (a + length t) (λ p. getD t (p - a) 0) o (take a o ++ (x ++ drop (length o - a) (drop a o)))
-  placed-copy x e = subst (Placed a (a + length t) (λ p. getD t (p - a) 0) o) (sym same) over-placed
+  pub laid-copy : (x : List ℕ) → x ≡ t ++ drop (length t) (take (length o - a) (drop a o))
+      → Laid a t o (take a o ++ (x ++ drop (length o - a) (drop a o)))
+  laid-copy x e = subst (Laid a t o) (sym same) over-laid
     where
       all : take (length o - a) (drop a o) ≡ drop a o
       all = ap (λ (n : ℕ). take n (drop a o)) (sym (length-drop a o)) ∙ take-length (drop a o)

@@ -1,5 +1,5 @@
 use borrow.Author.Needs.{needs}
-use Rattle.rules.proofs.Placing.{placed-copy}
+use Rattle.rules.proofs.Placing.{laid-copy}
 use Rattle.gf256.proofs.tables.lay.Statement.{statement}
 use Rattle.gf256.proofs.tables.lay.Tie as tie
 
@@ -21,7 +21,7 @@ same-length c = search needs
 returns : tie.Need-returns
 returns c =
     let s = c .before .before .before .before .before .before in
-    placed-copy (s .args .at) (s .args .table .now) (s .args .bytes .now) (s .pre) (c .before .before .copy .last .1 .0) (c .before .before .copy .ensures)
+    laid-copy (s .args .at) (s .args .table .now) (s .args .bytes .now) (s .pre) (c .before .before .copy .last .1 .0) (c .before .before .copy .ensures)
 
 pub lay-spec : {M : Type 1} → statement M
 lay-spec =

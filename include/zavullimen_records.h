@@ -3,9 +3,9 @@
  *
  * A level is a width and a height of 1 to 31, a par of at most 1023 and
  * width times height tile codes, row by row: 0 floor, 1 wall, 2 crate,
- * 3 goal, 4 crate on goal, 5 player, 6 player on goal. It has one player, at
- * least one crate, and as many crates as goals. Its record is the level,
- * bit-packed: 4 to 364 bytes.
+ * 3 goal, 4 crate on goal, 5 player, 6 player on goal. It has one player, as
+ * many crates as goals, and at least one crate off its goal. Its record is the
+ * level, bit-packed: 4 to 364 bytes.
  *
  * Buffers, packed results and refusals are those of zavullimen_words.h.
  */

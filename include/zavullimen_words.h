@@ -71,7 +71,8 @@ static inline const char *zav_refusal_text(unsigned code)
     case ZAV_BAD_TILE:
         return "there is no such tile code";
     case ZAV_NOT_PLAYABLE:
-        return "not one player, no crate, or crates and goals unequal";
+        return "not one player, crates and goals unequal, or no crate off "
+               "its goal";
     case ZAV_BAD_TEXT:
         return "the first line says no par from 0 to 1023, a letter is no "
                "tile, or the last line feed is missing";

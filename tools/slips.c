@@ -244,11 +244,14 @@ static bool says_no_level(FILE *out, const uint8_t *text, size_t len)
     if (players == 0)
         fputs("there is no player; a level has one, @ or on a goal +\n", out);
     else if (crates == 0)
-        fputs("there is no crate; a level has at least one, $ or on a goal "
-              "*\n", out);
+        fputs("there is no crate; a level has at least one off its goal, $\n",
+              out);
     else if (crates != goals)
         fprintf(out, "crates ($ *) %zu, goals (. * +) %zu; a level has as many "
                      "of both\n", crates, goals);
+    else if (count_of(text, len, "$") == 0)
+        fputs("every crate is on a goal (*); a level has at least one off its "
+              "goal, $\n", out);
     else
         return false;
     return true;

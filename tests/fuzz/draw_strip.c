@@ -20,12 +20,12 @@ static void draw_head(uint8_t head[HEAD], uint8_t flags)
     head[PAR_AT + 1] &= 7;
 }
 
-/* A level's record filled up for a strip, and a few cells to damage. */
+/* A board's record filled up for a strip, and a few cells to damage. */
 static size_t draw_laid(uint8_t *body)
 {
     struct board b;
 
-    draw_any_level(&b);
+    draw_any_board(&b);
     memset(body, 0, REF_RECORD_MAX);
 
     const size_t half = REF_LANES * ref_k_of(record_of(&b, body));
@@ -38,13 +38,13 @@ static size_t draw_laid(uint8_t *body)
     return 2 * half;
 }
 
-/* A level's strip with wrong and marked cells, or nothing but noise. */
+/* A board's strip with wrong and marked cells, or nothing but noise. */
 static size_t draw_halves(uint8_t *body)
 {
     uint8_t data[REF_RECORD_MAX] = {0};
     struct board b;
 
-    draw_any_level(&b);
+    draw_any_board(&b);
 
     const size_t cells = ref_lay_strip(data, ref_k_of(record_of(&b, data)),
                                        body);

@@ -45,6 +45,15 @@ void picture_any_level(struct picture *p, struct board *b)
     picture_board(p, b);
 }
 
+void picture_worked(struct picture *p, const struct worked *w)
+{
+    *p = (struct picture){.strip_len = sizeof w->strip,
+                          .marks_len = sizeof w->strip,
+                          .tiles_len = REF_TILES_MAX,
+                          .scratch_len = REF_SCRATCH_MIN};
+    memcpy(p->strip, w->strip, sizeof w->strip);
+}
+
 size_t lane_len(const struct picture *p)
 {
     return p->strip_len / REF_LANES;

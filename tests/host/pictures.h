@@ -6,6 +6,7 @@
 
 #include "boards.h"
 #include "draw.h"
+#include "worked.h"
 
 /* Long enough for a strip or a scratch that is too long. */
 enum { STRIP_ROOM = 512, SCRATCH_ROOM = REF_SCRATCH_MIN + 64 };
@@ -31,6 +32,9 @@ bool picture_length(struct picture *p, size_t k);
 
 /* A random level's strip, and the level. */
 void picture_any_level(struct picture *p, struct board *b);
+
+/* A strip of FORMAT, no marks, buffers of the least length. */
+void picture_worked(struct picture *p, const struct worked *w);
 
 /* Cells in each lane. */
 size_t lane_len(const struct picture *p);

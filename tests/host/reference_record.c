@@ -63,17 +63,24 @@ static size_t count(const uint8_t *tiles, size_t len, char thing)
     return n;
 }
 
+/* A crate off its goal stands on a tile on which there is no goal. */
+static bool has_crate_off_goal(const uint8_t *tiles, size_t len)
+{
+    for (size_t i = 0; i < len; i++)
+        if (stands_on(tiles[i], 'c') && !stands_on(tiles[i], 'g'))
+            return true;
+    return false;
+}
+
 /* 9 or 10, or 0 for tiles that make a level. */
 static unsigned refusal_of_tiles(const uint8_t *tiles, size_t len)
 {
     for (size_t i = 0; i < len; i++)
         if (tiles[i] > 6)
             return 9;
-
-    const size_t crates = count(tiles, len, 'c');
-
-    if (count(tiles, len, 'p') != 1 || crates == 0 ||
-        crates != count(tiles, len, 'g'))
+    if (count(tiles, len, 'p') != 1 ||
+        count(tiles, len, 'c') != count(tiles, len, 'g') ||
+        !has_crate_off_goal(tiles, len))
         return 10;
     return 0;
 }

@@ -7,6 +7,7 @@
 #include "boards.h"
 #include "draw.h"
 #include "harness.h"
+#include "test_finished.h"
 
 struct ref_result check_bytes(const struct bytes_reader *entry,
                               const uint8_t *bytes, size_t len,
@@ -65,12 +66,13 @@ static void lay(const struct reader *entry, const struct board *b,
     d->bits = 24 + 3 * b->tiles_len;
 }
 
-static void check_board(const struct reader *entry, const struct board *b)
+static struct ref_result check_board(const struct reader *entry,
+                                     const struct board *b)
 {
     struct data d;
 
     lay(entry, b, &d);
-    entry->check(d.bytes, d.len);
+    return entry->check(d.bytes, d.len);
 }
 
 /* ---- levels ---- */
@@ -145,7 +147,7 @@ static void test_every_par(const struct reader *entry)
 static void test_small_boards(const struct reader *entry)
 {
     struct board b = {.height = 1, .par = 77};
-    size_t boards = 1;
+    size_t boards = 1, levels = 0;
 
     group_begin(entry->name, "every board of one to four tiles");
     for (b.width = 1; b.width <= 4; b.width++) {
@@ -154,9 +156,10 @@ static void test_small_boards(const struct reader *entry)
         for (size_t k = 0; k < boards; k++) {
             for (size_t i = 0; i < b.width; i++)
                 b.tiles[i] = (uint8_t)(k >> 3 * i & 7);
-            check_board(entry, &b);
+            levels += check_board(entry, &b).code == 0;
         }
     }
+    check_number(levels, SMALL_LEVELS, "levels");
     group_end();
 }
 
@@ -273,7 +276,7 @@ static void check_mixture(const struct reader *entry)
     struct board b;
     struct data d;
 
-    draw_any_level(&b);
+    draw_any_board(&b);
     if (draw_below(2))
         b.tiles[draw_below(b.tiles_len)] = 7;
     if (draw_below(2))
@@ -321,7 +324,21 @@ static void test_random_bytes(const struct reader *entry)
     group_end();
 }
 
-/* ---- the examples of FORMAT 9 and 12.5 ---- */
+/* ---- finished boards ---- */
+
+static struct ref_result check_laid(const void *entry, const struct board *b)
+{
+    return check_board(entry, b);
+}
+
+static void test_finished_boards(const struct reader *entry)
+{
+    const struct judge j = {entry->name, 7, entry, check_laid};
+
+    test_finished(&j);
+}
+
+/* ---- the examples of FORMAT 9, 12.5 and 12.13 ---- */
 
 static void test_worked_records(const struct reader *entry)
 {
@@ -329,7 +346,8 @@ static void test_worked_records(const struct reader *entry)
         uint8_t record[4];
         struct ref_result result;
     } worked[] = {
-        {{0x11, 0x04, 0x05, 0x94}, {.width = 2, .height = 1, .par = 5}},
+        {{0x11, 0x04, 0x05, 0x58}, {.width = 2, .height = 1, .par = 5}},
+        {{0x11, 0x04, 0x05, 0x94}, {.code = 10}},
         {{0x21, 0x04, 0x05, 0x94}, {.code = 7}},
         {{0x11, 0x04, 0x05, 0x95}, {.code = 8}},
         {{0x11, 0x04, 0x05, 0xF4}, {.code = 9}},
@@ -356,4 +374,5 @@ void test_reader(const struct reader *entry)
     test_filling(entry);
     test_mixtures(entry);
     test_random_bytes(entry);
+    test_finished_boards(entry);
 }

@@ -8,6 +8,7 @@
 #include "draw.h"
 #include "harness.h"
 #include "test_reader.h"
+#include "worked.h"
 #include "zavullimen_records.h"
 
 struct ref_result check_record(const uint8_t *record, size_t len,
@@ -96,13 +97,13 @@ static void check_null(const uint8_t *record, size_t len, uint8_t *tiles,
 
 static void test_nulls(void)
 {
-    static const uint8_t record[] = {0x11, 0x04, 0x05, 0x94};
+    const uint8_t *record = worked_level.record;
     uint8_t tiles[REF_TILES_MAX];
 
     group_begin(reader.name, "NULL with length 0");
     check_null(NULL, 0, NULL, 0);
     check_null(NULL, 0, tiles, sizeof tiles);
-    check_null(record, sizeof record, NULL, 0);
+    check_null(record, sizeof worked_level.record, NULL, 0);
     group_end();
 }
 

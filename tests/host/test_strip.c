@@ -79,30 +79,98 @@ static void test_lengths_without_levels(void)
     group_end();
 }
 
-/* ---- the examples of FORMAT 9, 12.6 and 12.11 ---- */
+/* ---- the strips of FORMAT 12.6 and 12.14 ---- */
 
 static void expect(const struct picture *p, struct ref_result result)
 {
     check_number(packed(check_picture(p)), packed(result), "reference");
 }
 
-static void test_worked_strip(void)
+/* FORMAT 12.8 and 12.9: each cell wrong by itself. */
+static void expect_each_cell(const struct picture *whole,
+                             struct ref_result result)
 {
-    struct picture whole = {.strip_len = writers[STRIP_WRITER].worked_len,
-                            .marks_len = writers[STRIP_WRITER].worked_len,
-                            .tiles_len = REF_TILES_MAX,
-                            .scratch_len = REF_SCRATCH_MIN};
+    for (size_t cell = 0; cell < whole->strip_len; cell++)
+        for (size_t k = 0; k < scaled(20); k++) {
+            struct picture p = *whole;
+
+            p.strip[cell] ^= draw_nonzero();
+            expect(&p, result);
+        }
+}
+
+/* FORMAT 12.10: any three cells of lane 2 are wrong. */
+static void expect_beyond(const struct picture *whole)
+{
+    for (size_t a = 2; a < whole->strip_len; a += REF_LANES)
+        for (size_t b = 2; b < a; b += REF_LANES)
+            for (size_t c = 2; c < b; c += REF_LANES) {
+                struct picture p = *whole;
+
+                p.strip[a] ^= draw_nonzero();
+                p.strip[b] ^= draw_nonzero();
+                p.strip[c] ^= draw_nonzero();
+                expect(&p, (struct ref_result){.code = 6, .lane = 2});
+            }
+}
+
+/* FORMAT 12.5, 12.6, 12.13 and 12.14: the record and the strip of a board,
+   whether or not it is a level, and that the lanes are words. */
+static void check_layout(const struct worked *w)
+{
+    uint8_t record[REF_RECORD_MAX], strip[REF_STRIP_MAX];
+    struct picture p;
+    struct sample lane;
+
+    check_number(ref_lay_record(2, 1, 5, w->tiles, sizeof w->tiles, record),
+                 sizeof w->record, "record");
+    check_number(ref_lay_strip(record, 1, strip), sizeof w->strip, "strip");
+    if (memcmp(record, w->record, sizeof w->record) != 0 ||
+        memcmp(strip, w->strip, sizeof w->strip) != 0)
+        group_fail("the reference lays other bytes");
+    picture_worked(&p, w);
+    for (size_t i = 0; i < REF_LANES; i++) {
+        take_lane(&p, i, &lane);
+        check_number(zav_length(zav_word_test(lane.word, lane.len)), 1,
+                     "a clean lane");
+    }
+}
+
+/* What is beyond reach is refused for that, finished or not. */
+static void test_finished_strip(void)
+{
+    const struct ref_result refused = {.code = 10};
     struct picture p;
 
+    group_begin(reader.name, "the finished board of FORMAT, also damaged");
+    check_layout(&worked_finished);
+    picture_worked(&p, &worked_finished);
+    expect(&p, refused);
+    expect_each_cell(&p, refused);
+    expect_beyond(&p);
+    group_end();
+}
+
+/* Also FORMAT 12.11, and the examples of FORMAT 9 that are strips. */
+static void test_worked_strip(void)
+{
+    const struct ref_result level = {.width = 2, .height = 1, .par = 5};
+    struct ref_result mended = level;
+    struct picture whole, p;
+
     group_begin(reader.name, "the strip of FORMAT, mended and refused");
-    memcpy(whole.strip, writers[STRIP_WRITER].worked,
-           writers[STRIP_WRITER].worked_len);
-    expect(&whole, (struct ref_result){.width = 2, .height = 1, .par = 5});
+    mended.mended = 1;
+    mended.wear = 4;
+    check_layout(&worked_level);
+    picture_worked(&whole, &worked_level);
+    expect(&whole, level);
+    expect_each_cell(&whole, mended);
+    expect_beyond(&whole);
     p = whole;
     p.strip[4] = p.strip[5] = 0;
     p.marks[5] = p.marks[6] = 1;
-    expect(&p, (struct ref_result){.width = 2, .height = 1, .par = 5,
-                                   .mended = 1, .repainted = 1, .wear = 4});
+    mended.repainted = 1;
+    expect(&p, mended);
     p = whole;
     p.strip_len = 26;
     expect(&p, (struct ref_result){.code = 1});
@@ -121,6 +189,7 @@ static void test_worked_strip(void)
 void test_strip(void)
 {
     test_worked_strip();
+    test_finished_strip();
     test_reader(&reader);
     test_lengths();
     test_lengths_without_levels();

@@ -116,7 +116,8 @@ static void check_beyond(unsigned lanes)
     struct picture p;
     struct board b;
 
-    picture_any_level(&p, &b);
+    draw_any_board(&b);
+    picture_board(&p, &b);
     damage_within(&p, ALL_LANES & ~lanes);
     for (size_t lane = 0; lane < REF_LANES; lane++)
         if (has_lane(lanes, lane))
@@ -277,6 +278,25 @@ static void test_refused_repainted(void)
             }
             check_refused(&p, code, 0);
         }
+    group_end();
+}
+
+/* A finished board is mended like a level, and refused then. */
+static void test_finished_boards(void)
+{
+    struct picture p;
+    struct board b;
+
+    group_begin(subject, "finished boards with up to 5 in every lane");
+    for (size_t k = 0; k < scaled(4000); k++) {
+        draw_any_finished(&b);
+        picture_board(&p, &b);
+        check_refused(&p, 10, 0);
+        damage_within(&p, ALL_LANES);
+        check_refused(&p, 10, 0);
+        if (k % 8 == 0)
+            check_picture(&p);
+    }
     group_end();
 }
 
@@ -458,6 +478,7 @@ void test_strip_damage(void)
     test_repainted_in_a_lane();
     test_repainted();
     test_refused_repainted();
+    test_finished_boards();
     test_marked_runs();
     test_under_marks();
     test_wear();

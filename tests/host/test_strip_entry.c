@@ -146,7 +146,7 @@ static void spoil_cells(struct picture *p)
     uint8_t data[REF_RECORD_MAX];
     struct board b;
 
-    draw_any_level(&b);
+    draw_any_board(&b);
     if (draw_below(4) == 0)
         b.tiles[draw_below(b.tiles_len)] = (uint8_t)draw_below(8);
     memset(data, 0, sizeof data);

@@ -57,8 +57,8 @@ static void draw_plain_level(struct board *b)
 
     const size_t player = draw_below(b->tiles_len);
 
-    b->tiles[player] = 5;
-    b->tiles[(player + draw_between(1, b->tiles_len - 1)) % b->tiles_len] = 4;
+    b->tiles[player] = 6;
+    b->tiles[(player + draw_between(1, b->tiles_len - 1)) % b->tiles_len] = 2;
 }
 
 static void test_plain_stickers(void)
@@ -137,24 +137,50 @@ static void test_other_levels(void)
     group_end();
 }
 
-/* All lanes within 2 of the other level's: that one must come out. */
+/* Move all lanes to within 2 of the board's; returns how many cells are left in
+   which they differ. */
+static unsigned move_all_lanes(struct picture *p, const struct board *b)
+{
+    struct picture other;
+    unsigned wrong = 0;
+
+    picture_board(&other, b);
+    for (size_t lane = 0; lane < REF_LANES; lane++)
+        move_lane(p, &other, lane, draw_below(3));
+    for (size_t i = 0; i < p->strip_len; i++)
+        wrong += p->strip[i] != other.strip[i];
+    return wrong;
+}
+
+/* That level must come out. */
 static void test_moved_levels(void)
 {
-    struct picture p, other;
+    struct picture p;
     struct board b;
 
     group_begin(subject, "all lanes moved to within 2 of another level's");
     for (size_t k = 0; k < scaled(1000); k++) {
-        unsigned wrong = 0;
-
         picture_any_level(&p, &b);
         draw_level(&b, b.width, b.height);
-        picture_board(&other, &b);
-        for (size_t lane = 0; lane < REF_LANES; lane++)
-            move_lane(&p, &other, lane, draw_below(3));
-        for (size_t i = 0; i < p.strip_len; i++)
-            wrong += p.strip[i] != other.strip[i];
-        check_level(&p, &b, wrong);
+        check_level(&p, &b, move_all_lanes(&p, &b));
+    }
+    group_end();
+}
+
+/* No level is within reach, though one is close by: that in which the crates
+   are not yet on their goals. */
+static void test_moved_to_finished(void)
+{
+    struct picture p;
+    struct board b;
+
+    group_begin(subject, "all lanes moved to within 2 of a finished board's");
+    for (size_t k = 0; k < scaled(1000); k++) {
+        picture_any_level(&p, &b);
+        while (settle_crate(&b))
+            continue;
+        move_all_lanes(&p, &b);
+        check_refused(&p, 10, 0);
     }
     group_end();
 }
@@ -333,6 +359,7 @@ void test_strip_wild(void)
     test_plain_stickers();
     test_other_levels();
     test_moved_levels();
+    test_moved_to_finished();
     test_scattered();
     test_no_levels();
     test_garbage();

@@ -6,6 +6,7 @@
 
 #include "draw.h"
 #include "harness.h"
+#include "test_finished.h"
 #include "test_reader.h"
 #include "typed.h"
 #include "zavullimen_texts.h"
@@ -54,7 +55,7 @@ static void check_null(const uint8_t *text, size_t len, uint8_t *tiles,
 
 static void test_nulls(void)
 {
-    static const uint8_t right[] = "par 5\n*@\n";
+    static const uint8_t right[] = "par 5\n$+\n";
     uint8_t tiles[REF_TILES_MAX];
 
     group_begin(name, "NULL with length 0");
@@ -151,11 +152,12 @@ static void test_rewriting(void)
     group_end();
 }
 
-/* All rows of one to four letters: most are no levels. */
+/* All rows of one to four letters: most are no levels. Of two letters 2 are, of
+   three 30, of four 300; more than SMALL_LEVELS, as floor has two letters. */
 static void test_small_boards(void)
 {
     static const char letters[] = "-#$.*@+ ";
-    size_t boards = 1;
+    size_t boards = 1, levels = 0;
 
     group_begin(name, "every row of one to four letters");
     for (size_t n = 1; n <= 4; n++) {
@@ -167,10 +169,31 @@ static void test_small_boards(void)
             for (size_t i = 0; i < n; i++)
                 type_byte(&t, (uint8_t)letters[k >> 3 * i & 7], 1);
             type_byte(&t, '\n', 1);
-            check_typed(&t);
+            levels += check_typed(&t).code == 0;
         }
     }
+    check_number(levels, 2 + 30 + 300, "levels");
     group_end();
+}
+
+/* ---- finished boards ---- */
+
+static struct ref_result check_board(const void *entry, const struct board *b)
+{
+    struct typed t = {.len = 0};
+
+    (void)entry;
+    type_par(&t, b->par);
+    type_rows(&t, b);
+    return check_typed(&t);
+}
+
+/* No letter stands for a code above 6. */
+static void test_finished_boards(void)
+{
+    const struct judge j = {name, 6, NULL, check_board};
+
+    test_finished(&j);
 }
 
 /* ---- first lines ---- */
@@ -190,7 +213,7 @@ static void test_every_number(void)
                 continue; /* this one was there already */
             type_words(&t, "par ");
             type_words(&t, words);
-            type_words(&t, "\n*@\n");
+            type_words(&t, "\n$+\n");
             check_number(check_typed(&t).code,
                          digits == 1 && n <= REF_PAR_MAX ? 0 : 11, words);
         }
@@ -224,7 +247,7 @@ static void test_first_lines(void)
         type_words(&t, numbers[draw_below(COUNT(numbers))]);
         type_words(&t, draw_of(ends, COUNT(ends)));
         if (draw_below(4))
-            type_words(&t, "*@\n");
+            type_words(&t, "$+\n");
         check_typed(&t);
     }
     group_end();
@@ -277,7 +300,7 @@ static void test_slips(void)
     for (size_t k = 0; k < scaled(15000); k++) {
         struct typed t = {.len = 0};
 
-        draw_any_level(&b);
+        draw_any_board(&b);
         type_par(&t, b.par);
         type_ragged_rows(&t, &b);
         for (size_t slips = draw_below(4); slips > 0; slips--)
@@ -295,7 +318,7 @@ static void check_size(size_t rows, size_t longest)
 
     type_par(&t, draw_below(REF_PAR_MAX + 1));
     for (size_t y = 0; y < rows; y++) {
-        type_words(&t, y == long_row && longest >= 2 ? "*@" : "");
+        type_words(&t, y == long_row && longest >= 2 ? "$+" : "");
         type_byte(&t, draw_below(2) ? ' ' : '#',
                   y != long_row ? draw_below(longest + 1)
                                 : longest >= 2 ? longest - 2 : longest);
@@ -326,7 +349,7 @@ static void test_long_texts(void)
         const size_t rows = draw_between(1, 400);
 
         type_par(&t, draw_below(REF_PAR_MAX + 1));
-        type_words(&t, "*@\n");
+        type_words(&t, "$+\n");
         if (draw_below(2))
             type_letters(&t, rows, draw_below(16));
         else
@@ -339,11 +362,11 @@ static void test_long_texts(void)
     group_end();
 }
 
-/* "*@" and so many letters more, and so many line feeds after them; longer
+/* "$+" and so many letters more, and so many line feeds after them; longer
    than what can be lent. */
 static void check_many(uint8_t *text, size_t letters, size_t feeds)
 {
-    static const char front[] = "par 5\n*@";
+    static const char front[] = "par 5\n$+";
     const size_t len = strlen(front) + letters + feeds;
     uint8_t tiles[REF_TILES_MAX], reference[REF_TILES_MAX];
     char what[80];
@@ -408,7 +431,7 @@ static void test_past(void)
 {
     static const size_t past[] = {(size_t)1 << 8, (size_t)1 << 16,
                                   (size_t)1 << 31, (size_t)1 << 32};
-    static const char right[] = "par 5\n*@\n";
+    static const char right[] = "par 5\n$+\n";
     const size_t len = strlen(right), most = ((size_t)1 << 32) + len;
     uint8_t *text = map_scratch(most), tiles[REF_TILES_MAX];
 
@@ -432,6 +455,7 @@ void test_text(void)
     test_read_back();
     test_rewriting();
     test_small_boards();
+    test_finished_boards();
     test_every_number();
     test_first_lines();
     test_every_slip();

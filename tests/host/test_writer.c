@@ -10,27 +10,26 @@
 #include "boards.h"
 #include "draw.h"
 #include "harness.h"
+#include "test_finished.h"
+#include "worked.h"
 #include "zavullimen.h"
 
-/* Width 2, height 1, par 5, tiles 4 5. */
-static const uint8_t worked_record[] = {0x11, 0x04, 0x05, 0x94};
-static const uint8_t worked_strip[] = {
-    0x11, 0x04, 0x05, 0x94, 0xB2, 0x1F, 0xD1, 0xA4, 0x20, 0xBF, 0x59, 0x07,
-    0x20, 0xBF, 0x59, 0x07, 0xB2, 0x1F, 0xD1, 0xA4, 0x11, 0x04, 0x05, 0x94};
 static const uint8_t worked_text[] = {'p', 'a', 'r', ' ', '5', '\n',
-                                      '*', '@', '\n'};
+                                      '$', '+', '\n'};
 
 const struct writer writers[WRITERS] = {
     [RECORD_WRITER] = {"record writer", zav_record_write, ref_record_write,
-                       REF_RECORD_MAX, worked_record, sizeof worked_record},
+                       REF_RECORD_MAX, worked_level.record,
+                       sizeof worked_level.record},
     [STRIP_WRITER] = {"strip writer", zav_strip_write, ref_strip_write,
-                      REF_STRIP_MAX, worked_strip, sizeof worked_strip},
+                      REF_STRIP_MAX, worked_level.strip,
+                      sizeof worked_level.strip},
     [TEXT_WRITER] = {"text writer", zav_text_write, ref_text_write,
                      REF_TEXT_MAX, worked_text, sizeof worked_text},
 };
 
-void check_writing(const struct writer *entry, const struct board *b,
-                   size_t room)
+struct ref_result check_writing(const struct writer *entry,
+                                const struct board *b, size_t room)
 {
     static struct lent tiles, buffer;
     uint8_t before[BUFFER_ROOM], expected[BUFFER_ROOM];
@@ -56,12 +55,14 @@ void check_writing(const struct writer *entry, const struct board *b,
                  packed(r), what);
     check_buffer(&buffer, expected, what);
     check_buffer(&tiles, b->tiles, what);
+    return r;
 }
 
 /* With a buffer that is long enough. */
-static void check_written(const struct writer *entry, const struct board *b)
+static struct ref_result check_written(const struct writer *entry,
+                                       const struct board *b)
 {
-    check_writing(entry, b, draw_between(entry->room, BUFFER_ROOM));
+    return check_writing(entry, b, draw_between(entry->room, BUFFER_ROOM));
 }
 
 static void test_every_size(const struct writer *entry)
@@ -92,7 +93,7 @@ static void test_every_par(const struct writer *entry)
 static void test_small_boards(const struct writer *entry)
 {
     struct board b = {.height = 1, .par = 3};
-    size_t boards = 1;
+    size_t boards = 1, levels = 0;
 
     group_begin(entry->name, "every board of one to four tiles");
     for (size_t n = 1; n <= 4; n++) {
@@ -101,9 +102,10 @@ static void test_small_boards(const struct writer *entry)
         for (size_t k = 0; k < boards; k++) {
             for (size_t i = 0; i < n; i++)
                 b.tiles[i] = (uint8_t)(k >> 3 * i & 7);
-            check_writing(entry, &b, entry->room);
+            levels += check_writing(entry, &b, entry->room).code == 0;
         }
     }
+    check_number(levels, SMALL_LEVELS, "levels");
     group_end();
 }
 
@@ -147,6 +149,8 @@ static void test_refusals(const struct writer *entry)
     group_begin(entry->name, "refusals, several at once");
     for (size_t k = 0; k < scaled(30000); k++) {
         draw_level(&b, draw_between(1, 8), draw_between(2, 8));
+        if (spoil())
+            draw_finished(&b, b.width, b.height);
         b.tiles[b.tiles_len] = (uint8_t)draw_below(8); /* one too many */
         spoil_numbers(&b);
         spoil_tiles(&b);
@@ -200,7 +204,8 @@ static void test_nothing(const struct writer *entry)
     group_end();
 }
 
-/* Tiles of one code only, as an editor leaves them. */
+/* Tiles of one code only, as an editor leaves them; then with a player, and
+   with a player on the goal of one crate more. */
 static void test_plain_tiles(const struct writer *entry)
 {
     struct board b;
@@ -210,7 +215,13 @@ static void test_plain_tiles(const struct writer *entry)
         draw_level(&b, 31, 31);
         memset(b.tiles, (int)code, b.tiles_len);
         check_written(entry, &b);
-        b.tiles[draw_below(b.tiles_len)] = 5;
+
+        const size_t player = draw_between(1, b.tiles_len - 1);
+
+        b.tiles[player] = 5;
+        check_written(entry, &b);
+        b.tiles[player] = 6;
+        b.tiles[draw_below(player)] = 2;
         check_written(entry, &b);
     }
     group_end();
@@ -229,24 +240,45 @@ static void test_rooms(const struct writer *entry)
     group_end();
 }
 
+/* A board that FORMAT works out, lent to both. */
+static struct ref_result check_worked(const struct writer *entry,
+                                      const struct worked *w)
+{
+    struct board b = {.width = 2, .height = 1, .par = 5,
+                      .tiles_len = sizeof w->tiles};
+
+    memcpy(b.tiles, w->tiles, sizeof w->tiles);
+    return check_written(entry, &b);
+}
+
 static void test_worked(const struct writer *entry)
 {
-    static const uint8_t tiles[] = {4, 5};
     const struct ref_result length = {.length = (unsigned)entry->worked_len};
-    uint8_t got[BUFFER_ROOM], reference[BUFFER_ROOM];
+    const struct ref_result refused = {.code = 10};
+    const uint8_t *tiles = worked_level.tiles;
+    uint8_t got[BUFFER_ROOM];
 
-    group_begin(entry->name, "the worked example of FORMAT");
-    group_case();
-    check_number(entry->run(2, 1, 5, tiles, sizeof tiles, got, sizeof got),
-                 packed(length), "library");
-    check_number(packed(entry->reference(2, 1, 5, tiles, sizeof tiles,
-                                         reference, sizeof reference)),
-                 packed(length), "reference");
+    group_begin(entry->name, "the worked examples of FORMAT");
+    check_number(packed(check_worked(entry, &worked_level)), packed(length),
+                 "reference");
+    check_number(packed(check_worked(entry, &worked_finished)),
+                 packed(refused), "reference, finished");
+    entry->run(2, 1, 5, tiles, sizeof worked_level.tiles, got, sizeof got);
     if (memcmp(got, entry->worked, entry->worked_len) != 0)
-        group_fail("the library writes other bytes");
-    if (memcmp(reference, entry->worked, entry->worked_len) != 0)
-        group_fail("the reference writes other bytes");
+        group_fail("other bytes are written");
     group_end();
+}
+
+static struct ref_result check_lent(const void *entry, const struct board *b)
+{
+    return check_written(entry, b);
+}
+
+static void test_finished_boards(const struct writer *entry)
+{
+    const struct judge j = {entry->name, 255, entry, check_lent};
+
+    test_finished(&j);
 }
 
 void test_writer(const struct writer *entry)
@@ -260,4 +292,5 @@ void test_writer(const struct writer *entry)
     test_nothing(entry);
     test_plain_tiles(entry);
     test_rooms(entry);
+    test_finished_boards(entry);
 }

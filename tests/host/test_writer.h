@@ -16,7 +16,7 @@ struct writer {
     struct ref_result (*reference)(size_t, size_t, size_t, const uint8_t *,
                                    size_t, uint8_t *, size_t);
     size_t room;           /* the least that the buffer must hold */
-    const uint8_t *worked; /* its worked example, FORMAT 12 and 13 */
+    const uint8_t *worked; /* what it writes for the level of FORMAT 12.13 */
     size_t worked_len;
 };
 
@@ -27,9 +27,9 @@ extern const struct writer writers[WRITERS];
 enum { BUFFER_ROOM = REF_TEXT_MAX + 64 };
 
 /* Write a board to a buffer of this length and compare with the second
-   implementation, buffers included. */
-void check_writing(const struct writer *entry, const struct board *b,
-                   size_t room);
+   implementation, buffers included. Returns what that one says. */
+struct ref_result check_writing(const struct writer *entry,
+                                const struct board *b, size_t room);
 
 /* All groups of one writer. */
 void test_writer(const struct writer *entry);

@@ -40,7 +40,11 @@ static void print_read(const uint8_t *strip, size_t len, const size_t *wrong,
 
 int main(void)
 {
-    static const uint8_t level[] = {4, 5};
+    static const uint8_t level[] = {2, 6}, finished[] = {4, 5};
+    static const uint8_t finished_strip[] = {
+        0x11, 0x04, 0x05, 0x94, 0xB2, 0x1F, 0xD1, 0xA4,
+        0x20, 0xBF, 0x59, 0x07, 0x20, 0xBF, 0x59, 0x07,
+        0xB2, 0x1F, 0xD1, 0xA4, 0x11, 0x04, 0x05, 0x94};
     static const size_t front[] = {0, 1}, three[] = {2, 6, 10};
     static const uint8_t none[ZAV_STRIP_MAX], two[ZAV_STRIP_MAX] = {0, 1, 1};
     uint8_t bytes[ZAV_TEXT_MAX], tiles[ZAV_TILES_MAX];
@@ -60,5 +64,8 @@ int main(void)
     print_read(bytes, len, front, 2, two, len);
     print_read(bytes, len, three, 3, none, len);
     print_read(bytes, len, front, 0, none, len - 1);
+    print(zav_strip_write(2, 1, 5, finished, 2, bytes, sizeof bytes));
+    print_read(finished_strip, sizeof finished_strip, front, 0, none,
+               sizeof finished_strip);
     return 0;
 }

@@ -1,6 +1,6 @@
 /*
  * recipe.c - the lines of docs/C-INTERFACE.md that draw a mended strip, tried
- * on the level of FORMAT 12.5. recipe.h has them as they stand on the page.
+ * on the level of FORMAT 12.13. recipe.h has them as they stand on the page.
  */
 #include "recipe.h"
 
@@ -64,7 +64,7 @@ static bool refuses(void)
 
 int main(void)
 {
-    static const uint8_t level[] = {4, 5};
+    static const uint8_t level[] = {2, 6};
 
     zav_strip_write(2, 1, 5, level, sizeof level, written, sizeof written);
     memcpy(strip, written, LEN);

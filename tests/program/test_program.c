@@ -91,27 +91,92 @@ static struct ref_result expected(const uint8_t *bytes, size_t len)
                           sizeof tiles, REF_SCRATCH_MIN);
 }
 
-static void check_input(const uint8_t *bytes, size_t len)
+/* Returns what the second implementation says. */
+static struct ref_result check_input(const uint8_t *bytes, size_t len)
 {
     char line[LINE_ROOM], printed[LINE_ROOM];
+    const struct ref_result r = expected(bytes, len);
     FILE *input = file_of(bytes, len);
 
     run(fileno(input), printed);
     fclose(input);
-    line_of(expected(bytes, len), line);
+    line_of(r, line);
     if (strcmp(line, printed) != 0)
         group_fail("%zu bytes: printed '%s', expected '%s'", len, printed,
                    line);
     group_case();
+    return r;
 }
 
-static void check_strip(const struct picture *p)
+static struct ref_result check_strip(const struct picture *p)
 {
     uint8_t bytes[2 * STRIP_ROOM];
 
     memcpy(bytes, p->strip, p->strip_len);
     memcpy(bytes + p->strip_len, p->marks, p->marks_len);
-    check_input(bytes, p->strip_len + p->marks_len);
+    return check_input(bytes, p->strip_len + p->marks_len);
+}
+
+/* The same where this line must come out. */
+static void check_line(const struct picture *p, const char *line)
+{
+    char said[LINE_ROOM];
+
+    line_of(check_strip(p), said);
+    if (strcmp(line, said) != 0)
+        group_fail("the reference says '%s', expected '%s'", said, line);
+}
+
+static const char finished[] = "refused 10 lane 0\n";
+
+/* The strip as it is, and with each cell wrong by itself. */
+static void check_cells(const struct worked *w, const char *whole,
+                        const char *changed)
+{
+    struct picture p;
+
+    picture_worked(&p, w);
+    check_line(&p, whole);
+    for (size_t cell = 0; cell < p.strip_len; cell++) {
+        const uint8_t right = p.strip[cell];
+
+        p.strip[cell] ^= draw_nonzero();
+        check_line(&p, changed);
+        p.strip[cell] = right;
+    }
+}
+
+/* FORMAT 12.8 to 12.10 and 12.15. */
+static void test_worked(void)
+{
+    struct picture p;
+
+    group_begin("program", "the lines of FORMAT");
+    check_cells(&worked_level, "level 2 1 par 5 mended 0 wear 0\n",
+                "level 2 1 par 5 mended 1 wear 4\n");
+    check_cells(&worked_finished, finished, finished);
+    for (size_t i = 0; i < scaled(20); i++) {
+        picture_worked(&p, &worked_level);
+        damage_lane(&p, 2, 3, 0, ANY_BYTE);
+        check_line(&p, "refused 6 lane 2\n");
+    }
+    group_end();
+}
+
+static void test_finished(void)
+{
+    struct picture p;
+    struct board b;
+
+    group_begin("program", "finished boards, with damage within reach");
+    for (size_t i = 0; i < scaled(100); i++) {
+        draw_any_finished(&b);
+        picture_board(&p, &b);
+        for (size_t lane = 0; lane < REF_LANES; lane++)
+            damage_lane(&p, lane, draw_below(3), draw_below(2), ANY_BYTE);
+        check_line(&p, finished);
+    }
+    group_end();
 }
 
 static void test_damage(void)
@@ -186,6 +251,8 @@ int main(int argc, char **argv)
     }
     program = argv[1];
     groups_start(100);
+    test_worked();
+    test_finished();
     test_damage();
     test_lengths();
     test_records();

@@ -63,7 +63,8 @@ static const char *const words[] = {
     [7] = "the version, width, height or par is out of range",
     [8] = "the length does not fit the size, or the filling is not zero",
     [9] = "there is no such tile code",
-    [10] = "not one player, no crate, or crates and goals unequal",
+    [10] = "not one player, crates and goals unequal, or no crate off its "
+           "goal",
 };
 
 static char letter_of(uint8_t tile)
@@ -173,13 +174,13 @@ static int make(const char *path)
     return 0;
 }
 
-/* Half of them as they should be, the others with a slip or two. */
+/* Half of them without a slip, the others with one or two. */
 static int type_file(const char *folder, size_t number)
 {
     struct typed t = {.len = 0};
     struct board b;
 
-    draw_any_level(&b);
+    draw_any_board(&b);
     type_par(&t, b.par);
     type_ragged_rows(&t, &b);
     for (size_t slips = number % 2 * draw_between(1, 2); slips > 0; slips--)
@@ -201,7 +202,7 @@ static void draw_strip(struct file *f)
     uint8_t data[REF_RECORD_MAX] = {0};
     struct board b;
 
-    draw_any_level(&b);
+    draw_any_board(&b);
     if (draw_below(4) == 0)
         b.tiles[draw_below(b.tiles_len)] = (uint8_t)draw_below(8);
 

@@ -19,7 +19,7 @@ record Counts (ts : List ℕ) : Type 0 where
   sum : weight ts ≡ packed (totals ts) + 281474976710656 * above
   right : above ≡ 0 → AllTiles 1 ts
   wrong : AllTiles 1 ts → above ≡ 0
-  few : (totals ts .player ≤ length ts) × (totals ts .crate' ≤ length ts) × (totals ts .goal ≤ length ts)
+  few : (totals ts .player ≤ length ts) × (totals ts .crate' ≤ length ts) × (totals ts .goal ≤ length ts) × (totals ts .off ≤ totals ts .crate')
 
 more : (t : ℕ) (ts : List ℕ) → Counts ts → (t < 7) ⊎ (7 ≤ t) → Counts (t ∷ ts)
 unfolding weight totals
@@ -28,7 +28,7 @@ more t ts r (inl h) = record {
   sum = omega (arith, weighed-in t h, r .sum);
   right = λ z. all (r .right z);
   wrong = λ f. r .wrong (λ i l. f (suc i) (omega arith));
-  few = (omega (arith, adds-small t, r .few), omega (arith, adds-small t, r .few), omega (arith, adds-small t, r .few));
+  few = (omega (arith, adds-small t, r .few), omega (arith, adds-small t, r .few), omega (arith, adds-small t, r .few), omega (arith, adds-small t, r .few));
 }
   where
     all : AllTiles 1 ts → AllTiles 1 (t ∷ ts)
@@ -39,12 +39,12 @@ more t ts r (inr h) = record {
   sum = omega (arith, weighed-out t h, adds-none t h, r .sum);
   right = λ z. absurd (omega arith);
   wrong = λ f. absurd (omega (arith, f 0 (omega arith)));
-  few = (omega (arith, adds-small t, r .few), omega (arith, adds-small t, r .few), omega (arith, adds-small t, r .few));
+  few = (omega (arith, adds-small t, r .few), omega (arith, adds-small t, r .few), omega (arith, adds-small t, r .few), omega (arith, adds-small t, r .few));
 }
 
 counts : (ts : List ℕ) → Counts ts
 unfolding weight totals
-counts [] = record { above = 0; sum = refl; right = λ z i l. absurd (omega arith); wrong = λ f. refl; few = (omega arith, omega arith, omega arith) }
+counts [] = record { above = 0; sum = refl; right = λ z i l. absurd (omega arith); wrong = λ f. refl; few = (omega arith, omega arith, omega arith, omega arith) }
 counts (t ∷ ts) = more t ts (counts ts) (lt-or-ge t 7)
 
 module _ (ts : List ℕ) (x : ℕ) (short : length ts ≤ 961) (e : x ≡ weight ts) where
@@ -57,12 +57,22 @@ module _ (ts : List ℕ) (x : ℕ) (short : length ts ≤ 961) (e : x ≡ weight
   pub not-all : (x / 281474976710656 ≡ 0 → ⊥) → AllTiles 1 ts → ⊥
   not-all n f = n (omega (arith, top, counts ts .wrong f))
 
-  pub sums : x / 281474976710656 ≡ 0 → (x % 4096 ≡ totals ts .player) × (x / 4096 % 4096 ≡ totals ts .crate') × (x / 16777216 % 4096 ≡ totals ts .goal)
-  sums z = (
-    omega (arith, e, counts ts .sum, counts ts .few, top, z),
-    omega (arith, e, counts ts .sum, counts ts .few, top, z),
-    omega (arith, e, counts ts .sum, counts ts .few, top, z),
-  )
+  -- the four sums, each in its place
+  pub record Sums : Type 0 where
+    pub player-is : x % 4096 ≡ totals ts .player
+    pub crate-is : x / 4096 % 4096 ≡ totals ts .crate'
+    pub goal-is : x / 16777216 % 4096 ≡ totals ts .goal
+    pub off-is : x / 68719476736 % 4096 ≡ totals ts .off
+    pub off-crates : totals ts .off ≤ totals ts .crate'
+
+  pub sums : x / 281474976710656 ≡ 0 → Sums
+  sums z = record {
+    player-is = omega (arith, e, counts ts .sum, counts ts .few, top, z);
+    crate-is = omega (arith, e, counts ts .sum, counts ts .few, top, z);
+    goal-is = omega (arith, e, counts ts .sum, counts ts .few, top, z);
+    off-is = omega (arith, e, counts ts .sum, counts ts .few, top, z);
+    off-crates = omega (arith, counts ts .few);
+  }
 
 -- a board has at most 961 tiles
 pub area-small : (w h : ℕ) → w ≤ 31 → h ≤ 31 → w * h ≤ 961

@@ -2,10 +2,11 @@
 use mathlib.Core.Path.{_≡_, refl}
 use mathlib.Core.List.{List}
 use Prim.Native.Nat.{ℕ, _≤_}
-use Rattle.rules.specs.Refusal.{First, Hold, asked}
+use Rattle.rules.specs.Refusal.{First, asked}
 use Rattle.rules.proofs.Laws.{all-hold, hold-first}
 use Rattle.level.specs.Level.{Level, IsLevel, Ranged, lending}
 use Rattle.level.specs.Writing.{lent, writingLevel}
+use Rattle.level.proofs.Judged.{level-passes, level-passed}
 use Rattle.lending.specs.Lending.{InRange}
 
 -- the ranges, of numbers and of the level that has them
@@ -17,19 +18,12 @@ module _ (w h par : ℕ) (tiles : List ℕ) where
   ranged-has r = record { sized = r .sized; par-small = r .par-small }
 
 module _ (l : Level) where
-  -- a level passes, and what passes is one
-  pub level-passes : IsLevel l → Hold (asked (λ ask. ask l) lending)
-  level-passes il = (il .ranged, (il .count, (il .codes, (il .playable, tt))))
-
-  pub level-passed : Hold (asked (λ ask. ask l) lending) → IsLevel l
-  level-passed (r, (c, (k, (p, none)))) = record { ranged = r; count = c; codes = k; playable = p }
-
   pub lent-level : (c : ℕ) → c ≡ 0 → First (asked (λ ask. ask l) lending) c → IsLevel l
-  lent-level c z f = level-passed (all-hold 10 (asked (λ ask. ask l) lending) c tt f z)
+  lent-level c z f = level-passed l (all-hold 10 (asked (λ ask. ask l) lending) c tt f z)
 
   -- the same of a writer's whole list
   pub written-level : (least room c : ℕ) → c ≡ 0 → First (writingLevel least l room) c → (least ≤ room) × IsLevel l
-  written-level least room c z f = let h = all-hold 10 (writingLevel least l room) c tt f z in (h .0, level-passed (h .1))
+  written-level least room c z f = let h = all-hold 10 (writingLevel least l room) c tt f z in (h .0, level-passed l (h .1))
 
   pub level-written : (least room : ℕ) → least ≤ room → IsLevel l → First (writingLevel least l room) 0
-  level-written least room k il = hold-first (writingLevel least l room) (k, level-passes il)
+  level-written least room k il = hold-first (writingLevel least l room) (k, level-passes l il)

@@ -162,7 +162,7 @@ module _ (l : Level) (il : IsLevel l) (old new : List ℕ) (n : ℕ) (e : n ≡ 
     short = short;
     is-record =
         subst (IsRecord l) (sym (ap (take n) is ∙ take-at (listOf n (recordByte l)) (drop n old) n size ∙ ap (λ (k : ℕ). listOf k (recordByte l)) e))
-        (record-of l il);
+        (record-of l (il .ranged) (il .count) (il .codes));
     past = ap (drop n) is ∙ drop-at (listOf n (recordByte l)) (drop n old) n size;
   }
     where

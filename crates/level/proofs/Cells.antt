@@ -1,6 +1,7 @@
 -- The worked examples hold.
-use mathlib.Core.Path.{_≡_, refl, sym, ap, ap₂, _∙_, subst}
+use mathlib.Core.Path.{_≡_, refl, sym, ap, ap₂, _∙_}
 use mathlib.Core.Bool.{Bool, true}
+use mathlib.Core.Logic.{inl, inr}
 use mathlib.Core.List.{List, [], _∷_}
 use Prim.Native.Nat.{ℕ, zero, suc, _+_, _*_, _/_, _%_, _≤_, _<_}
 use native.Mathlib.Omega.{arith}
@@ -12,19 +13,19 @@ use Rattle.account.specs.Code.{alphaTo, S, Cells, Clean}
 use Rattle.account.specs.Reach.{oneIf, countTo, isMarked, differsAt, marked, differing, Reach, Reachable}
 use Rattle.account.specs.Lanes.{lane}
 use Rattle.account.specs.Lists.{listOf}
-use Rattle.account.proofs.Test.{both, both-left, both-right, upto-at}
+use Rattle.account.proofs.Test.{both, both-left, both-right, upto, upto-at}
 use Rattle.account.proofs.Laws as laws
 use Rattle.account.proofs.Words as words
-use Rattle.account.proofs.Words.{five}
+use Rattle.account.proofs.Words.{five, sumsOf, sums-clean}
 use Rattle.account.proofs.Generator as generators
 use Rattle.account.proofs.Theorems.{one-in-reach, none-at-six}
 use Rattle.gf256.specs.Gf256.{gf256}
 use Rattle.gf256.proofs.Field256.{field256}
 use Rattle.level.specs.Tile.{totals}
-use Rattle.level.specs.Level.{Level, IsLevel}
+use Rattle.level.specs.Level.{Level, IsLevel, Ranged, Coded, Fair}
 use Rattle.level.specs.Record.{IsRecord}
 use Rattle.level.specs.Strip.{IsStrip}
-use Rattle.level.specs.Cells.{All, table}
+use Rattle.level.specs.Cells.{Holds, noLevel, All, two, finished, finishedRecord, finishedStrip, unfinished, unfinishedRecord, unfinishedStrip, table}
 use Rattle.level.proofs.Written.{spelled, recordBit, recordByte, recordOf}
 use Rattle.level.proofs.RecordOf.{record-of}
 use Rattle.level.proofs.Worn.{every-row}
@@ -100,64 +101,72 @@ outside R = let z : _≡_ {A = ℕ} 0 1 = ap (λ (l : List ℕ). getD l 0 0) sam
         (reach-cons (0 ∷ 0 ∷ 0 ∷ 0 ∷ 0 ∷ 0 ∷ []) (0x00 ∷ 0x6C ∷ 0xAA ∷ 0x82 ∷ 0x8B ∷ 0xCE ∷ []) (R .word) (R .reach))
         (record { same-length = refl; few = omega arith })
 
--- ---- the record and its strip
+-- ---- the boards of two tiles, their records and strips
 
-abbrev two : Level
-two = record { version = 1; width = 2; height = 1; par = 5; tiles = 4 ∷ 5 ∷ [] }
-
-abbrev bs : List ℕ
-bs = 0x11 ∷ 0x04 ∷ 0x05 ∷ 0x94 ∷ []
-
-abbrev strip : List ℕ
-strip =
-    0x11 ∷ 0x04 ∷ 0x05 ∷ 0x94 ∷ 0xB2 ∷ 0x1F ∷ 0xD1 ∷ 0xA4 ∷ 0x20 ∷ 0xBF ∷ 0x59 ∷ 0x07
-    ∷ 0x20 ∷ 0xBF ∷ 0x59 ∷ 0x07 ∷ 0xB2 ∷ 0x1F ∷ 0xD1 ∷ 0xA4 ∷ 0x11 ∷ 0x04 ∷ 0x05 ∷ 0x94 ∷ []
-
-is-level : IsLevel two
-unfolding totals
-is-level = record {
+-- the size and the codes are within their ranges
+module _ (a b : ℕ) (in-a : a ≤ 6) (in-b : b ≤ 6) where
+  ranged : Ranged (two (a ∷ b ∷ []))
   ranged = record {
     known = refl;
     sized = record { wide = omega arith; not-wider = omega arith; high = omega arith; not-higher = omega arith };
     par-small = omega arith;
-  };
-  count = refl;
-  codes = codes;
-  playable = record { one-player = refl; some-crate = omega arith; as-many = refl };
-}
-  where
-    codes : (i : ℕ) → i < 2 → getD (4 ∷ 5 ∷ []) i 0 ≤ 6
-    codes zero h = omega arith
-    codes (suc zero) h = omega arith
-    codes (suc (suc i)) h = absurd (omega arith)
+  }
 
-laid-out : recordOf two ≡ bs
-unfolding recordOf recordByte recordBit spelled listOf
-laid-out = refl
+  codes : Coded (two (a ∷ b ∷ []))
+  codes zero h = in-a
+  codes (suc zero) h = in-b
+  codes (suc (suc i)) h = absurd (omega arith)
 
-is-record : IsRecord two bs
-is-record = subst (IsRecord two) laid-out (record-of two is-level)
+  recorded : IsRecord (two (a ∷ b ∷ [])) (recordOf (two (a ∷ b ∷ [])))
+  recorded = record-of (two (a ∷ b ∷ [])) ranged refl codes
 
-lanes : (j : ℕ) → j < 4 → Clean gf256 (lane 4 j strip)
-unfolding lane listOf S sumTo alphaTo power product
-lanes zero h = five (λ i. S gf256 i (lane 4 0 strip) ≡ 0) refl refl refl refl refl
-lanes (suc zero) h = five (λ i. S gf256 i (lane 4 1 strip) ≡ 0) refl refl refl refl refl
-lanes (suc (suc zero)) h = five (λ i. S gf256 i (lane 4 2 strip) ≡ 0) refl refl refl refl refl
-lanes (suc (suc (suc zero))) h = five (λ i. S gf256 i (lane 4 3 strip) ≡ 0) refl refl refl refl refl
-lanes (suc (suc (suc (suc j)))) h = absurd (omega arith)
+-- the lanes of s are clean, and bs is in front
+abbrev cleanLanes : List ℕ → Bool
+cleanLanes s = upto (λ j. upto (λ m. eqb (sumsOf gf256 (lane 4 j s) m) 0) 5) 4
 
-is-strip : IsStrip gf256 4 two strip
-unfolding lane listOf
-is-strip = record {
+abbrev inFront : List ℕ → List ℕ → Bool
+inFront bs s = upto (λ p. eqb (getD (lane 4 (p % 4) s) (p / 4) 0) (getD bs p 0)) 4
+
+strip-of : (l : Level) (bs s : List ℕ) → IsRecord l bs → length bs ≡ 4 → length s ≡ 24 → T (allBytes s) → T (cleanLanes s) → T (inFront bs s)
+    → IsStrip gf256 4 l s
+strip-of l bs s is four long bytes clean front = record {
   bs = bs;
-  is-record = is-record;
+  is-record = is;
   dealt = record {
-    cells = bytes-of strip tt;
-    size = refl;
-    clean = lanes;
-    laid = λ q l. eqb→eq _ _ (upto-at (λ p. eqb (getD (lane 4 (p % 4) strip) (p / 4) 0) (getD bs p 0)) 4 tt q l);
+    cells = bytes-of s bytes;
+    size = omega (arith, four, long);
+    clean = λ j h.
+        sums-clean gf256 (lane 4 j s) (λ m k.
+        eqb→eq _ _ (upto-at (λ i. eqb (sumsOf gf256 (lane 4 j s) i) 0) 5
+        (upto-at (λ i. upto (λ m. eqb (sumsOf gf256 (lane 4 i s) m) 0) 5) 4 clean j h) m k));
+    laid = λ q h. eqb→eq _ _ (upto-at (λ p. eqb (getD (lane 4 (p % 4) s) (p / 4) 0) (getD bs p 0)) 4 front q (omega (arith, four)));
   };
 }
+
+finished-record : IsRecord finished finishedRecord
+unfolding recordOf recordByte recordBit spelled listOf
+finished-record = recorded 4 5 (omega arith) (omega arith)
+
+finished-strip : IsStrip gf256 4 finished finishedStrip
+unfolding lane listOf S sumTo alphaTo power product
+finished-strip = strip-of finished finishedRecord finishedStrip finished-record refl refl tt tt tt
+
+-- its crate is on its goal
+not-fair : Fair finished → ⊥
+unfolding totals
+not-fair f = omega (arith, f .unfinished)
+
+unfinished-record : IsRecord unfinished unfinishedRecord
+unfolding recordOf recordByte recordBit spelled listOf
+unfinished-record = recorded 2 6 (omega arith) (omega arith)
+
+unfinished-strip : IsStrip gf256 4 unfinished unfinishedStrip
+unfolding lane listOf S sumTo alphaTo power product
+unfinished-strip = strip-of unfinished unfinishedRecord unfinishedStrip unfinished-record refl refl tt tt tt
+
+fair : Fair unfinished
+unfolding totals
+fair = record { one-player = refl; some-crate = omega arith; as-many = refl; unfinished = omega arith }
 
 -- Every cell of the table holds.
 pub cells : All table
@@ -192,7 +201,13 @@ cells = (
                           (
                             at-six ones (0x02 ∷ 0 ∷ 0 ∷ 0 ∷ 0 ∷ 0 ∷ []) (0x02 ∷ 0x81 ∷ 0xD1 ∷ 0xD1 ∷ 0x81 ∷ 0x02 ∷ []) (omega arith)
                                 (bytes-of (0x02 ∷ 0x81 ∷ 0xD1 ∷ 0xD1 ∷ 0x81 ∷ 0x02 ∷ []) tt) clean2 refl refl,
-                            ((clean3, record { same-length = refl; few = omega arith }, refl, refl), (outside, ((is-level, is-record, is-strip), (every-row, tt)))),
+                            (
+                              (clean3, record { same-length = refl; few = omega arith }, refl, refl),
+                              (
+                                outside,
+                                ((finished-record, finished-strip), (no-level, ((unfinished-record, unfinished-strip), (is-level, (every-row, tt))))),
+                              ),
+                            ),
                           ),
                         ),
                       ),
@@ -208,6 +223,15 @@ cells = (
   ),
 )
   where
+    no-level : Holds (noLevel finished 10)
+    no-level = (
+      λ il. not-fair (il .playable),
+      inr (ranged 4 5 (omega arith) (omega arith), inr (refl, inr (codes 4 5 (omega arith) (omega arith), inl (not-fair, refl)))),
+    )
+
+    is-level : IsLevel unfinished
+    is-level = record { ranged = ranged 2 6 (omega arith) (omega arith); count = refl; codes = codes 2 6 (omega arith) (omega arith); playable = fair }
+
     none : List ℕ
     none = 0 ∷ 0 ∷ 0 ∷ 0 ∷ 0 ∷ 0 ∷ []
 

@@ -1,5 +1,5 @@
--- What passes refusals 7 to 10 is a level's record with its filling, and a level's record with its filling passes.
-use mathlib.Core.Path.{_≡_, sym, ap, ap₂, _∙_, subst}
+-- What passes refusals 7 to 10 is a level's record with its filling; and the record of a board is refused as the board is.
+use mathlib.Core.Path.{_≡_, refl, sym, ap, ap₂, _∙_, subst}
 use Prim.Native.Nat.{ℕ, _+_, _*_, _-_, _/_, _%_, _^_, _≤_, _<_}
 use native.Mathlib.Nat.{zero-div}
 use native.Mathlib.Omega.{arith}
@@ -8,10 +8,11 @@ use mathlib.Core.Logic.{_⊎_, inl, inr}
 use lib.ListN.{length, getD, take}
 use lib.Seq.{getD-take, ext-getD, length-take-le}
 use Rattle.rules.specs.Bytes.{Bytes}
-use Rattle.rules.specs.Refusal.{Hold, asked}
+use Rattle.rules.specs.Refusal.{First, Hold, asked}
+use Rattle.rules.proofs.Laws.{first-alike}
 use Rattle.account.proofs.Lists.{length-listOf, getD-listOf}
 use Rattle.account.proofs.Lanes.{getD-past}
-use Rattle.level.specs.Level.{Level, IsLevel, Ranged, Coded, Fair}
+use Rattle.level.specs.Level.{Level, IsLevel, Ranged, Counted, Coded, Fair, lending}
 use Rattle.level.specs.Record.{bitAt, fieldAt, recordLength, IsRecord}
 use Rattle.level.specs.Strip.{columns}
 use Rattle.level.specs.Reading.{tilesIn, levelOf, Shaped, judging}
@@ -98,23 +99,16 @@ spelled-level bs ra al pl = record {
   playable = pl;
 }
 
--- nothing to refuse, and the level l is spelled
-pub record Passes (R : ℕ) (bs : List ℕ) (l : Level) : Type 0 where
-  pub level : levelOf bs ≡ l
-  pub ranged : Ranged (levelOf bs)
-  pub shaped : Shaped R bs
-  pub codes : Coded (levelOf bs)
-  pub playable : Fair (levelOf bs)
+-- a level passes what is asked of one that is lent, and what passes is one
+pub level-passes : (l : Level) → IsLevel l → Hold (asked (λ ask. ask l) lending)
+level-passes l il = (il .ranged, (il .count, (il .codes, (il .playable, tt))))
 
-pub passes-all : (R : ℕ) (bs : List ℕ) (l : Level) → Passes R bs l → Hold (asked (λ ask. ask bs) (judging R))
-passes-all R bs l p = (p .ranged, (p .shaped, (p .codes, (p .playable, tt))))
+pub level-passed : (l : Level) → Hold (asked (λ ask. ask l) lending) → IsLevel l
+level-passed l (r, (c, (k, (p, none)))) = record { ranged = r; count = c; codes = k; playable = p }
 
--- the record of a level with zero bytes after it passes
-module _ (R : ℕ) (some : 0 < R) (l : Level) (rec bs : List ℕ) (il : IsLevel l) (is : IsRecord l rec)
+-- the record of a board, a level or not, with zero bytes after it
+module _ (R : ℕ) (some : 0 < R) (l : Level) (rec bs : List ℕ) (co : Counted l) (is : IsRecord l rec)
     (size : length bs ≡ R * columns R (length rec)) (same : (q : ℕ) → q < length bs → getD rec q 0 ≡ getD bs q 0) where
-  m' : ℕ
-  m' = l .width * l .height
-
   long : recordLength (l .width) (l .height) ≤ length bs
   long = omega (arith, size, is .size, within R some (length rec))
 
@@ -130,27 +124,32 @@ module _ (R : ℕ) (some : 0 < R) (l : Level) (rec bs : List ℕ) (il : IsLevel 
   area : fieldAt bs 4 5 * fieldAt bs 9 5 ≡ l .width * l .height
   area = ap₂ (λ (x y : ℕ). x * y) wide high
 
-  e : levelOf bs ≡ l
-  e = same-level (levelOf bs) l (fld' 0 4 (omega (arith, long)) ∙ is .version) wide high
+  -- they spell the board
+  pub spelled-board : levelOf bs ≡ l
+  spelled-board = same-level (levelOf bs) l (fld' 0 4 (omega (arith, long)) ∙ is .version) wide high
       (fld' 14 10 (omega (arith, long)) ∙ is .par)
-      (ap (tilesIn bs) area ∙ ext-getD 0 (tilesIn bs (l .width * l .height)) (l .tiles) (length-tiles bs (l .width * l .height) ∙ sym (il .count)) (λ i k.
+      (ap (tilesIn bs) area ∙ ext-getD 0 (tilesIn bs (l .width * l .height)) (l .tiles) (length-tiles bs (l .width * l .height) ∙ sym co) (λ i k.
       let j : i < l .width * l .height = omega (arith, length-tiles bs (l .width * l .height)) in
-      getD-tiles bs (l .width * l .height) i j ∙ fld' (24 + 3 * i) 3 (omega (arith, long)) ∙ is .tile i (omega (arith, il .count))))
+      getD-tiles bs (l .width * l .height) i j ∙ fld' (24 + 3 * i) 3 (omega (arith, long)) ∙ is .tile i (omega (arith, co))))
 
   fill : (p : ℕ) → 24 + 3 * (l .width * l .height) ≤ p → (p < 8 * length rec) ⊎ (8 * length rec ≤ p) → bitAt rec p ≡ 0
-  fill p k (inl a) = is .filling p (omega (arith, il .count)) a
+  fill p k (inl a) = is .filling p (omega (arith, co)) a
   fill p k (inr a) = zero-bit rec p (getD-past rec (p / 8) (omega arith))
 
-  pub record-passes : Passes R bs l
-  record-passes = record {
-    level = e;
-    ranged = subst Ranged (sym e) (il .ranged);
-    shaped = record {
-      fits = subst (λ (x : Level). length bs ≡ R * columns R (recordLength (x .width) (x .height))) (sym e) (size ∙ ap (λ (n : ℕ). R * columns R n) (is .size));
-      filling = λ p h k.
-          sym (bit-front rec bs (length bs) same p k)
-          ∙ fill p (subst (λ (x : Level). 24 + 3 * (x .width * x .height) ≤ p) e h) (lt-or-ge p (8 * length rec));
-    };
-    codes = subst Coded (sym e) (il .codes);
-    playable = subst Fair (sym e) (il .playable);
+  shaped : Shaped R bs
+  shaped = record {
+    fits = subst (λ (x : Level). length bs ≡ R * columns R (recordLength (x .width) (x .height))) (sym spelled-board) (size ∙ ap (λ (n : ℕ). R * columns R n) (is .size));
+    filling = λ p h k.
+        sym (bit-front rec bs (length bs) same p k)
+        ∙ fill p (subst (λ (x : Level). 24 + 3 * (x .width * x .height) ≤ p) spelled-board h) (lt-or-ge p (8 * length rec));
   }
+
+  -- a reader judges them as a writer judges the board
+  pub judged-alike : (c : ℕ) → First (asked (λ ask. ask l) lending) c → First (asked (λ ask. ask bs) (judging R)) c
+  judged-alike c =
+      first-alike (asked (λ ask. ask l) lending) (asked (λ ask. ask bs) (judging R)) c (
+        refl,
+        subst Ranged (sym spelled-board),
+        subst Ranged spelled-board,
+        (refl, (λ _. shaped), (λ _. co), (refl, subst Coded (sym spelled-board), subst Coded spelled-board, (refl, subst Fair (sym spelled-board), subst Fair spelled-board, tt))),
+      )

@@ -11,6 +11,7 @@ pub mod Mended
 pub mod Nearest
 pub mod Counts
 pub mod Unread
+pub mod Unfinished
 pub mod Worn
 pub mod Cells
 pub mod Theorems

@@ -1,9 +1,10 @@
--- A mended strip whose record passes is a level's strip; a level's strip within reach is the mended strip, and its record passes.
+-- A mended strip whose record passes is a level's strip; a board's strip within reach is the mended strip, and judged as the board is.
 use mathlib.Core.Path.{_≡_, sym, ap, _∙_, subst}
 use Prim.Native.Nat.{ℕ, _+_, _*_, _-_, _/_, _%_, _≤_, _<_}
 use native.Mathlib.Nat.{mul-add}
 use native.Mathlib.Omega.{arith}
 use mathlib.Core.List.{List}
+use mathlib.Core.Logic.{inr}
 use lib.ListN.{length, getD, take}
 use lib.Seq.{getD-take, length-take-le}
 use Rattle.account.specs.Field.{Ops, IsField}
@@ -12,14 +13,14 @@ use Rattle.account.specs.Lanes.{lane}
 use Rattle.account.proofs.Lanes.{cell}
 use Rattle.rules.specs.Refusal.{First, Hold, asked}
 use Rattle.rules.specs.Bytes.{Bytes}
-use Rattle.rules.proofs.Laws.{first-alike, asked-alike, none-first}
-use Rattle.level.specs.Level.{Level, IsLevel}
+use Rattle.rules.proofs.Laws.{first-fixes, hold-first, first-alike, asked-alike}
+use Rattle.level.specs.Level.{Level, IsLevel, Counted, lending}
 use Rattle.level.specs.Record.{fieldAt, recordLength}
-use Rattle.level.specs.Strip.{columns, IsStrip, Reached, Mends}
-use Rattle.level.specs.Reading.{levelOf, judging, dataOf, OfMended}
+use Rattle.level.specs.Strip.{columns, IsStrip, StripReach, Reached, Mends}
+use Rattle.level.specs.Reading.{levelOf, judging, dataOf, OfMended, mending}
 use Rattle.level.proofs.Dealing.{laid-out}
-use Rattle.level.proofs.Strips.{one-mended, reached-mends}
-use Rattle.level.proofs.Judged.{spelled-record, spelled-level, front, filled, Passes, record-passes, passes-all}
+use Rattle.level.proofs.Strips.{one-mended, reached-mends, mendable}
+use Rattle.level.proofs.Judged.{spelled-record, spelled-level, front, filled, level-passes, spelled-board, judged-alike}
 
 module _ (O : Ops) (F : IsField O) (bytes : O .size ≤ 256) (R : ℕ) (some : 0 < R) where
   open Ops O using (order)
@@ -76,15 +77,21 @@ module _ (O : Ops) (F : IsField O) (bytes : O .size ≤ 256) (R : ℕ) (some : 0
           ∙ sym (data-cell t k size q (omega (arith, columns-are)))
           ∙ filled R some (dataOf R t) by sh q (omega (arith, sh .fits))
 
-  -- a level's strip passes, and spells the level
-  pub strip-passes : (l : Level) (u : List ℕ) → IsLevel l → IsStrip O R l u → Passes R (dataOf R u) l
-  strip-passes l u il st =
-      record-passes R some l (st .bs) (dataOf R u) il (st .is-record) long
-      (λ q h. laid-out O F R some (st .bs) u (st .dealt) q (omega (arith, long))
-      ∙ sym (data-cell u (columns R (length (st .bs))) (st .dealt .size) q (omega (arith, long))))
-    where
-      long : length (dataOf R u) ≡ R * columns R (length (st .bs))
-      long = data-length u (columns R (length (st .bs))) (st .dealt .size)
+  -- the strip of a board, a level or not, spells it, and is judged as a writer judges it
+  module _ (l : Level) (u : List ℕ) (co : Counted l) (st : IsStrip O R l u) where
+    long : length (dataOf R u) ≡ R * columns R (length (st .bs))
+    long = data-length u (columns R (length (st .bs))) (st .dealt .size)
+
+    same : (q : ℕ) → q < length (dataOf R u) → getD (st .bs) q 0 ≡ getD (dataOf R u) q 0
+    same q h =
+        laid-out O F R some (st .bs) u (st .dealt) q (omega (arith, long))
+        ∙ sym (data-cell u (columns R (length (st .bs))) (st .dealt .size) q (omega (arith, long)))
+
+    strip-spells : levelOf (dataOf R u) ≡ l
+    strip-spells = spelled-board R some l (st .bs) (dataOf R u) co (st .is-record) long same
+
+    strip-alike : (c : ℕ) → First (asked (λ ask. ask l) lending) c → First (asked (λ ask. ask (dataOf R u)) (judging R)) c
+    strip-alike = judged-alike R some l (st .bs) (dataOf R u) co (st .is-record) long same
 
   module _ (marks s t : List ℕ) (m : ℕ) (full : length s ≡ R * (m + 5)) (short : m + 5 ≤ order) (M : Mends O R marks s t) where
     -- a mended strip whose record passes is a level's
@@ -92,12 +99,12 @@ module _ (O : Ops) (F : IsField O) (bytes : O .size ≤ 256) (R : ℕ) (some : 0
     level-reached h =
         let x = level-strip t m (M .reach .same-length ∙ full) (M .cells) (M .clean) h in record { is-level = x .0; is-strip = x .1; reach = M .reach }
 
-    -- a level's strip within reach is the mended strip
-    pub passing : (l : Level) (u : List ℕ) → Reached O R marks s l u → Passes R (dataOf R t) l
-    passing l u r = subst (λ (x : List ℕ). Passes R (dataOf R x) l) same (strip-passes l u (r .is-level) (r .is-strip))
-      where
-        same : u ≡ t
-        same = one-mended O F R some marks s (m + 5) full short u t (reached-mends O F R some marks s l u r) M
+    -- a level's strip within reach is the mended strip, and spells the level
+    reached-is : (l : Level) (u : List ℕ) → Reached O R marks s l u → u ≡ t
+    reached-is l u r = one-mended O F R some marks s (m + 5) full short u t (reached-mends O F R some marks s l u r) M
+
+    pub reached-spells : (l : Level) (u : List ℕ) → Reached O R marks s l u → levelOf (dataOf R t) ≡ l
+    reached-spells l u r = ap (λ (x : List ℕ). levelOf (dataOf R x)) (sym (reached-is l u r)) ∙ strip-spells l u (r .is-level .count) (r .is-strip)
 
     -- what is found of the mended record is found of the strip
     pub found : (c : ℕ) → First (asked (λ ask. ask (dataOf R t)) (judging R)) c → First (asked (OfMended O R marks s) (judging R)) c
@@ -108,4 +115,18 @@ module _ (O : Ops) (F : IsField O) (bytes : O .size ≤ 256) (R : ℕ) (some : 0
 
     -- and then no level is within reach
     pub none-reached : (c : ℕ) → (c ≡ 0 → ⊥) → First (asked (λ ask. ask (dataOf R t)) (judging R)) c → (l : Level) (u : List ℕ) → Reached O R marks s l u → ⊥
-    none-reached c n f l u r = n (none-first (asked (λ ask. ask (dataOf R t)) (judging R)) c (passes-all R (dataOf R t) l (passing l u r)) f)
+    none-reached c n f l u r = n (first-fixes (asked (λ ask. ask (dataOf R t)) (judging R)) c 0 f passed)
+      where
+        passed : First (asked (λ ask. ask (dataOf R t)) (judging R)) 0
+        passed =
+            subst (λ (x : List ℕ). First (asked (λ ask. ask (dataOf R x)) (judging R)) 0) (reached-is l u r)
+            (strip-alike l u (r .is-level .count) (r .is-strip) 0 (hold-first (asked (λ ask. ask l) lending) (level-passes l (r .is-level))))
+
+  -- where the strip of a board is within reach, the strip read is refused as the board is
+  pub board-found : (marks s u : List ℕ) (m : ℕ) → length s ≡ R * (m + 5) → m + 5 ≤ order → (l : Level) → Counted l → IsStrip O R l u → StripReach R marks s u
+      → (c : ℕ) → First (asked (λ ask. ask l) lending) c → First (mending O R s marks) c
+  board-found marks s u m full short l co st reach c f =
+      inr (mendable O F R some marks s u M, found marks s u m full short M c (strip-alike l u co st c f))
+    where
+      M : Mends O R marks s u
+      M = record { cells = st .dealt .cells; clean = st .dealt .clean; reach = reach }

@@ -1,4 +1,4 @@
--- The bytes that `recordOf` gives are the record of a level.
+-- The bytes that `recordOf` gives are the record.
 use mathlib.Core.Path.{_≡_, refl, sym, ap, ap₂, _∙_}
 use Prim.Native.Nat.{ℕ, zero, suc, _+_, _*_, _-_, _/_, _%_, _^_, _≤_, _<_}
 use native.Mathlib.Nat.{div-div-eq-div-mul, pow-suc, div-eq-of-lt, two-pow-succ, zero-div}
@@ -7,7 +7,7 @@ use mathlib.Core.List.{List}
 use mathlib.Core.Logic.{⊎-elim}
 use borrow.Author.Tests.{lt-ltb, le-ltb}
 use lib.ListN.{length, getD}
-use Rattle.level.specs.Level.{Level, IsLevel}
+use Rattle.level.specs.Level.{Level, Ranged, Counted, Coded}
 use Rattle.level.specs.Record.{bitAt, fieldAt, recordLength, IsRecord}
 use Rattle.level.proofs.Written.{digit, spelled, recordBit, recordByte, recordOf}
 use Rattle.account.proofs.Lanes.{getD-past}
@@ -143,21 +143,22 @@ module _ (l : Level) where
       ∙ spelled-cong n (λ i. bitAt (recordOf l) (p + i)) (digit n v) (λ i k. bits-record (p + i) (omega arith) ∙ f i k)
       ∙ digits n v small
 
-  pub record-of : IsLevel l → IsRecord l (recordOf l)
-  record-of il = record {
+  -- of any board that the layout has room for, whether or not it keeps the rule
+  pub record-of : Ranged l → Counted l → Coded l → IsRecord l (recordOf l)
+  record-of ra co cd = record {
     bytes = record { cell = λ j h. let k : j < B = omega (arith, length-record) in rw (getD-record j k) (byte-below j) };
     size = length-record;
-    version = field-record 0 4 (l .version) (omega arith) (omega (arith, il .ranged .known)) (λ i h. let z : 0 + i ≡ i = omega arith in rw z (bit-1 i h));
+    version = field-record 0 4 (l .version) (omega arith) (omega (arith, ra .known)) (λ i h. let z : 0 + i ≡ i = omega arith in rw z (bit-1 i h));
     width =
-        field-record 4 5 (l .width) (omega arith) (omega (arith, il .ranged .sized))
+        field-record 4 5 (l .width) (omega arith) (omega (arith, ra .sized))
         (λ i h. bit-2 (4 + i) (omega arith) (omega arith) ∙ ap (digit 5 (l .width)) (omega arith));
     height =
-        field-record 9 5 (l .height) (omega arith) (omega (arith, il .ranged .sized))
+        field-record 9 5 (l .height) (omega arith) (omega (arith, ra .sized))
         (λ i h. bit-3 (9 + i) (omega arith) (omega arith) ∙ ap (digit 5 (l .height)) (omega arith));
     par =
-        field-record 14 10 (l .par) (omega arith) (omega (arith, il .ranged .par-small))
+        field-record 14 10 (l .par) (omega arith) (omega (arith, ra .par-small))
         (λ i h. bit-4 (14 + i) (omega arith) (omega arith) ∙ ap (digit 10 (l .par)) (omega arith));
-    tile = λ i h. field-record (24 + 3 * i) 3 (getD (l .tiles) i 0) (omega (arith, il .count)) (omega (arith, il .codes i h)) (λ j k. tiled i j k);
+    tile = λ i h. field-record (24 + 3 * i) 3 (getD (l .tiles) i 0) (omega (arith, co)) (omega (arith, cd i h)) (λ j k. tiled i j k);
     filling = λ p h k. bits-record p (omega (arith, length-record)) ∙ bit-past p (omega arith) (omega arith);
   }
     where

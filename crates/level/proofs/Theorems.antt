@@ -9,7 +9,7 @@ use Rattle.account.specs.Field.{Ops, IsField}
 use Rattle.account.specs.Reach.{differing, repainted}
 use Rattle.gf256.specs.Gf256.{gf256}
 use Rattle.gf256.proofs.Field256.{field256}
-use Rattle.level.specs.Level.{Level, IsLevel}
+use Rattle.level.specs.Level.{Level, IsLevel, Ranged, Counted, Coded}
 use Rattle.level.specs.Record.{recordLength, IsRecord}
 use Rattle.level.specs.Strip.{columns, Legal, Dealt, IsStrip, StripReach, Reached, wrongIn, markedIn, mendedOf, repaintedOf, IsWear}
 use Rattle.level.proofs.Written.{recordOf}
@@ -21,9 +21,13 @@ use Rattle.level.proofs.Strips as strips
 use Rattle.level.proofs.Nearest.{rounded, nearest-one, nearest-rounded, nearest-most}
 use Rattle.level.proofs.Counts as counts
 
+-- FORMAT 6.10: each board within the ranges has a record, a level or not.
+pub board-record : (l : Level) → Ranged l → Counted l → Coded l → (bs : List ℕ) × IsRecord l bs
+board-record l ra co cd = (recordOf l, records.record-of l ra co cd)
+
 -- FORMAT 6.8: each level has a record, and one.
 pub some-record : (l : Level) → IsLevel l → (bs : List ℕ) × IsRecord l bs
-some-record l il = (recordOf l, records.record-of l il)
+some-record l il = board-record l (il .ranged) (il .count) (il .codes)
 
 pub one-record : (l : Level) (xs ys : List ℕ) → IsLevel l → IsRecord l xs → IsRecord l ys → xs ≡ ys
 one-record = determined.one-record
@@ -35,17 +39,22 @@ record-injective = fields.record-injective
 module _ (O : Ops) (F : IsField O) (R : ℕ) (some : 0 < R) where
   open Ops O using (order)
 
-  -- FORMAT 7.7: each level has a strip, where bytes are cells and its lanes are words of the code.
-  pub some-strip : 256 ≤ O .size → (l : Level) → IsLevel l → columns R (recordLength (l .width) (l .height)) + 5 ≤ order → (s : List ℕ) × IsStrip O R l s
-  some-strip room l il short = (d .0, record { bs = recordOf l; is-record = r; dealt = d .1 })
+  -- FORMAT 6.10: each board within the ranges has a strip, where bytes are cells and its lanes are words of the code.
+  pub board-strip : 256 ≤ O .size → (l : Level) → Ranged l → Counted l → Coded l → columns R (recordLength (l .width) (l .height)) + 5 ≤ order
+      → (s : List ℕ) × IsStrip O R l s
+  board-strip room l ra co cd short = (d .0, record { bs = recordOf l; is-record = r; dealt = d .1 })
     where
       r : IsRecord l (recordOf l)
-      r = records.record-of l il
+      r = records.record-of l ra co cd
 
       d : (s : List ℕ) × Dealt O R (recordOf l) s
       d =
-          some-dealt O F R some (recordOf l) (rw (records.record-of l il .size) short)
-          (record { cell = λ p h. omega (arith, room, records.record-of l il .bytes .cell p h) })
+          some-dealt O F R some (recordOf l) (rw (r .size) short)
+          (record { cell = λ p h. omega (arith, room, r .bytes .cell p h) })
+
+  -- FORMAT 7.7: each level has a strip.
+  pub some-strip : 256 ≤ O .size → (l : Level) → IsLevel l → columns R (recordLength (l .width) (l .height)) + 5 ≤ order → (s : List ℕ) × IsStrip O R l s
+  some-strip room l il = board-strip room l (il .ranged) (il .count) (il .codes)
 
   -- FORMAT 7.7: and one.
   pub one-strip : (l : Level) (s t : List ℕ) → IsLevel l → columns R (recordLength (l .width) (l .height)) + 5 ≤ order → IsStrip O R l s → IsStrip O R l t

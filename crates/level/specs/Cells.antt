@@ -1,4 +1,4 @@
--- FORMAT 12.1, 12.2, 12.4 to 12.6, 12.12: the worked examples that are proved, as one table.
+-- FORMAT 12.1, 12.2, 12.4 to 12.6, 12.12 to 12.14: the worked examples that are proved, as one table.
 use mathlib.Core.Path.{_≡_}
 use mathlib.Core.Logic.{_⊎_}
 use mathlib.Core.List.{List, [], _∷_}
@@ -6,7 +6,8 @@ use Prim.Native.Nat.{ℕ}
 use Rattle.account.specs.Code.{Clean, WordOf}
 use Rattle.account.specs.Reach.{differing, repainted, Reach, Reachable}
 use Rattle.gf256.specs.Gf256.{gf256, times}
-use Rattle.level.specs.Level.{Level, IsLevel}
+use Rattle.rules.specs.Refusal.{First, asked}
+use Rattle.level.specs.Level.{Level, IsLevel, lending}
 use Rattle.level.specs.Record.{IsRecord}
 use Rattle.level.specs.Strip.{IsStrip, IsWear}
 
@@ -31,8 +32,12 @@ pub data Cell : Type 0 where
   becomes : List ℕ → List ℕ → List ℕ → ℕ → ℕ → Cell
   -- FORMAT 12.4: r with these marks is refused (6)
   refused : List ℕ → List ℕ → Cell
-  -- FORMAT 12.5, 12.6: a level with its record and its strip of four lanes
+  -- FORMAT 12.5, 12.6, 12.13, 12.14: a board, whether or not it is a level, is laid out as this record and this strip of four lanes
   lays : Level → List ℕ → List ℕ → Cell
+  -- FORMAT 12.13: it is a level
+  level : Level → Cell
+  -- FORMAT 12.5: it is none, and lent to a writer it is refused with this number
+  noLevel : Level → ℕ → Cell
   -- FORMAT 12.12: each of these rows holds
   wears : List Worn → Cell
 
@@ -41,7 +46,9 @@ Holds (product a b c) = times a b ≡ c
 Holds (gives d w) = WordOf gf256 d w
 Holds (becomes marks r w e d) = Clean gf256 w × Reach marks r w × (differing marks r w ≡ e) × (repainted marks r w ≡ d)
 Holds (refused marks r) = Reachable gf256 marks r → ⊥
-Holds (lays l bs s) = IsLevel l × IsRecord l bs × IsStrip gf256 4 l s
+Holds (lays l bs s) = IsRecord l bs × IsStrip gf256 4 l s
+Holds (level l) = IsLevel l
+Holds (noLevel l n) = (IsLevel l → ⊥) × First (asked (λ ask. ask l) lending) n
 Holds (wears rows) = (r : Worn) → Has r rows → IsWorn r
 
 abbrev pub All : List Cell → Type 0
@@ -53,6 +60,34 @@ none6 = 0 ∷ 0 ∷ 0 ∷ 0 ∷ 0 ∷ 0 ∷ []
 
 abbrev none7 : List ℕ
 none7 = 0 ∷ none6
+
+-- FORMAT 12.5, 12.13: a board of width 2, height 1 and par 5
+abbrev pub two : List ℕ → Level
+two tiles = record { version = 1; width = 2; height = 1; par = 5; tiles = tiles }
+
+-- FORMAT 12.5, 12.6: crate on goal, player
+abbrev pub finished : Level
+finished = two (4 ∷ 5 ∷ [])
+
+abbrev pub finishedRecord : List ℕ
+finishedRecord = 0x11 ∷ 0x04 ∷ 0x05 ∷ 0x94 ∷ []
+
+abbrev pub finishedStrip : List ℕ
+finishedStrip =
+    0x11 ∷ 0x04 ∷ 0x05 ∷ 0x94 ∷ 0xB2 ∷ 0x1F ∷ 0xD1 ∷ 0xA4 ∷ 0x20 ∷ 0xBF ∷ 0x59 ∷ 0x07
+    ∷ 0x20 ∷ 0xBF ∷ 0x59 ∷ 0x07 ∷ 0xB2 ∷ 0x1F ∷ 0xD1 ∷ 0xA4 ∷ 0x11 ∷ 0x04 ∷ 0x05 ∷ 0x94 ∷ []
+
+-- FORMAT 12.13, 12.14: crate, player on goal
+abbrev pub unfinished : Level
+unfinished = two (2 ∷ 6 ∷ [])
+
+abbrev pub unfinishedRecord : List ℕ
+unfinishedRecord = 0x11 ∷ 0x04 ∷ 0x05 ∷ 0x58 ∷ []
+
+abbrev pub unfinishedStrip : List ℕ
+unfinishedStrip =
+    0x11 ∷ 0x04 ∷ 0x05 ∷ 0x58 ∷ 0xB2 ∷ 0x1F ∷ 0xD1 ∷ 0xAF ∷ 0x20 ∷ 0xBF ∷ 0x59 ∷ 0x9A
+    ∷ 0x20 ∷ 0xBF ∷ 0x59 ∷ 0x9A ∷ 0xB2 ∷ 0x1F ∷ 0xD1 ∷ 0xAF ∷ 0x11 ∷ 0x04 ∷ 0x05 ∷ 0x58 ∷ []
 
 -- nothing mended, the most, and each exact half that a legal length allows
 abbrev pub worn : List Worn
@@ -99,8 +134,9 @@ table =
     ∷ refused (1 ∷ 1 ∷ 1 ∷ 1 ∷ 1 ∷ 1 ∷ []) (0x02 ∷ 0 ∷ 0 ∷ 0 ∷ 0 ∷ 0 ∷ [])
     ∷ becomes none7 (0x00 ∷ 0x00 ∷ 0x6C ∷ 0xAA ∷ 0x82 ∷ 0x8B ∷ 0xCE ∷ []) (0x01 ∷ 0x00 ∷ 0x6C ∷ 0xAA ∷ 0x82 ∷ 0x8B ∷ 0xCE ∷ []) 1 0
     ∷ refused none6 (0x00 ∷ 0x6C ∷ 0xAA ∷ 0x82 ∷ 0x8B ∷ 0xCE ∷ [])
-    ∷ lays (record { version = 1; width = 2; height = 1; par = 5; tiles = 4 ∷ 5 ∷ [] }) (0x11 ∷ 0x04 ∷ 0x05 ∷ 0x94 ∷ [])
-    (0x11 ∷ 0x04 ∷ 0x05 ∷ 0x94 ∷ 0xB2 ∷ 0x1F ∷ 0xD1 ∷ 0xA4 ∷ 0x20 ∷ 0xBF ∷ 0x59 ∷ 0x07
-    ∷ 0x20 ∷ 0xBF ∷ 0x59 ∷ 0x07 ∷ 0xB2 ∷ 0x1F ∷ 0xD1 ∷ 0xA4 ∷ 0x11 ∷ 0x04 ∷ 0x05 ∷ 0x94 ∷ [])
+    ∷ lays finished finishedRecord finishedStrip
+    ∷ noLevel finished 10
+    ∷ lays unfinished unfinishedRecord unfinishedStrip
+    ∷ level unfinished
     ∷ wears worn
     ∷ []

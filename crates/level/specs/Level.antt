@@ -24,11 +24,12 @@ Known v = v ≡ 1
 abbrev pub codeMost : ℕ → ℕ
 codeMost v = 6
 
--- FORMAT 5.8 to 5.10: the rule over what the tiles add
+-- FORMAT 5.8 to 5.10, 5.13: the rule over what the tiles add
 pub record Playable (v : ℕ) (r : Row) : Type 0 where
   pub one-player : r .player ≡ 1
   pub some-crate : 1 ≤ r .crate'
   pub as-many : r .crate' ≡ r .goal
+  pub unfinished : 1 ≤ r .off
 
 -- ---- what is asked of a level
 
@@ -56,7 +57,7 @@ AllTiles v ts = (i : ℕ) → i < length ts → getD ts i 0 ≤ codeMost v
 abbrev pub Coded : Level → Type 0
 Coded l = AllTiles (l .version) (l .tiles)
 
--- FORMAT 5.8 to 5.10: the board keeps the rule
+-- FORMAT 5.8 to 5.10, 5.13: the board keeps the rule
 abbrev pub Fair : Level → Type 0
 Fair l = Playable (l .version) (totals (l .tiles))
 
@@ -69,9 +70,13 @@ pub record IsLevel (l : Level) : Type 0 where
 
 -- ---- the refusals of what is no level
 
+-- FORMAT 9.10: for readers and writers alike, of texts too
+abbrev pub ruling : Question Level
+ruling = record { number = 10; asks = Fair }
+
 -- FORMAT 9.9, 9.10: for readers and writers alike
 abbrev pub boarding : List (Question Level)
-boarding = record { number = 9; asks = Coded } ∷ record { number = 10; asks = Fair } ∷ []
+boarding = record { number = 9; asks = Coded } ∷ ruling ∷ []
 
 -- FORMAT 9.7 to 9.10: of a level that is lent
 abbrev pub lending : List (Question Level)

@@ -1,21 +1,21 @@
 -- What is promised of records (FORMAT 8.10, 8.11).
 use mathlib.Core.Path.{_≡_, refl, sym, ap, ap₂, _∙_}
-use mathlib.Core.Logic.{_≢_}
+use mathlib.Core.Logic.{inr, _≢_}
 use mathlib.Core.List.{List, _++_}
 use Prim.Native.Nat.{ℕ, _+_, _*_, _-_, _/_, _≤_}
 use native.Mathlib.Nat.{mul-le-mul}
 use native.Mathlib.Omega.{arith}
 use lib.ListN.{length, take, drop, take-append-drop}
-use Rattle.level.specs.Level.{Level, IsLevel}
+use Rattle.level.specs.Level.{Level, IsLevel, Counted, lending}
 use Rattle.level.specs.Record.{recordLength, IsRecord}
 use Rattle.level.specs.Reading.{readingRecord, ReadNumbers, refusedAt, returned}
 use Rattle.level.proofs.Determined.{one-record}
 use Rattle.level.proofs.Fields.{record-injective}
-use Rattle.level.proofs.Judged.{Passes, record-passes, passes-all}
-use Rattle.rules.specs.Refusal.{Within}
+use Rattle.level.proofs.Judged.{level-passes, judged-alike}
+use Rattle.rules.specs.Refusal.{First, Within, asked}
 use Rattle.code.specs.Word.{writtenNumbers}
 use Rattle.code.specs.declared.word.Written.{Written}
-use Rattle.rules.proofs.Laws.{first-fixes, none-first, decided, either}
+use Rattle.rules.proofs.Laws.{first-fixes, hold-first, decided, either}
 use Rattle.code.proofs.Answers.{written-zero}
 use Rattle.record.specs.declared.read.RecordRead.{RecordRead}
 use Rattle.record.specs.declared.read.RecordRead.the-variants as read
@@ -56,18 +56,22 @@ written-is-level l old new a A z = written-level l 364 (length old) (writtenNumb
 
 -- ---- reading
 
+-- FORMAT 9.54: the record of a board, a level or not, is refused as a writer refuses the board.
+pub record-read-alike : (l : Level) (bs old new : List ℕ) (a : RecordRead) → Counted l → IsRecord l bs → Within 4 364 (length bs) → 961 ≤ length old
+    → RecordReadsAs bs old new a → (c : ℕ) → First (asked (λ ask. ask l) lending) c → recordNumbers a .code ≡ c
+record-read-alike l bs old new a co is fits room A c f =
+    first-fixes (readingRecord bs (length old)) (recordNumbers a .code) c (A .code)
+    (inr (fits, inr (room, judged-alike 1 (omega arith) l bs bs co is (all (length bs)) (λ q h. refl) c f)))
+  where
+    all : (B : ℕ) → B ≡ 1 * ((B + (1 - 1)) / 1)
+    all B = omega arith
+
 -- a level's record is read, as that level
 pub level-is-read : (l : Level) (bs old new : List ℕ) (a : RecordRead) → IsLevel l → IsRecord l bs → 961 ≤ length old → RecordReadsAs bs old new a
     → (recordNumbers a .code ≡ 0) × (returned (recordNumbers a) new ≡ l)
 level-is-read l bs old new a il is room A =
     (zero-code, record-injective (returned (recordNumbers a) new) l bs (A .is-level zero-code) il (A .is-record zero-code) is)
   where
-    p : Passes 1 bs l
-    p = record-passes 1 (omega arith) l bs bs il is (all (length bs)) (λ q h. refl)
-      where
-        all : (B : ℕ) → B ≡ 1 * ((B + (1 - 1)) / 1)
-        all B = omega arith
-
     some : 1 * 1 ≤ l .width * l .height
     some = mul-le-mul (il .ranged .sized .wide) (il .ranged .sized .high)
 
@@ -78,8 +82,7 @@ level-is-read l bs old new a il is room A =
     }
 
     zero-code : recordNumbers a .code ≡ 0
-    zero-code =
-        none-first (readingRecord bs (length old)) (recordNumbers a .code) (fits, (room, passes-all 1 bs l p)) (A .code)
+    zero-code = record-read-alike l bs old new a (il .count) is fits room A 0 (hold-first (asked (λ ask. ask l) lending) (level-passes l il))
 
 -- and nothing else is
 pub read-is-record : (bs old new : List ℕ) (a : RecordRead) → RecordReadsAs bs old new a → recordNumbers a .code ≡ 0 → (l : Level) × IsLevel l × IsRecord l bs

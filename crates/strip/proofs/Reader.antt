@@ -13,7 +13,7 @@ use Rattle.level.specs.Level.{Level}
 use Rattle.level.specs.Strip.{columns, Reached, Mends, Lowest, mendedOf, repaintedOf, IsWear}
 use Rattle.level.specs.Reading.{refusedAt, returned, entering, mending, judging, dataOf, levelOf}
 use Rattle.level.proofs.Strips.{mendable, reached-mends}
-use Rattle.level.proofs.Mended.{level-reached, passing, found, none-reached}
+use Rattle.level.proofs.Mended.{level-reached, reached-spells, found, none-reached}
 use Rattle.patches.specs.Patched.{patched}
 use Rattle.patches.proofs.Patching.{patched-0, length-patched}
 use Rattle.fields.specs.declared.judged.Judged.{Judged}
@@ -102,7 +102,7 @@ module _ (R : ℕ) where
           reached =
               subst (λ (l : Level). Reached gf256 R marks s l t) same
               (level-reached gf256 field256 (omega arith) R some marks s t (h .0 .k) full shorter M good);
-          only = λ l u q. sym (passing gf256 field256 (omega arith) R some marks s t (h .0 .k) full shorter M l u q .level) ∙ same;
+          only = λ l u q. sym (reached-spells gf256 field256 (omega arith) R some marks s t (h .0 .k) full shorter M l u q) ∙ same;
           mended-is = F .mended z ∙ counted;
           repainted-is = F .repainted z ∙ painted;
           wear-is = subst (λ (x : ℕ). IsWear x (length s) (stripNumbers a .wear)) (sym (F .mended z)) (F .wear z);

@@ -8,19 +8,20 @@ use lib.ListN.{length, getD, take, take-append-drop}
 use Rattle.account.specs.Reach.{differing, repainted, GoodMarks, SameRead}
 use Rattle.gf256.specs.Gf256.{gf256}
 use Rattle.gf256.proofs.Field256.{field256}
-use Rattle.rules.specs.Refusal.{Hold}
-use Rattle.rules.proofs.Laws.{first-fixes, all-hold, hold-both, decided, either}
+use Rattle.rules.specs.Refusal.{First, Hold, asked}
+use Rattle.rules.proofs.Laws.{first-fixes, all-hold, after, hold-both, numbered, decided, either}
 use Rattle.code.specs.Word.{writtenNumbers}
 use Rattle.code.specs.declared.word.Written.{Written}
 use Rattle.code.proofs.Answers.{written-zero}
-use Rattle.level.specs.Level.{Level, IsLevel}
+use Rattle.level.specs.Level.{Level, IsLevel, Counted, lending}
 use Rattle.level.specs.Record.{recordLength}
-use Rattle.level.specs.Strip.{columns, Legal, StripReach, Reached, wrongIn, markedIn, mendedOf, repaintedOf, IsWear}
+use Rattle.level.specs.Strip.{columns, Legal, IsStrip, StripReach, Reached, wrongIn, markedIn, mendedOf, repaintedOf, IsWear}
 use Rattle.level.specs.Reading.{ReadNumbers, butRepainted, returned, entering, mending}
 use Rattle.level.specs.Writing.{writingLevel}
 use Rattle.level.proofs.Dealing.{columns-more, lanes-short}
 use Rattle.level.proofs.Counts.{legal-some}
 use Rattle.level.proofs.Strips.{same-strip}
+use Rattle.level.proofs.Mended.{board-found}
 use Rattle.level.proofs.Theorems as levels
 use Rattle.lending.proofs.Lent.{written-level, level-written}
 use Rattle.strip.specs.declared.read.Reading.{Reading}
@@ -46,6 +47,20 @@ module _ (R : ℕ) (two : 2 ≤ R) where
     -- where a level has a strip of that length within reach, one is returned;
     pub read-when-reached : (l : Level) (t : List ℕ) → Reached gf256 R marks s l t → stripNumbers a .code ≡ 0
     read-when-reached l t q = either (stripNumbers a .code ≡ 0) (stripNumbers a .code) (λ z. z) (λ n. absurd (A .no-level h n l t q))
+
+    -- FORMAT 9.54: where the strip of a board, a level or not, is within reach, the strip is refused as a writer refuses the board, with lane 0.
+    pub board-read-alike : (l : Level) (t : List ℕ) → Counted l → IsStrip gf256 R l t → StripReach R marks s t → (c : ℕ)
+        → First (asked (λ ask. ask l) lending) c → (stripNumbers a .code ≡ c) × (stripNumbers a .lane ≡ 0)
+    board-read-alike l t co st reach c f = (code, A .other-lane (λ e. not-six (sym code ∙ e)))
+      where
+        code : stripNumbers a .code ≡ c
+        code =
+            first-fixes (entering R s marks (length tiles) (length scratch) ++ mending gf256 R s marks) (stripNumbers a .code) c (A .code)
+            (after (entering R s marks (length tiles) (length scratch)) (mending gf256 R s marks) c h
+            (board-found gf256 field256 (omega arith) R some marks s t (h .0 .k) (h .0 .cells) (omega (arith, h .0 .to, short)) l co st reach c f))
+
+        not-six : c ≢ 6
+        not-six = either (c ≢ 6) c (λ z e. omega arith) (λ n e. omega (arith, numbered 7 10 (asked (λ ask. ask l) lending) c tt f n))
 
     -- FORMAT 11.2 to 11.7: and one is returned only then: it is such a level, and no other is. With it: mended, repainted, wear, the other tile bytes.
     pub reached-when-read : stripNumbers a .code ≡ 0 → LevelRead gf256 R s marks tiles tiles' (stripNumbers a)

@@ -1,11 +1,12 @@
 -- What is promised of texts (FORMAT 8.25, 8.26, 13).
 use mathlib.Core.Path.{_≡_, refl, sym, ap, ap₂, _∙_, subst}
 use mathlib.Core.List.{List, [], _∷_}
+use mathlib.Core.Logic.{inl, inr}
 use Prim.Native.Nat.{ℕ, _≤_}
 use lib.ListN.{length, take, drop}
 use lib.Seq.{take-at}
 use Rattle.rules.proofs.Laws.{first-fixes, none-first, decided, either}
-use Rattle.level.specs.Level.{Level, IsLevel}
+use Rattle.level.specs.Level.{Level, Sized, Fair, IsLevel}
 use Rattle.level.specs.Reading.{returned}
 use Rattle.level.specs.Writing.{lent, writingLevel}
 use Rattle.code.specs.Word.{writtenNumbers}
@@ -35,8 +36,8 @@ text-says l il = record {
 pub text-injective : (l m : Level) → IsLevel l → IsLevel m → textOf l ≡ textOf m → l ≡ m
 text-injective l m il im e = one-level (textOf m) l m (subst (λ (t : List ℕ). SaysLevel t l) e (text-says l il)) (text-says m im)
 
--- FORMAT 13.11: the text of the level of 12.5, `par 5` and `*@`, each with its line feed.
-pub text-cell : textOf (lent 2 1 5 (4 ∷ 5 ∷ [])) ≡ 112 ∷ 97 ∷ 114 ∷ 32 ∷ 53 ∷ 10 ∷ 42 ∷ 64 ∷ 10 ∷ []
+-- FORMAT 13.11: the text of the level of 12.13, `par 5` and `$+`, each with its line feed.
+pub text-cell : textOf (lent 2 1 5 (2 ∷ 6 ∷ [])) ≡ 112 ∷ 97 ∷ 114 ∷ 32 ∷ 53 ∷ 10 ∷ 36 ∷ 43 ∷ 10 ∷ []
 unfolding decimal letterOf
 text-cell = refl
 
@@ -82,6 +83,13 @@ said-is-read text l old new a il s room A = (zero-code, one-level text (returned
     zero-code =
         none-first (readingText text (length old)) (recordNumbers a .code)
         (room, (s .typed, (of (λ m. _) (il .ranged .sized), (of (λ m. _) (il .playable), tt)))) (A .code)
+
+-- FORMAT 9.54: a board of a size that a level can have, said by a text, is refused with 10 where it breaks the rule.
+pub unfair-is-refused : (text : List ℕ) (l : Level) (old new : List ℕ) (a : RecordRead) → Sized (l .width) (l .height) → (Fair l → ⊥) → SaysLevel text l
+    → 961 ≤ length old → TextReadsAs text old new a → recordNumbers a .code ≡ 10
+unfair-is-refused text l old new a sized n s room A =
+    first-fixes (readingText text (length old)) (recordNumbers a .code) 10 (A .code)
+    (inr (room, inr (s .typed, inr ((λ m t. subst (λ (x : Level). Sized (x .width) (x .height)) (one-level text l m s t) sized), inl ((λ f. n (f l s)), refl)))))
 
 -- And nothing else is.
 pub read-is-said : (text old new : List ℕ) (a : RecordRead) → TextReadsAs text old new a → recordNumbers a .code ≡ 0

@@ -5,7 +5,7 @@ use Prim.Native.Nat.{ℕ, _*_, _≤_}
 use lib.ListN.{length, drop}
 use Rattle.rules.specs.Refusal.{Rule, unless, Question, asked, First}
 use Rattle.level.specs.Sizes.{tilesMost}
-use Rattle.level.specs.Level.{Level, Sized, Fair, IsLevel}
+use Rattle.level.specs.Level.{Level, Sized, ruling, IsLevel}
 use Rattle.level.specs.Reading.{returned}
 use Rattle.record.specs.Reading.{recordNumbers}
 use Rattle.record.specs.declared.read.RecordRead.{RecordRead}
@@ -17,7 +17,7 @@ OfText text ask = (l : Level) → SaysLevel text l → ask l
 
 -- FORMAT 9.12, 9.10: 1 to 31 rows, the longest of 1 to 31 letters; the board keeps the rule
 abbrev pub typing : List (Question Level)
-typing = record { number = 12; asks = λ l. Sized (l .width) (l .height) } ∷ record { number = 10; asks = Fair } ∷ []
+typing = record { number = 12; asks = λ l. Sized (l .width) (l .height) } ∷ ruling ∷ []
 
 -- FORMAT 9.40, 9.52. 4: the tile buffer; 11: all of the text; 12; 10
 abbrev pub readingText : List ℕ → ℕ → List Rule

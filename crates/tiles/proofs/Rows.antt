@@ -11,19 +11,19 @@ use Rattle.rules.proofs.Numbers.{lt-or-ge}
 use Rattle.tiles.specs.Sum.{packed, weighed}
 use Rattle.tiles.specs.Rows.{Packs}
 
--- rows are small
-pub adds-small : (t : ℕ) → (adds t .player ≤ 1) × (adds t .crate' ≤ 1) × (adds t .goal ≤ 1)
-adds-small zero = (omega arith, omega arith, omega arith)
-adds-small (suc zero) = (omega arith, omega arith, omega arith)
-adds-small (suc (suc zero)) = (omega arith, omega arith, omega arith)
-adds-small (suc (suc (suc zero))) = (omega arith, omega arith, omega arith)
-adds-small (suc (suc (suc (suc zero)))) = (omega arith, omega arith, omega arith)
-adds-small (suc (suc (suc (suc (suc zero))))) = (omega arith, omega arith, omega arith)
-adds-small (suc (suc (suc (suc (suc (suc zero)))))) = (omega arith, omega arith, omega arith)
-adds-small (suc (suc (suc (suc (suc (suc (suc c))))))) = (omega arith, omega arith, omega arith)
+-- rows are small, and a crate off its goal is a crate
+pub adds-small : (t : ℕ) → (adds t .player ≤ 1) × (adds t .crate' ≤ 1) × (adds t .goal ≤ 1) × (adds t .off ≤ adds t .crate')
+adds-small zero = (omega arith, omega arith, omega arith, omega arith)
+adds-small (suc zero) = (omega arith, omega arith, omega arith, omega arith)
+adds-small (suc (suc zero)) = (omega arith, omega arith, omega arith, omega arith)
+adds-small (suc (suc (suc zero))) = (omega arith, omega arith, omega arith, omega arith)
+adds-small (suc (suc (suc (suc zero)))) = (omega arith, omega arith, omega arith, omega arith)
+adds-small (suc (suc (suc (suc (suc zero))))) = (omega arith, omega arith, omega arith, omega arith)
+adds-small (suc (suc (suc (suc (suc (suc zero)))))) = (omega arith, omega arith, omega arith, omega arith)
+adds-small (suc (suc (suc (suc (suc (suc (suc c))))))) = (omega arith, omega arith, omega arith, omega arith)
 
 -- what is no tile code adds nothing
-pub adds-none : (t : ℕ) → 7 ≤ t → (adds t .player ≡ 0) × (adds t .crate' ≡ 0) × (adds t .goal ≡ 0)
+pub adds-none : (t : ℕ) → 7 ≤ t → (adds t .player ≡ 0) × (adds t .crate' ≡ 0) × (adds t .goal ≡ 0) × (adds t .off ≡ 0)
 adds-none zero h = absurd (omega arith)
 adds-none (suc zero) h = absurd (omega arith)
 adds-none (suc (suc zero)) h = absurd (omega arith)
@@ -31,7 +31,7 @@ adds-none (suc (suc (suc zero))) h = absurd (omega arith)
 adds-none (suc (suc (suc (suc zero)))) h = absurd (omega arith)
 adds-none (suc (suc (suc (suc (suc zero))))) h = absurd (omega arith)
 adds-none (suc (suc (suc (suc (suc (suc zero)))))) h = absurd (omega arith)
-adds-none (suc (suc (suc (suc (suc (suc (suc c))))))) h = (refl, refl, refl)
+adds-none (suc (suc (suc (suc (suc (suc (suc c))))))) h = (refl, refl, refl, refl)
 
 pub weighed-in : (t : ℕ) → t < 7 → weighed t ≡ packed (adds t)
 weighed-in t h = rw (lt-ltb t 7 h)

@@ -11,6 +11,7 @@ pub record Same (r : Adds) (row : Row) : Type 0 where
   pub player-is : r .player ≡ row .player
   pub crate-is : r .«crate_» ≡ row .crate'
   pub goal-is : r .goal ≡ row .goal
+  pub off-is : r .off ≡ row .off
 
 pub record Packs (rows : List ℕ) : Type 0 where
   pub row-at : (t : ℕ) → t < 7 → getD rows t 0 ≡ packed (adds t)

@@ -5,11 +5,12 @@ ghost use Rattle.level.specs.Tile.{adds};
 ghost use Rattle.tiles.specs.Sum.{packed, weighed};
 ghost use Rattle.tiles.specs.Rows.{Same, Packs};
 
-// What a tile adds.
+// What a tile adds; off counts crates off their goals.
 pub struct Adds {
     pub player: u64,
     pub crate_: u64,
     pub goal: u64,
+    pub off: u64,
 }
 
 // Floor, wall, crate, goal, crate on goal, player, player on goal.
@@ -18,36 +19,43 @@ const ADDS: [Adds; 7] = [
         player: 0,
         crate_: 0,
         goal: 0,
+        off: 0,
     },
     Adds {
         player: 0,
         crate_: 0,
         goal: 0,
+        off: 0,
     },
     Adds {
         player: 0,
         crate_: 1,
         goal: 0,
+        off: 1,
     },
     Adds {
         player: 0,
         crate_: 0,
         goal: 1,
+        off: 0,
     },
     Adds {
         player: 0,
         crate_: 1,
         goal: 1,
+        off: 0,
     },
     Adds {
         player: 1,
         crate_: 0,
         goal: 0,
+        off: 0,
     },
     Adds {
         player: 1,
         crate_: 0,
         goal: 1,
+        off: 0,
     },
 ];
 
@@ -64,7 +72,7 @@ fn pack(t: usize) -> u64
     ensures { λ r. ⌜ r ≡ packed (adds t) ⌝ }
 {
     let a = adds_of(t);
-    a.player + 4096 * a.crate_ + 16777216 * a.goal
+    a.player + 4096 * a.crate_ + 16777216 * a.goal + 68719476736 * a.off
 }
 
 // The rows packed, made once a call and lent; last what is added for what is no tile code.

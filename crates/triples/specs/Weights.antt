@@ -4,9 +4,9 @@ use Prim.Native.Nat.{ℕ, _+_, _*_, _/_, _%_}
 use lib.Dec.{ltb}
 use Rattle.level.specs.Tile.{Row, adds}
 
--- twelve bits a sum; 36 to 47 are free
+-- twelve bits a sum
 abbrev pub packed : Row → ℕ
-packed r = r .player + 4096 * r .crate' + 16777216 * r .goal
+packed r = r .player + 4096 * r .crate' + 16777216 * r .goal + 68719476736 * r .off
 
 -- what a tile adds; the bits from 48 on count what is no tile code
 abbrev pub weighed : ℕ → ℕ

@@ -15,7 +15,7 @@ returns-2 c = record {
   code-of = λ ts h e. (
       let x = c .before .before .args .x in
       let s = sums ts x h e (omega arith) in
-      inr (all-tiles ts x h e (omega arith), inl (λ p. omega (arith, p .one-player, s, c .if2 .taken), refl)));
+      inr (all-tiles ts x h e (omega arith), inl (λ p. omega (arith, p .one-player, s .player-is, c .if2 .taken), refl)));
 }
 
 returns-3 : tie.Need-returns-3
@@ -23,7 +23,7 @@ returns-3 c = record {
   code-of = λ ts h e. (
       let x = c .before .before .before .args .x in
       let s = sums ts x h e (omega arith) in
-      inr (all-tiles ts x h e (omega arith), inl (λ p. omega (arith, p .some-crate, s, c .if3 .taken), refl)));
+      inr (all-tiles ts x h e (omega arith), inl (λ p. omega (arith, p .as-many, s .crate-is, s .goal-is, c .if3 .taken), refl)));
 }
 
 returns-4 : tie.Need-returns-4
@@ -31,7 +31,7 @@ returns-4 c = record {
   code-of = λ ts h e. (
       let x = c .before .before .before .before .args .x in
       let s = sums ts x h e (omega arith) in
-      inr (all-tiles ts x h e (omega arith), inl (λ p. omega (arith, p .as-many, s, c .if4 .taken), refl)));
+      inr (all-tiles ts x h e (omega arith), inl (λ p. omega (arith, p .unfinished, s .off-is, c .if4 .taken), refl)));
 }
 
 returns-5 : tie.Need-returns-5
@@ -40,9 +40,10 @@ returns-5 c = record {
       let x = c .before .before .before .before .args .x in
       let s = sums ts x h e (omega arith) in
       let p : Playable 1 (totals ts) = record {
-        one-player = omega (arith, s, c .before .before .if2 .left);
-        some-crate = omega (arith, s, c .before .if3 .left);
-        as-many = omega (arith, s, c .if4 .left);
+        one-player = omega (arith, s .player-is, c .before .before .if2 .left);
+        some-crate = omega (arith, s .off-is, s .off-crates, c .if4 .left);
+        as-many = omega (arith, s .crate-is, s .goal-is, c .before .if3 .left);
+        unfinished = omega (arith, s .off-is, c .if4 .left);
       } in
       inr (all-tiles ts x h e (omega arith), inr (p, refl)));
 }

@@ -19,9 +19,15 @@ mul-result-2 c = omega (arith, adds-small (c .before .before .before .before .ar
 add-result-2 : tie.Need-add-result-2
 add-result-2 c = omega (arith, adds-small (c .before .before .before .before .args .t), c .before .before .before .adds-of .ensures)
 
+mul-result-3 : tie.Need-mul-result-3
+mul-result-3 c = omega (arith, adds-small (c .before .before .before .before .before .args .t), c .before .before .before .before .adds-of .ensures)
+
+add-result-3 : tie.Need-add-result-3
+add-result-3 c = omega (arith, adds-small (c .before .before .before .before .before .args .t), c .before .before .before .before .adds-of .ensures)
+
 returns : tie.Need-returns
-returns c = omega (arith, c .before .before .before .adds-of .ensures)
+returns c = omega (arith, c .before .before .before .before .adds-of .ensures)
 
 pub pack-spec : {M : Type 1} → statement M
 pack-spec =
-    tie.close (tie.spec adds-of-requires mul-result add-result mul-result-2 add-result-2 returns)
+    tie.close (tie.spec adds-of-requires mul-result add-result mul-result-2 add-result-2 mul-result-3 add-result-3 returns)

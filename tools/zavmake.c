@@ -25,6 +25,8 @@ static const char help[] =
     "  # wall   $ crate   . goal   * crate on goal   @ player   + player on "
     "goal\n"
     "  - or space for floor; short rows are filled up with it\n"
+    "A level has one player, as many crates as goals, and a crate off its "
+    "goal.\n"
     "Exit status: 0 a strip was written; 1 the text is no level; 2 the input "
     "could not be\n"
     "read, the output not be written, or the command makes no sense.\n";

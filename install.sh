@@ -138,7 +138,7 @@ get_static
 link_shared
 write_pkgconfig
 cp include/zavullimen*.h "$stage/include" || fail "the headers cannot be copied"
-cp docs/FORMAT.md docs/C-INTERFACE.md LICENSE "$stage/share/doc/zavullimen" || fail "the documents cannot be copied"
+cp docs/FORMAT.md docs/C-INTERFACE.md docs/STICKERS.md LICENSE "$stage/share/doc/zavullimen" || fail "the documents cannot be copied"
 tools/build "$stage/lib/libzavullimen.a" "$stage/bin" || fail "the tools cannot be built"
 
 cd "$stage" || fail "cannot enter $stage"

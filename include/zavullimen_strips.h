@@ -24,6 +24,15 @@ extern "C" {
 #define ZAV_STRIP_MAX 384   /* and in a buffer for one */
 #define ZAV_SCRATCH_MIN 384 /* bytes of scratch that the reader needs */
 
+/*
+ * What a sticker may cover: so many neighbouring cells, wherever it starts and
+ * whatever its colours, if nothing else is wrong or marked; more if they are
+ * marked. The level then always comes back; one cell more may be refused.
+ * FORMAT 14, and docs/STICKERS.md for those who make stickers.
+ */
+#define ZAV_STICKER_UNMARKED (2 * ZAV_STRIP_LANES)
+#define ZAV_STICKER_MARKED (5 * ZAV_STRIP_LANES)
+
 /* With refusal 6: the lowest lane beyond reach, 0 to 3, in bits 5 to 8. */
 static inline unsigned zav_lane(uint64_t result)
 {

@@ -16,6 +16,7 @@
 #include "test_huge.h"
 #include "test_record.h"
 #include "test_repair.h"
+#include "test_stickers.h"
 #include "test_strip.h"
 #include "test_text.h"
 #include "test_writer.h"
@@ -417,6 +418,7 @@ int main(int argc, char **argv)
     test_strip_entry();
     test_strip_damage();
     test_strip_wild();
+    test_stickers();
     test_huge();
     return groups_finish();
 }

@@ -6,6 +6,7 @@ pub mod Product
 pub mod Laws
 pub mod Powers
 pub mod Cells
+pub mod Runs
 pub mod Sums
 pub mod Filter
 pub mod Solve

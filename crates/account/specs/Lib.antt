@@ -4,6 +4,7 @@ pub mod Field
 pub mod Product
 pub mod Code
 pub mod Reach
+pub mod Runs
 pub mod Generator
 pub mod Errata
 pub mod Search

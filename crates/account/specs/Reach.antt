@@ -25,6 +25,10 @@ countTo f (suc n) = countTo f n + oneIf (f n)
 abbrev pub GoodMarks : List ℕ → Type 0
 GoodMarks marks = (p : ℕ) → p < length marks → getD marks p 0 ≤ 1
 
+-- FORMAT 3.1: no cell is marked
+abbrev pub NoMarks : List ℕ → Type 0
+NoMarks marks = (p : ℕ) → getD marks p 0 ≡ 0
+
 -- FORMAT 3.1: cell p is marked: 0 is read, 1 unreadable
 abbrev pub isMarked : List ℕ → ℕ → Bool
 isMarked marks p = not (eqb (getD marks p 0) 0)

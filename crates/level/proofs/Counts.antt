@@ -1,7 +1,7 @@
 -- Counts over the lanes: a sum over lanes is a count over cells; what is mended and repainted is little.
-use mathlib.Core.Path.{_≡_, refl, sym, ap, ap₂, _∙_}
+use mathlib.Core.Path.{_≡_, refl, sym, ap, ap₂, _∙_, subst}
 use mathlib.Core.Bool.{Bool, not}
-use mathlib.Core.Logic.{⊎-elim}
+use mathlib.Core.Logic.{_⊎_, inl, inr, ⊎-elim}
 use mathlib.Core.List.{List}
 use Prim.Native.Nat.{ℕ, zero, suc, _+_, _*_, _-_, _/_, _≤_, _<_}
 use native.Mathlib.Nat.{mul-suc, mul-zero, mul-le-mul-left, div-add-mod, mod-lt, eq-zero-or-pos}
@@ -10,11 +10,12 @@ use lib.Dec.{eqb}
 use lib.ListN.{length, getD}
 use Rattle.account.specs.Lists.{sumOf}
 use Rattle.account.specs.Lanes.{lane}
-use Rattle.account.specs.Reach.{oneIf, and, countTo, isMarked, differing, repainted, Reach}
+use Rattle.account.specs.Reach.{oneIf, and, countTo, isMarked, differsAt, differing, repainted, Reach}
 use Rattle.account.proofs.Cells.{count-cong}
 use Rattle.account.proofs.Theorems.{repainted-marked}
 use Rattle.account.proofs.Lanes.{length-lane, getD-lane, columns-of}
-use Rattle.level.specs.Strip.{columns, Legal, StripReach, wrongIn, mendedOf, repaintedIn, repaintedOf, IsWear}
+use Rattle.rules.proofs.Numbers.{lt-or-ge}
+use Rattle.level.specs.Strip.{columns, Legal, StripReach, wrongIn, markedIn, mendedOf, repaintedIn, repaintedOf, IsWear}
 use Rattle.level.proofs.Nearest.{nearest-most}
 
 sum-none : (R : ℕ) → sumOf R (λ j. 0) ≡ 0
@@ -36,6 +37,18 @@ sum-most : (R b : ℕ) (f : ℕ → ℕ) → ((j : ℕ) → j < R → f j ≤ b)
 unfolding sumOf
 sum-most zero b f h = omega (arith, mul-zero b)
 sum-most (suc R) b f h = omega (arith, mul-suc b R, sum-most R b f (λ j l. h j (omega arith)), h R (omega arith))
+
+-- where none is above one more than b, none is above b, or one is that
+pub most-or-one : (R b : ℕ) (f : ℕ → ℕ) → ((j : ℕ) → j < R → f j ≤ suc b) → ((j : ℕ) → j < R → f j ≤ b) ⊎ ((j : ℕ) × (j < R) × (f j ≡ suc b))
+most-or-one zero b f h = inl (λ j l. absurd (omega arith))
+most-or-one (suc R) b f h = go (most-or-one R b f (λ j l. h j (omega arith))) (lt-or-ge b (f R))
+  where
+    go : ((j : ℕ) → j < R → f j ≤ b) ⊎ ((j : ℕ) × (j < R) × (f j ≡ suc b)) → (b < f R) ⊎ (f R ≤ b)
+        → ((j : ℕ) → j < suc R → f j ≤ b) ⊎ ((j : ℕ) × (j < suc R) × (f j ≡ suc b))
+    go (inr x) y = inr (x .0, omega (arith, x .1), x .2)
+    go (inl m) (inl y) = inr (R, omega arith, omega (arith, h R (omega arith)))
+    go (inl m) (inr y) =
+        inl (λ j l. ⊎-elim (m j) (λ k. let e : R ≡ j = omega arith in subst (λ (x : ℕ). f x ≤ b) e y) (lt-or-ge j R))
 
 -- n cells after the first a
 count-more : (f : ℕ → Bool) (a n : ℕ) → countTo f (a + n) ≡ countTo f a + sumOf n (λ j. oneIf (f (a + j)))
@@ -90,34 +103,29 @@ module _ (R : ℕ) (some : 0 < R) (marks s t : List ℕ) where
       small : 2 * (100 * mendedOf R marks s t) < 2 * (length s * 33) + length s
       small = omega (arith, mended-most h, legal-long R some legal, some)
 
-  -- what is counted lane by lane, of each cell by its mark and its bytes, is counted of the strip
+  -- what is counted in a lane, of each cell by its mark and its bytes, is counted of the strip's cells
+  lane-count : (D : ℕ → ℕ → ℕ → Bool) → length marks ≡ length s → length t ≡ length s → (j : ℕ)
+      → countTo (λ i. D (getD (lane R j marks) i 0) (getD (lane R j s) i 0) (getD (lane R j t) i 0)) (length s / R)
+      ≡ countTo (λ i. D (getD marks (R * i + j) 0) (getD s (R * i + j) 0) (getD t (R * i + j) 0)) (length s / R)
+  lane-count D em et j =
+      count-cong (λ i. D (getD (lane R j marks) i 0) (getD (lane R j s) i 0) (getD (lane R j t) i 0))
+      (λ i. D (getD marks (R * i + j) 0) (getD s (R * i + j) 0) (getD t (R * i + j) 0)) (length s / R)
+      (λ i l. rw (at marks em i l, at s refl i l, at t et i l) refl)
+    where
+      at : (u : List ℕ) → length u ≡ length s → (i : ℕ) → i < length s / R → getD (lane R j u) i 0 ≡ getD u (R * i + j) 0
+      at u e i l = getD-lane R some j u i (rw e l)
+
+  -- and over all lanes, of the strip
   over-lanes : (D : ℕ → ℕ → ℕ → Bool) (m : ℕ) → length s ≡ R * m → length marks ≡ length s → length t ≡ length s
       → sumOf R (λ j. countTo (λ i. D (getD (lane R j marks) i 0) (getD (lane R j s) i 0) (getD (lane R j t) i 0)) (length s / R))
       ≡ countTo (λ p. D (getD marks p 0) (getD s p 0) (getD t p 0)) (length s)
   over-lanes D m full em et =
       sum-cong R (λ j. countTo (λ i. D (getD (lane R j marks) i 0) (getD (lane R j s) i 0) (getD (lane R j t) i 0)) (length s / R))
-      (λ j. countTo (λ i. whole (R * i + j)) m) each
+      (λ j. countTo (λ i. whole (R * i + j)) m) (λ j h. lane-count D em et j ∙ ap (countTo (λ i. whole (R * i + j))) (columns-of R some s m full))
       ∙ sym (count-lanes whole R m) ∙ ap (countTo whole) (sym full)
     where
       whole : ℕ → Bool
       whole p = D (getD marks p 0) (getD s p 0) (getD t p 0)
-
-      wide : length s / R ≡ m
-      wide = columns-of R some s m full
-
-      each : (j : ℕ) → j < R
-          → countTo (λ i. D (getD (lane R j marks) i 0) (getD (lane R j s) i 0) (getD (lane R j t) i 0)) (length s / R) ≡ countTo (λ i. whole (R * i + j)) m
-      each j h =
-          ap (countTo own) wide ∙ count-cong own (λ i. whole (R * i + j)) m (λ i l. cell i l)
-        where
-          own : ℕ → Bool
-          own i = D (getD (lane R j marks) i 0) (getD (lane R j s) i 0) (getD (lane R j t) i 0)
-
-          at : (u : List ℕ) → length u ≡ length s → (i : ℕ) → i < m → getD (lane R j u) i 0 ≡ getD u (R * i + j) 0
-          at u e i l = getD-lane R some j u i (rw (e, wide) l)
-
-          cell : (i : ℕ) → i < m → own i ≡ whole (R * i + j)
-          cell i l = rw (at marks em i l, at s refl i l, at t et i l) refl
 
   pub mended-differing : (m : ℕ) → length s ≡ R * m → length marks ≡ length s → length t ≡ length s → mendedOf R marks s t ≡ differing marks s t
   unfolding mendedOf
@@ -126,3 +134,12 @@ module _ (R : ℕ) (some : 0 < R) (marks s t : List ℕ) where
   pub repainted-differing : (m : ℕ) → length s ≡ R * m → length marks ≡ length s → length t ≡ length s → repaintedOf R marks s t ≡ repainted marks s t
   unfolding repaintedOf
   repainted-differing = over-lanes (λ x y z. and (not (eqb x 0)) (not (eqb z y)))
+
+  -- the wrong cells of a lane, as cells of the strip
+  pub wrong-cells : length marks ≡ length s → length t ≡ length s → (j : ℕ)
+      → wrongIn R marks s t j ≡ countTo (λ i. differsAt marks s t (R * i + j)) (length s / R)
+  wrong-cells = lane-count (λ x y z. and (not (not (eqb x 0))) (not (eqb z y)))
+
+-- and the marked ones
+pub marked-cells : (R : ℕ) → 0 < R → (marks : List ℕ) (j : ℕ) → markedIn R marks j ≡ countTo (λ i. isMarked marks (R * i + j)) (length marks / R)
+marked-cells R some marks = lane-count R some marks marks marks (λ x y z. not (eqb x 0)) refl refl

@@ -10,6 +10,7 @@ pub mod Judged
 pub mod Mended
 pub mod Nearest
 pub mod Counts
+pub mod Runs
 pub mod Unread
 pub mod Unfinished
 pub mod Worn

@@ -64,12 +64,16 @@ module _ (O : Ops) (F : IsField O) (R : ℕ) (some : 0 < R) where
     one-level l n t u a b =
         strip-injective l n u (a .is-level) (b .is-level) (subst (IsStrip O R l) (same-strip l n t u a b) (a .is-strip)) (b .is-strip)
 
-    -- a lane at six from a level's strip is beyond reach
+    -- a lane at six from a level's strip cannot be mended
+    pub six-beyond : (l : Level) (v : List ℕ) (j : ℕ) → length marks ≡ length s → IsStrip O R l v → length v ≡ length s → j < R
+        → 2 * wrongIn R marks s v j + markedIn R marks j ≡ 6 → Mendable O R marks s j → ⊥
+    six-beyond l v j em st ev h six m =
+        none-at-six O F (lane R j marks) (lane R j s) (lane R j v) (m .word) (lane-short j)
+        (bytes-lane R some O j v h (st .dealt .cells)) (m .cells) (st .dealt .clean j h) (m .clean)
+        (length-lane R some j v ∙ ap (λ (x : ℕ). x / R) ev ∙ sym (length-lane R some j s))
+        (rw (length-lane R some j s) (rw em at six)) (m .reach)
+
+    -- and no level is within reach
     pub six-refused : (l n : Level) (v t : List ℕ) (j : ℕ) → length marks ≡ length s → IsStrip O R l v → length v ≡ length s → j < R
         → 2 * wrongIn R marks s v j + markedIn R marks j ≡ 6 → Reached O R marks s n t → ⊥
-    six-refused l n v t j em st ev h six b =
-        none-at-six O F (lane R j marks) (lane R j s) (lane R j v) (lane R j t) (lane-short j)
-        (bytes-lane R some O j v h (st .dealt .cells)) (bytes-lane R some O j t h (b .is-strip .dealt .cells)) (st .dealt .clean j h)
-        (b .is-strip .dealt .clean j h)
-        (length-lane R some j v ∙ ap (λ (x : ℕ). x / R) ev ∙ sym (length-lane R some j s))
-        (rw (length-lane R some j s) (rw em at six)) (b .reach .each j h)
+    six-refused l n v t j em st ev h six b = six-beyond l v j em st ev h six (mendable marks s t (reached-mends marks s n t b) j h)

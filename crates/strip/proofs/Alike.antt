@@ -1,61 +1,28 @@
--- Two readings of strips that are the same but for the bytes under marks; a strip beside itself.
+-- Two readings of strips that are the same but for the bytes under marks.
 use mathlib.Core.Path.{_≡_, refl, sym, ap, ap₂, _∙_, subst}
 use mathlib.Core.Logic.{_⊎_, inl, inr, ⊎-elim}
-use mathlib.Core.Bool.{not}
 use mathlib.Core.List.{List, _++_}
-use Prim.Native.Nat.{ℕ, _+_, _*_, _/_, _≤_, _<_}
+use Prim.Native.Nat.{ℕ, _+_, _*_, _≤_, _<_}
 use native.Mathlib.Decide.{ℕ-discrete}
 use native.Mathlib.Omega.{arith}
-use lib.Dec.{T, eqb}
-use lib.ListN.{length, getD, take, drop, take-append-drop}
-use Rattle.account.specs.Lanes.{lane}
-use Rattle.account.specs.Reach.{differing, repainted, isMarked, isRead, Reach, SameRead}
-use Rattle.account.proofs.Cells.{count-none, none-differ}
+use lib.ListN.{length, take, drop, take-append-drop}
+use Rattle.account.specs.Reach.{SameRead}
 use Rattle.account.proofs.Theorems.{read-itself, read-turned}
-use Rattle.account.proofs.Lanes.{length-lane, getD-lane, getD-past}
 use Rattle.gf256.specs.Gf256.{gf256}
 use Rattle.gf256.proofs.Field256.{field256}
 use Rattle.rules.specs.Refusal.{First, Hold}
 use Rattle.rules.proofs.Laws.{first-fixes, all-hold, hold-both, parts, before, after, first-alike, asked-alike, Alike, at-most, either}
 use Rattle.level.specs.Level.{Level}
-use Rattle.level.specs.Strip.{columns, Legal, IsStrip, StripReach, Reached, Lowest, Mendable, mendedOf, repaintedOf, IsWear}
+use Rattle.level.specs.Strip.{columns, Legal, Reached, Lowest, Mendable, mendedOf, repaintedOf, IsWear}
 use Rattle.level.specs.Reading.{ReadNumbers, refusedAt, butRepainted, returned, entering, mending, judging, OfMended}
 use Rattle.rules.proofs.Numbers.{lt-or-ge}
-use Rattle.level.proofs.Strips.{strip-size, same-strip}
+use Rattle.level.proofs.Strips.{same-strip}
 use Rattle.level.proofs.Counts.{legal-some}
 use Rattle.level.proofs.Theorems.{wear-one}
 use Rattle.level.proofs.Unread.{same-reached, same-mends, same-mendable, same-mended}
 use Rattle.strip.specs.declared.read.Reading.{Reading}
-use Rattle.strip.specs.Writing.{stripLength}
 use Rattle.strip.specs.Reading.{stripNumbers, LevelRead, StripReadsAs}
 use Rattle.strip.proofs.Reader.{zeros}
-
--- ---- a strip beside itself
-
-pub written-size : (R : ℕ) → 0 < R → (l : Level) (new : List ℕ) → IsStrip gf256 R l (take (stripLength R l) new)
-    → length (take (stripLength R l) new) ≡ stripLength R l
-written-size R some l new st = strip-size gf256 field256 R some l (take (stripLength R l) new) st
-
-pub nothing-differs : (marks s : List ℕ) → differing marks s s ≡ 0
-nothing-differs marks s = none-differ (isRead marks) s (length s)
-
-pub nothing-repainted : (marks s : List ℕ) → repainted marks s s ≡ 0
-nothing-repainted marks s = none-differ (isMarked marks) s (length s)
-
-pub at-home : (R : ℕ) → 0 < R → (marks s : List ℕ) → ((p : ℕ) → getD marks p 0 ≡ 0) → StripReach R marks s s
-at-home R some marks s none = record { same-length = refl; each = λ j h. each j }
-  where
-    unmarked : (j i : ℕ) → T (not (isMarked (lane R j marks) i))
-    unmarked j i =
-        subst (λ (m : ℕ). T (not (not (eqb m 0))))
-        (sym (⊎-elim (λ h. getD-lane R some j marks i h ∙ none (R * i + j)) (λ h. getD-past (lane R j marks) i (omega (arith, length-lane R some j marks)))
-        (lt-or-ge i (length marks / R)))) tt
-
-    each : (j : ℕ) → Reach (lane R j marks) (lane R j s) (lane R j s)
-    each j = record {
-      same-length = refl;
-      few = omega (arith, nothing-differs (lane R j marks) (lane R j s), count-none (isMarked (lane R j marks)) (length (lane R j s)) (λ i l. unmarked j i));
-    }
 
 -- ---- the numbers of an answer
 

@@ -1,11 +1,16 @@
 -- What is promised of strips, over the number of lanes R, from two on. The entries have four.
-use mathlib.Core.Path.{_≡_, sym, ap, ap₂, _∙_, subst}
-use mathlib.Core.Logic.{_≢_}
+use mathlib.Core.Path.{_≡_, refl, sym, ap, ap₂, _∙_, subst}
+use mathlib.Core.Logic.{_≢_, _⊎_, inl, inr, ⊎-elim}
+use mathlib.Core.Bool.{not}
 use mathlib.Core.List.{List, _++_}
-use Prim.Native.Nat.{ℕ, _+_, _*_, _≤_, _<_}
+use Prim.Native.Nat.{ℕ, _+_, _*_, _%_, _≤_, _<_}
+use native.Mathlib.Nat.{mod-lt}
 use native.Mathlib.Omega.{arith}
+use lib.Dec.{T, eqb}
 use lib.ListN.{length, getD, take, take-append-drop}
-use Rattle.account.specs.Reach.{differing, repainted, GoodMarks, SameRead}
+use Rattle.account.specs.Reach.{countTo, differs, differing, repainted, GoodMarks, NoMarks, SameRead}
+use Rattle.account.specs.Runs.{InRun, ChangedIn, MarkedIn}
+use Rattle.account.proofs.Runs.{differing-in-run, repainted-in-run, unmarked-wrong, unmarked-differing}
 use Rattle.gf256.specs.Gf256.{gf256}
 use Rattle.gf256.proofs.Field256.{field256}
 use Rattle.rules.specs.Refusal.{First, Hold, asked}
@@ -13,20 +18,22 @@ use Rattle.rules.proofs.Laws.{first-fixes, all-hold, after, hold-both, numbered
 use Rattle.code.specs.Word.{writtenNumbers}
 use Rattle.code.specs.declared.word.Written.{Written}
 use Rattle.code.proofs.Answers.{written-zero}
+use Rattle.level.specs.Sizes.{tilesMost, scratchLeast}
 use Rattle.level.specs.Level.{Level, IsLevel, Counted, lending}
 use Rattle.level.specs.Record.{recordLength}
-use Rattle.level.specs.Strip.{columns, Legal, IsStrip, StripReach, Reached, wrongIn, markedIn, mendedOf, repaintedOf, IsWear}
+use Rattle.level.specs.Strip.{columns, Legal, IsStrip, StripReach, Reached, Mendable, wrongIn, markedIn, mendedOf, repaintedOf, IsWear}
 use Rattle.level.specs.Reading.{ReadNumbers, butRepainted, returned, entering, mending}
 use Rattle.level.specs.Writing.{writingLevel}
 use Rattle.level.proofs.Dealing.{columns-more, lanes-short}
-use Rattle.level.proofs.Counts.{legal-some}
-use Rattle.level.proofs.Strips.{same-strip}
+use Rattle.level.proofs.Counts.{legal-some, most-or-one}
+use Rattle.level.proofs.Strips.{strip-size, same-strip, six-beyond}
+use Rattle.level.proofs.Runs.{lanes-reach, wrong-in-run, marked-in-run, run-wrong, run-marked, six-marks, runs-reach}
 use Rattle.level.proofs.Mended.{board-found}
 use Rattle.level.proofs.Theorems as levels
 use Rattle.lending.proofs.Lent.{written-level, level-written}
 use Rattle.strip.specs.declared.read.Reading.{Reading}
-use Rattle.strip.specs.Writing.{stripLength, StripWritesAs}
-use Rattle.strip.specs.Reading.{stripNumbers, LevelRead, StripReadsAs}
+use Rattle.strip.specs.Writing.{stripLength, StripWritesAs, WeWrote}
+use Rattle.strip.specs.Reading.{stripNumbers, LevelRead, StripReadsAs, Answers, Gives}
 use Rattle.strip.proofs.Laid.{record-fits}
 use Rattle.strip.proofs.Alike as alike
 use Rattle.strip.proofs.Reader.{zeros}
@@ -66,14 +73,11 @@ module _ (R : ℕ) (two : 2 ≤ R) where
     pub reached-when-read : stripNumbers a .code ≡ 0 → LevelRead gf256 R s marks tiles tiles' (stripNumbers a)
     reached-when-read = A .level
 
-    -- FORMAT 11.8: where 2e + f, counted against a strip of that length that was written, is 6 in a lane, the strip is refused.
-    pub refused-at-six : (l : Level) (old new : List ℕ) (b : Written) → StripWritesAs R l old new b → writtenNumbers b .code ≡ 0
-        → stripLength R l ≡ length s → (j : ℕ) → j < R → 2 * wrongIn R marks s (take (stripLength R l) new) j + markedIn R marks j ≡ 6
-        → stripNumbers a .code ≢ 0
-    refused-at-six l old new b W zb e j hj six z =
-        levels.six-refused gf256 field256 R some marks s (h .0 .k + 5) (h .0 .cells) (omega (arith, h .0 .to, short)) l (returned (stripNumbers a) tiles')
-        (take (stripLength R l) new)
-        (A .level z .strip) j (h .1 .0) (W .strip zb) (alike.written-size R some l new (W .strip zb) ∙ e) hj six (A .level z .reached)
+    -- FORMAT 9.6: where a lane cannot be mended, the strip is refused with 6.
+    pub beyond-is-six : (j : ℕ) → j < R → (Mendable gf256 R marks s j → ⊥) → stripNumbers a .code ≡ 6
+    beyond-is-six j hj n =
+        first-fixes (entering R s marks (length tiles) (length scratch) ++ mending gf256 R s marks) (stripNumbers a .code) 6 (A .code)
+        (after (entering R s marks (length tiles) (length scratch)) (mending gf256 R s marks) 6 h (inl ((λ all. n (all j hj)), refl)))
 
   -- FORMAT 7.15, 7.16, 7.19: wear is at most 33, mended at most twice the lanes, and repainted five times.
   module _ (s marks tiles tiles' scratch scratch' : List ℕ) (a : Reading) (A : StripReadsAs R s marks tiles tiles' scratch scratch' a) where
@@ -152,75 +156,158 @@ module _ (R : ℕ) (two : 2 ≤ R) where
   pub written-strip-level : (l : Level) (old new : List ℕ) (a : Written) → StripWritesAs R l old new a → writtenNumbers a .code ≡ 0 → IsLevel l
   written-strip-level l old new a A z = written-level l 384 (length old) (writtenNumbers a .code) z (A .code) .1
 
-  -- ---- read back
+  -- ---- strips that we wrote
 
-  -- FORMAT 11.10: a strip that was written, with damage within reach in every lane, gives its level; mended is the number of unmarked cells that
-  -- changed, and repainted that of the marked ones.
-  module _ (l : Level) (old new : List ℕ) (b : Written) (W : StripWritesAs R l old new b) (zb : writtenNumbers b .code ≡ 0)
-      (s marks tiles tiles' scratch scratch' : List ℕ) (a : Reading) (A : StripReadsAs R s marks tiles tiles' scratch scratch' a)
-      (matched : length marks ≡ length s) (good : GoodMarks marks) (room : 961 ≤ length tiles) (room' : 384 ≤ length scratch)
-      (reach : StripReach R marks s (take (stripLength R l) new)) where
-    written : List ℕ
-    written = take (stripLength R l) new
+  module _ (l : Level) (t : List ℕ) (w : WeWrote R l t) where
+    -- such a strip is its level's
+    pub wrote-level : IsLevel l
+    wrote-level = written-strip-level l (w .old) (w .new) (w .answer) (w .promise) (w .done)
 
-    il : IsLevel l
-    il = written-strip-level l old new b W zb
+    pub wrote-strip : IsStrip gf256 R l t
+    wrote-strip = subst (IsStrip gf256 R l) (sym (w .front ∙ ap (λ (n : ℕ). take n (w .new)) (w .promise .value (w .done)))) (w .promise .strip (w .done))
 
-    size : length (take (stripLength R l) new) ≡ stripLength R l
-    size = alike.written-size R some l new (W .strip zb)
-
-    full : length s ≡ R * (columns R (recordLength (l .width) (l .height)) + 5)
-    full = sym (reach .same-length) ∙ size
+    -- of legal length
+    size : length t ≡ stripLength R l
+    size = strip-size gf256 field256 R some l t wrote-strip
 
     fits : (columns R 4 ≤ columns R (recordLength (l .width) (l .height))) × (columns R (recordLength (l .width) (l .height)) ≤ columns R 364)
     fits =
-        let f = record-fits l il in
+        let f = record-fits l wrote-level in
         (columns-more R some 4 (recordLength (l .width) (l .height)) (f .0), columns-more R some (recordLength (l .width) (l .height)) 364 (f .1))
 
-    legal : Legal R (length s)
-    legal = record { k = columns R (recordLength (l .width) (l .height)); from = fits .0; to = fits .1; cells = full }
+    pub wrote-legal : Legal R (length t)
+    wrote-legal = record { k = columns R (recordLength (l .width) (l .height)); from = fits .0; to = fits .1; cells = size }
 
-    entered : Hold (entering R s marks (length tiles) (length scratch))
-    entered = (legal, (matched, (good, (room, (room', tt)))))
+    -- a picture of it: a strip of that length, with marks
+    module _ (s marks : List ℕ) (same : length t ≡ length s) (matched : length marks ≡ length s) (good : GoodMarks marks) where
+      full : length s ≡ R * (columns R (recordLength (l .width) (l .height)) + 5)
+      full = sym same ∙ size
 
-    at : Reached gf256 R marks s l (take (stripLength R l) new)
-    at = record { is-level = il; is-strip = W .strip zb; reach = reach }
+      entered : (tiles scratch : List ℕ) → tilesMost ≤ length tiles → scratchLeast ≤ length scratch
+          → Hold (entering R s marks (length tiles) (length scratch))
+      entered tiles scratch room room' = (subst (Legal R) same wrote-legal, (matched, (good, (room, (room', tt)))))
 
-    z : stripNumbers a .code ≡ 0
-    z = read-when-reached s marks tiles tiles' scratch scratch' entered a A l (take (stripLength R l) new) at
+      -- FORMAT 11.8: where 2e + f is 6 in a lane, the strip is refused.
+      pub refused-at-six : (j : ℕ) → j < R → 2 * wrongIn R marks s t j + markedIn R marks j ≡ 6 → Answers R s marks (λ x tiles'. x .code ≡ 6)
+      refused-at-six j hj six tiles tiles' scratch scratch' a room room' A =
+          beyond-is-six s marks tiles tiles' scratch scratch' (entered tiles scratch room room') a A j hj
+          (six-beyond gf256 field256 R some marks s (columns R (recordLength (l .width) (l .height)) + 5) full (omega (arith, fits, short)) l t j matched
+          wrote-strip same hj six)
 
-    strips : A .level z .strip ≡ take (stripLength R l) new
-    strips =
-        same-strip gf256 field256 R some marks s (columns R (recordLength (l .width) (l .height)) + 5) full (omega (arith, fits, short))
-        (returned (stripNumbers a) tiles') l
-        (A .level z .strip) (take (stripLength R l) new) (A .level z .reached) at
+      -- FORMAT 11.10: with damage within reach in every lane its level is returned; mended is the number of unmarked cells that changed, and
+      -- repainted that of the marked ones.
+      pub damaged-read-back : StripReach R marks s t
+          → Answers R s marks (λ x tiles'. Gives l x tiles' × (x .mended ≡ differing marks s t) × (x .repainted ≡ repainted marks s t))
+      damaged-read-back reach tiles tiles' scratch scratch' a room room' A = (
+        record { read = z; level = sym (A .level z .only l t at) },
+        A .level z .mended-is ∙ ap (mendedOf R marks s) strips ∙ levels.mended-differing R some marks s t cells full matched same,
+        A .level z .repainted-is ∙ ap (repaintedOf R marks s) strips ∙ levels.repainted-differing R some marks s t cells full matched same,
+      )
+        where
+          cells : ℕ
+          cells = columns R (recordLength (l .width) (l .height)) + 5
 
-    pub damaged-read-back : (stripNumbers a .code ≡ 0) × (returned (stripNumbers a) tiles' ≡ l) ×
-        (stripNumbers a .mended ≡ differing marks s (take (stripLength R l) new)) × (stripNumbers a .repainted ≡ repainted marks s (take (stripLength R l) new))
-    damaged-read-back = (
-      z,
-      sym (A .level z .only l (take (stripLength R l) new) at),
-      A .level z .mended-is ∙ ap (mendedOf R marks s) strips
-          ∙ levels.mended-differing R some marks s (take (stripLength R l) new) (columns R (recordLength (l .width) (l .height)) + 5) full matched
-          (reach .same-length),
-      A .level z .repainted-is ∙ ap (repaintedOf R marks s) strips
-          ∙ levels.repainted-differing R some marks s (take (stripLength R l) new) (columns R (recordLength (l .width) (l .height)) + 5) full matched
-          (reach .same-length),
-    )
+          at : Reached gf256 R marks s l t
+          at = record { is-level = wrote-level; is-strip = wrote-strip; reach = reach }
 
-  -- FORMAT 11.9: reading what was written, with no marks, gives the level back; nothing is mended, repainted or worn.
-  pub strip-read-back : (l : Level) (old new : List ℕ) (b : Written) → StripWritesAs R l old new b → writtenNumbers b .code ≡ 0
-      → (marks tiles tiles' scratch scratch' : List ℕ) (a : Reading) → StripReadsAs R (take (stripLength R l) new) marks tiles tiles' scratch scratch' a
-      → length marks ≡ stripLength R l → ((p : ℕ) → getD marks p 0 ≡ 0) → 961 ≤ length tiles → 384 ≤ length scratch
-      → (stripNumbers a .code ≡ 0) × (returned (stripNumbers a) tiles' ≡ l) × (stripNumbers a .mended ≡ 0) × (stripNumbers a .repainted ≡ 0)
-      × (stripNumbers a .wear ≡ 0)
-  strip-read-back l old new b W zb marks tiles tiles' scratch scratch' a A em none room room' =
-      let s = take (stripLength R l) new in
-      let e = alike.written-size R some l new (W .strip zb) in
-      let d = damaged-read-back l old new b W zb s marks tiles tiles' scratch scratch' a A (em ∙ sym e) (λ p k. omega (arith, none p)) room room'
-      (alike.at-home R some marks s none) in
-      let unmended = d .2 ∙ alike.nothing-differs marks s in
-      (d .0, d .1, unmended, d .3 ∙ alike.nothing-repainted marks s, wear-none s marks tiles tiles' scratch scratch' a A unmended)
+          z : stripNumbers a .code ≡ 0
+          z = read-when-reached s marks tiles tiles' scratch scratch' (entered tiles scratch room room') a A l t at
+
+          strips : A .level z .strip ≡ t
+          strips =
+              same-strip gf256 field256 R some marks s cells full (omega (arith, fits, short)) (returned (stripNumbers a) tiles') l (A .level z .strip) t
+              (A .level z .reached) at
+
+      -- FORMAT 11.15: with 2e + f at most 6 in every lane its level is returned, or the strip is refused with 6.
+      pub level-or-six : ((j : ℕ) → j < R → 2 * wrongIn R marks s t j + markedIn R marks j ≤ 6)
+          → Answers R s marks (λ x tiles'. Gives l x tiles' ⊎ (x .code ≡ 6))
+      level-or-six near tiles tiles' scratch scratch' a room room' A =
+          ⊎-elim (λ few. inl (damaged-read-back (lanes-reach R some marks s t matched same few) tiles tiles' scratch scratch' a room room' A .0))
+          (λ x. inr (refused-at-six (x .0) (x .1) (x .2) tiles tiles' scratch scratch' a room room' A))
+          (most-or-one R 5 (λ j. 2 * wrongIn R marks s t j + markedIn R marks j) near)
+
+  -- ---- stickers: damage to a strip that we wrote, in runs of neighbouring cells
+
+  -- FORMAT 14.8: some cells of a run of c times R are changed, some of another of d times R are marked: its level is returned if 2c + d is at most 5.
+  pub two-runs : (l : Level) (t s marks : List ℕ) (a n c b m d : ℕ) → WeWrote R l t → length marks ≡ length s → GoodMarks marks
+      → 2 * c + d ≤ 5 → n ≤ R * c → ChangedIn marks a n s t → m ≤ R * d → MarkedIn b m marks
+      → Answers R s marks (λ x tiles'. Gives l x tiles' × (x .mended ≡ differing marks s t) × (x .mended ≤ n) × (x .repainted ≡ repainted marks s t)
+      × (x .repainted ≤ m))
+  two-runs l t s marks a n c b m d w matched good five few changed few' only tiles tiles' scratch scratch' x room room' A =
+      let same = sym (changed .same-length) in
+      let d = damaged-read-back l t w s marks same matched good (runs-reach R some marks s t matched same a n c b m d five few few' changed only)
+      tiles tiles' scratch scratch' x room room' A in (
+        d .0,
+        d .1,
+        omega (arith, d .1, differing-in-run marks a n s t changed),
+        d .2,
+        omega (arith, d .2, repainted-in-run marks b m s t only),
+      )
+
+  -- FORMAT 14.3: up to 2R neighbouring cells changed at will, and no marks: the same level. Mended is the number of cells that did change.
+  pub changed-run : (l : Level) (t s marks : List ℕ) (a n : ℕ) → WeWrote R l t → length marks ≡ length s → NoMarks marks
+      → n ≤ 2 * R → ChangedIn marks a n s t
+      → Answers R s marks (λ x tiles'. Gives l x tiles' × (x .mended ≡ countTo (differs s t) (length s)) × (x .mended ≤ n) × (x .repainted ≡ 0))
+  changed-run l t s marks a n w matched none few changed tiles tiles' scratch scratch' x room room' A =
+      let d = two-runs l t s marks a n 2 0 0 0 w matched (λ p k. omega (arith, none p)) (omega arith) (omega arith) changed (omega arith) (λ p o. none p)
+      tiles tiles' scratch scratch' x room room' A in
+      (d .0, d .1 ∙ unmarked-differing marks s t none, d .2, omega (arith, d .4))
+
+  -- FORMAT 11.9: with none changed nothing is mended, repainted or worn.
+  pub strip-read-back : (l : Level) (t marks : List ℕ) → WeWrote R l t → length marks ≡ length t → NoMarks marks
+      → Answers R t marks (λ x tiles'. Gives l x tiles' × (x .mended ≡ 0) × (x .repainted ≡ 0) × (x .wear ≡ 0))
+  strip-read-back l t marks w matched none tiles tiles' scratch scratch' x room room' A =
+      let d = changed-run l t t marks 0 0 w matched none (omega arith) (record { same-length = refl; outside = λ p o e. refl })
+      tiles tiles' scratch scratch' x room room' A in
+      let unmended : stripNumbers x .mended ≡ 0 = omega (arith, d .2) in
+      (d .0, unmended, d .3, wear-none t marks tiles tiles' scratch scratch' x A unmended)
+
+  -- FORMAT 14.4: up to 5R neighbouring cells marked, whatever stands there, and all others right: the same level, and nothing is mended.
+  pub marked-run : (l : Level) (t s marks : List ℕ) (a n : ℕ) → WeWrote R l t → length marks ≡ length s → GoodMarks marks
+      → n ≤ 5 * R → MarkedIn a n marks → SameRead marks s t
+      → Answers R s marks (λ x tiles'. Gives l x tiles' × (x .mended ≡ 0) × (x .wear ≡ 0) × (x .repainted ≡ repainted marks s t) × (x .repainted ≤ n))
+  marked-run l t s marks a n w matched good few only right tiles tiles' scratch scratch' x room room' A =
+      let d = two-runs l t s marks 0 0 0 a n 5 w matched good (omega arith) (omega arith)
+      (record { same-length = right .same-length; outside = λ p o. right .read p }) (omega arith) only tiles tiles' scratch scratch' x room room' A in
+      let unmended : stripNumbers x .mended ≡ 0 = omega (arith, d .2) in
+      (d .0, unmended, wear-none s marks tiles tiles' scratch scratch' x A unmended, d .3, d .4)
+
+  -- FORMAT 14.5: one cell more is too many. A run of 2R + 1 to 3R cells, each of which did change, is refused with 6,
+  pub changed-refused : (l : Level) (t s marks : List ℕ) (a n : ℕ) → WeWrote R l t → length marks ≡ length s → NoMarks marks
+      → 2 * R < n → n ≤ 3 * R → a + n ≤ length s → ChangedIn marks a n s t → ((p : ℕ) → InRun a n p → getD s p 0 ≢ getD t p 0)
+      → Answers R s marks (λ x tiles'. x .code ≡ 6)
+  changed-refused l t s marks a n w matched none many few ends changed all =
+      let same = sym (changed .same-length) in
+      let j = mod-lt a some in
+      refused-at-six l t w s marks same matched (λ p k. omega (arith, none p)) (a % R) j
+      (omega (
+        arith,
+        run-wrong R some marks s t matched same a n 2 (wrote-legal l t w .k + 5) (changed .same-length ∙ wrote-legal l t w .cells) (omega arith) ends
+            (λ p r. unmarked-wrong marks s t p (none p) (all p r)),
+        wrong-in-run R some marks s t matched same a n 3 (omega arith) changed (a % R) j,
+        marked-in-run R some marks s t matched same 0 0 0 (omega arith) (λ p o. none p) (a % R) j,
+      ))
+
+  -- FORMAT 14.6: and any strip of legal length with a run of 5R + 1 marked cells or more is.
+  pub marked-refused : (s marks : List ℕ) (a n : ℕ) → Legal R (length s) → length marks ≡ length s → GoodMarks marks
+      → 5 * R < n → a + n ≤ length s → ((p : ℕ) → InRun a n p → getD marks p 0 ≡ 1)
+      → Answers R s marks (λ x tiles'. x .code ≡ 6)
+  marked-refused s marks a n legal matched good many ends all tiles tiles' scratch scratch' x room room' A =
+      beyond-is-six s marks tiles tiles' scratch scratch' (legal, (matched, (good, (room, (room', tt))))) x A (a % R) (mod-lt a some)
+      (six-marks R some marks s s matched refl gf256 (a % R)
+      (run-marked R some marks s s matched refl a n 5 (legal .k + 5) (legal .cells) (omega arith) ends
+      (λ p r. subst (λ (m : ℕ). T (not (eqb m 0))) (sym (all p r)) tt)))
+
+  -- FORMAT 14.7: up to 3R neighbouring cells changed at will, and no marks: the same level or refusal 6, and never another level.
+  pub changed-or-refused : (l : Level) (t s marks : List ℕ) (a n : ℕ) → WeWrote R l t → length marks ≡ length s → NoMarks marks
+      → n ≤ 3 * R → ChangedIn marks a n s t → Answers R s marks (λ x tiles'. Gives l x tiles' ⊎ (x .code ≡ 6))
+  changed-or-refused l t s marks a n w matched none few changed =
+      let same = sym (changed .same-length) in
+      level-or-six l t w s marks same matched (λ p k. omega (arith, none p)) (λ j hj. omega (
+        arith,
+        wrong-in-run R some marks s t matched same a n 3 (omega arith) changed j hj,
+        marked-in-run R some marks s t matched same 0 0 0 (omega arith) (λ p o. none p) j hj,
+      ))
 
   -- ---- drawn again
 
@@ -252,7 +339,7 @@ module _ (R : ℕ) (two : 2 ≤ R) where
         (read .reached .is-strip) (W .strip zw)
 
     as-long : stripLength R level ≡ length s
-    as-long = sym (alike.written-size R some level new (W .strip zw)) ∙ ap length (sym same) ∙ read .reached .reach .same-length
+    as-long = sym (strip-size gf256 field256 R some level drawn (W .strip zw)) ∙ ap length (sym same) ∙ read .reached .reach .same-length
 
     pub redrawn : (writtenNumbers b .code ≡ 0) × (writtenNumbers b .value ≡ length s) × Reached gf256 R marks s level (take (length s) new)
         × (stripNumbers a .mended ≡ differing marks s (take (length s) new)) × (stripNumbers a .repainted ≡ repainted marks s (take (length s) new))
@@ -269,3 +356,16 @@ module _ (R : ℕ) (two : 2 ≤ R) where
       where
         front : read .strip ≡ take (length s) new
         front = same ∙ ap (λ (n : ℕ). take n new) as-long
+
+-- ---- what sticker makers print, of four lanes
+
+-- FORMAT 14.3: any one run of up to 8 neighbouring cells of a strip we wrote changed at will, and no marks: the same level is returned.
+pub eight-changed : (l : Level) (t s marks : List ℕ) (a n : ℕ) → WeWrote 4 l t → length marks ≡ length s → NoMarks marks → n ≤ 8 → ChangedIn marks a n s t
+    → Answers 4 s marks (λ x tiles'. Gives l x tiles' × (x .mended ≡ countTo (differs s t) (length s)) × (x .mended ≤ n) × (x .repainted ≡ 0))
+eight-changed = changed-run 4 (omega arith)
+
+-- FORMAT 14.4: only a run of up to 20 neighbouring cells marked, and all others right: again the same level.
+pub twenty-marked : (l : Level) (t s marks : List ℕ) (a n : ℕ) → WeWrote 4 l t → length marks ≡ length s → GoodMarks marks → n ≤ 20 → MarkedIn a n marks
+    → SameRead marks s t
+    → Answers 4 s marks (λ x tiles'. Gives l x tiles' × (x .mended ≡ 0) × (x .wear ≡ 0) × (x .repainted ≡ repainted marks s t) × (x .repainted ≤ n))
+twenty-marked = marked-run 4 (omega arith)

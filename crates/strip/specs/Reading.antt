@@ -1,11 +1,12 @@
 -- FORMAT 8.13, 11.2: reading a strip. A level is returned exactly when one has a strip of that length within reach.
 use mathlib.Core.Path.{_≡_}
 use mathlib.Core.List.{List, _++_}
-use Prim.Native.Nat.{ℕ, _*_}
+use Prim.Native.Nat.{ℕ, _*_, _≤_}
 use lib.ListN.{length, drop}
 use Rattle.account.specs.Field.{Ops}
 use Rattle.gf256.specs.Gf256.{gf256}
 use Rattle.rules.specs.Refusal.{First, Hold, asked}
+use Rattle.level.specs.Sizes.{tilesMost, scratchLeast}
 use Rattle.level.specs.Level.{Level}
 use Rattle.level.specs.Record.{fieldAt}
 use Rattle.level.specs.Strip.{Reached, Lowest, mendedOf, repaintedOf, IsWear}
@@ -42,6 +43,16 @@ pub record StripReadsAs (R : ℕ) (s marks tiles tiles' scratch scratch' : List 
       → Reached gf256 R marks s l t → ⊥
   pub tiles-kept : (stripNumbers a .code ≡ 0 → ⊥) → tiles' ≡ tiles
   pub scratch-kept : (Hold (entering R s marks (length tiles) (length scratch)) → ⊥) → scratch' ≡ scratch
+
+-- FORMAT 11.1: what the strip reader answers to a strip and its marks, lent buffers that are long enough, is as P says of the numbers and the tiles
+abbrev pub Answers : ℕ → List ℕ → List ℕ → (ReadNumbers → List ℕ → Type 0) → Type 0
+Answers R s marks P = (tiles tiles' scratch scratch' : List ℕ) (a : Reading) → tilesMost ≤ length tiles → scratchLeast ≤ length scratch
+    → StripReadsAs R s marks tiles tiles' scratch scratch' a → P (stripNumbers a) tiles'
+
+-- FORMAT 8.15: the level l is returned
+pub record Gives (l : Level) (n : ReadNumbers) (tiles' : List ℕ) : Type 0 where
+  pub read : n .code ≡ 0
+  pub level : returned n tiles' ≡ l
 
 -- ---- parts
 

@@ -25,6 +25,15 @@ pub record StripWritesAs (R : ℕ) (l : Level) (old new : List ℕ) (a : Written
   pub past : writtenNumbers a .code ≡ 0 → drop (stripLength R l) new ≡ drop (stripLength R l) old
   pub kept : (writtenNumbers a .code ≡ 0 → ⊥) → new ≡ old
 
+-- FORMAT 7.12: t is a strip that we wrote, for the level l: the first N cells of the buffer where the strip writer returned N
+pub record WeWrote (R : ℕ) (l : Level) (t : List ℕ) : Type 0 where
+  pub old : List ℕ
+  pub new : List ℕ
+  pub answer : Written
+  pub promise : StripWritesAs R l old new answer
+  pub done : writtenNumbers answer .code ≡ 0
+  pub front : t ≡ take (writtenNumbers answer .value) new
+
 -- ---- parts
 
 -- the strip of a level laid in front of a buffer

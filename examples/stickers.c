@@ -1,0 +1,93 @@
+/*
+ * stickers.c - what a sticker may cover: one of each width is put on a strip at
+ * every cell, and the strip is read, with the covered cells marked and without.
+ *
+ * From the top folder, with the library built:
+ *   gcc -std=c99 -Iinclude examples/stickers.c target/staticlib/libhost.a -o try
+ */
+#include <stdbool.h>
+#include <stdio.h>
+#include <string.h>
+
+#include "zavullimen_strips.h"
+
+enum { WIDTH = 6, HEIGHT = 4, PAR = 12, MOST = ZAV_STICKER_MARKED + 2 };
+
+/* The level of game.c: 1 wall, 2 crate, 3 goal, 4 crate on goal, 5 player. */
+static const uint8_t level[WIDTH * HEIGHT] = {
+    1, 1, 1, 1, 1, 1,
+    1, 5, 2, 0, 3, 1,
+    1, 0, 4, 0, 0, 1,
+    1, 1, 1, 1, 1, 1,
+};
+
+static bool is_level(uint64_t result, const uint8_t *tiles)
+{
+    return zav_width(result) == WIDTH && zav_height(result) == HEIGHT &&
+           zav_par(result) == PAR && memcmp(tiles, level, sizeof level) == 0;
+}
+
+enum outcome { READ, REFUSED, ANOTHER, OUTCOMES };
+
+/* One sticker, of a colour that the strip does not have. */
+static enum outcome try_sticker(const uint8_t *strip, size_t len, size_t start,
+                                size_t cells, bool marked)
+{
+    static uint8_t tiles[ZAV_TILES_MAX], scratch[ZAV_SCRATCH_MIN];
+    uint8_t spoilt[ZAV_STRIP_MAX], marks[ZAV_STRIP_MAX] = {0};
+
+    memcpy(spoilt, strip, len);
+    memset(spoilt + start, 0xEE, cells);
+    memset(marks + start, marked, cells);
+
+    const uint64_t result = zav_strip_read(spoilt, len, marks, len, tiles,
+                                           sizeof tiles, scratch,
+                                           sizeof scratch);
+
+    if (zav_code(result) != ZAV_DONE)
+        return REFUSED;
+    return is_level(result, tiles) ? READ : ANOTHER;
+}
+
+/* At every cell at which it fits on the strip. */
+static void print_tries(const uint8_t *strip, size_t len, size_t cells,
+                        bool marked)
+{
+    unsigned count[OUTCOMES] = {0};
+
+    for (size_t start = 0; start + cells <= len; start++)
+        count[try_sticker(strip, len, start, cells, marked)]++;
+    printf("%10u%10u%10u", count[READ], count[REFUSED], count[ANOTHER]);
+}
+
+int main(void)
+{
+    uint8_t strip[ZAV_STRIP_MAX];
+    const uint64_t written = zav_strip_write(WIDTH, HEIGHT, PAR, level,
+                                             sizeof level, strip,
+                                             sizeof strip);
+
+    if (zav_code(written) != ZAV_DONE) {
+        printf("refused %u: %s\n", zav_code(written),
+               zav_refusal_text(zav_code(written)));
+        return 1;
+    }
+
+    const size_t len = zav_length(written);
+
+    if (memchr(strip, 0xEE, len) != NULL) {
+        printf("the strip has the sticker's colour: choose another\n");
+        return 1;
+    }
+    printf("a strip of %zu cells: up to %d may be covered, %d if marked\n\n",
+           len, ZAV_STICKER_UNMARKED, ZAV_STICKER_MARKED);
+    printf("             nobody marked it              marked\n");
+    printf("cells      read   refused   another      read   refused   another\n");
+    for (size_t cells = 1; cells <= MOST; cells++) {
+        printf("%5zu", cells);
+        print_tries(strip, len, cells, false);
+        print_tries(strip, len, cells, true);
+        putchar('\n');
+    }
+    return 0;
+}

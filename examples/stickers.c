@@ -11,7 +11,8 @@
 
 #include "zavullimen_strips.h"
 
-enum { WIDTH = 6, HEIGHT = 4, PAR = 12, MOST = ZAV_STICKER_MARKED + 2 };
+enum { WIDTH = 6, HEIGHT = 4, PAR = 12, COLOUR = 0xEE,
+       MOST = ZAV_STICKER_MARKED + 2 };
 
 /* The level of game.c: 1 wall, 2 crate, 3 goal, 4 crate on goal, 5 player. */
 static const uint8_t level[WIDTH * HEIGHT] = {
@@ -29,7 +30,7 @@ static bool is_level(uint64_t result, const uint8_t *tiles)
 
 enum outcome { READ, REFUSED, ANOTHER, OUTCOMES };
 
-/* One sticker, of a colour that the strip does not have. */
+/* One sticker, all of one colour. */
 static enum outcome try_sticker(const uint8_t *strip, size_t len, size_t start,
                                 size_t cells, bool marked)
 {
@@ -37,7 +38,7 @@ static enum outcome try_sticker(const uint8_t *strip, size_t len, size_t start,
     uint8_t spoilt[ZAV_STRIP_MAX], marks[ZAV_STRIP_MAX] = {0};
 
     memcpy(spoilt, strip, len);
-    memset(spoilt + start, 0xEE, cells);
+    memset(spoilt + start, COLOUR, cells);
     memset(marks + start, marked, cells);
 
     const uint64_t result = zav_strip_read(spoilt, len, marks, len, tiles,
@@ -75,7 +76,8 @@ int main(void)
 
     const size_t len = zav_length(written);
 
-    if (memchr(strip, 0xEE, len) != NULL) {
+    /* Cells of the sticker's colour would be right under it. */
+    if (memchr(strip, COLOUR, len) != NULL) {
         printf("the strip has the sticker's colour: choose another\n");
         return 1;
     }

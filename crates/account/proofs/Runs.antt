@@ -87,28 +87,28 @@ module _ (R : ℕ) (some : 0 < R) (f : ℕ → Bool) (a n c : ℕ) where
 
 -- ---- changed and marked cells
 
-module _ (marks : List ℕ) (a n : ℕ) (s t : List ℕ) where
-  -- outside the run no cell is wrong, so no more differ than the run has
-  module _ (changed : ChangedIn marks a n s t) where
-    pub right-outside : (p : ℕ) → (InRun a n p → ⊥) → T (not (differsAt marks s t p))
-    right-outside p out = go (isMarked marks p) (changed .outside p out)
-      where
-        go : (m : Bool) → (m ≡ false → getD s p 0 ≡ getD t p 0) → T (not (and (not m) (differs s t p)))
-        go true e = tt
-        go false e = not-differs (λ j. true) s t p (sym (e refl))
+-- outside the run no cell is wrong, so no more are than the run has
+module _ (marks : List ℕ) (a n : ℕ) (s t : List ℕ) (changed : ChangedIn marks a n s t) where
+  pub right-outside : (p : ℕ) → (InRun a n p → ⊥) → T (not (differsAt marks s t p))
+  right-outside p out = go (isMarked marks p) (changed .outside p out)
+    where
+      go : (m : Bool) → (m ≡ false → getD s p 0 ≡ getD t p 0) → T (not (and (not m) (differs s t p)))
+      go true e = tt
+      go false e = not-differs (λ j. true) s t p (sym (e refl))
 
-    pub differing-in-run : differing marks s t ≤ n
-    differing-in-run = count-run (differsAt marks s t) a n (length s) (λ p l. right-outside p)
+  pub differing-in-run : differing marks s t ≤ n
+  differing-in-run = count-run (differsAt marks s t) a n (length s) (λ p l. right-outside p)
 
-  -- and none is marked
-  module _ (only : MarkedIn a n marks) where
-    pub unmarked-outside : (p : ℕ) → (InRun a n p → ⊥) → T (not (isMarked marks p))
-    unmarked-outside p out = subst (λ (m : ℕ). T (not (not (eqb m 0)))) (sym (only p out)) tt
+-- none is marked, so no more are repainted
+module _ (marks : List ℕ) (a n : ℕ) (only : MarkedIn a n marks) where
+  pub unmarked-outside : (p : ℕ) → (InRun a n p → ⊥) → T (not (isMarked marks p))
+  unmarked-outside p out = subst (λ (m : ℕ). T (not (not (eqb m 0)))) (sym (only p out)) tt
 
-    pub repainted-in-run : repainted marks s t ≤ n
-    repainted-in-run = omega (arith, count-both (isMarked marks) (differs s t) (length s), count-run (isMarked marks) a n (length s) (λ p l. unmarked-outside p))
+  pub repainted-in-run : (s t : List ℕ) → repainted marks s t ≤ n
+  repainted-in-run s t =
+      omega (arith, count-both (isMarked marks) (differs s t) (length s), count-run (isMarked marks) a n (length s) (λ p l. unmarked-outside p))
 
--- where nothing is marked, a cell is wrong exactly where it differs
+-- an unmarked cell is wrong exactly where it differs
 module _ (marks s t : List ℕ) (p : ℕ) (unmarked : getD marks p 0 ≡ 0) where
   pub unmarked-differs : differsAt marks s t p ≡ differs s t p
   unmarked-differs = ap (λ (m : ℕ). and (not (not (eqb m 0))) (differs s t p)) unmarked

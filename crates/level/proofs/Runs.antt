@@ -34,7 +34,7 @@ module _ (R : ℕ) (some : 0 < R) (marks s t : List ℕ) (matched : length marks
     -- cells marked in such a run: in no lane are more than c
     pub marked-in-run : n ≤ R * c → MarkedIn a n marks → (j : ℕ) → j < R → markedIn R marks j ≤ c
     marked-in-run few only j hj =
-        rw (marked-cells R some marks j) (run-meets R some (isMarked marks) a n c few (unmarked-outside marks a n s t only) j (length marks / R) hj)
+        rw (marked-cells R some marks j) (run-meets R some (isMarked marks) a n c few (unmarked-outside marks a n only) j (length marks / R) hj)
 
     -- all cells wrong, or all marked, in a longer run within the strip: more than c are, in the lane of the first
     module _ (m : ℕ) (full : length s ≡ R * m) (many : R * c < n) (ends : a + n ≤ length s) where

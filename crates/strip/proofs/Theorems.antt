@@ -241,7 +241,7 @@ module _ (R : ℕ) (two : 2 ≤ R) where
         d .1,
         omega (arith, d .1, differing-in-run marks a n s t changed),
         d .2,
-        omega (arith, d .2, repainted-in-run marks b m s t only),
+        omega (arith, d .2, repainted-in-run marks b m only s t),
       )
 
   -- FORMAT 14.3: up to 2R neighbouring cells changed at will, and no marks: the same level. Mended is the number of cells that did change.

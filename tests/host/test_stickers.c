@@ -25,10 +25,26 @@ struct scene {
     struct picture clean, spoilt;
 };
 
+/* The picture as it was before anything was put on it. */
+static void take_off(struct scene *s)
+{
+    s->spoilt = s->clean;
+}
+
+/* The strip is the one that the library writes. */
 static void scene_board(struct scene *s)
 {
-    picture_board(&s->clean, &s->board);
-    s->spoilt = s->clean;
+    const struct board *b = &s->board;
+
+    picture_board(&s->clean, b);
+
+    const uint64_t written =
+        zav_strip_write(b->width, b->height, b->par, b->tiles, b->tiles_len,
+                        s->clean.strip, sizeof s->clean.strip);
+
+    check_number(zav_code(written), ZAV_DONE, "the writer's code");
+    check_number(zav_length(written), s->clean.strip_len, "its length");
+    take_off(s);
 }
 
 /* A level with k data bytes in each lane; false if there is none. */
@@ -50,11 +66,11 @@ static size_t covered(const struct scene *s, size_t start, size_t cells)
     return cells < left ? cells : left;
 }
 
-/* One colour over a run of cells; the last sticker is taken off first. */
+/* One colour over a run of cells; what was there is taken off first. */
 static void put_sticker(struct scene *s, size_t start, size_t cells,
                         uint8_t colour)
 {
-    s->spoilt = s->clean;
+    take_off(s);
     memset(s->spoilt.strip + start, colour, covered(s, start, cells));
 }
 
@@ -67,7 +83,7 @@ static void put_marks(struct scene *s, size_t start, size_t cells)
 static void change_all(struct scene *s, size_t start, size_t cells,
                        uint8_t difference)
 {
-    s->spoilt = s->clean;
+    take_off(s);
     for (size_t i = start; i < start + cells; i++)
         s->spoilt.strip[i] ^= difference;
 }
@@ -114,12 +130,20 @@ static unsigned mended_of(const struct damage *d)
     return mended;
 }
 
+/* The second implementation is asked seldom, as it takes long. */
+static void check_sometimes(const struct scene *s)
+{
+    if (draw_below(64) == 0)
+        check_picture(&s->spoilt);
+}
+
 /* The level comes back, and what the sticker changed is told. */
 static void check_read_back(const struct scene *s)
 {
     const struct damage d = damage_of(s);
 
     check_counts(&s->spoilt, &s->board, mended_of(&d), d.repainted);
+    check_sometimes(s);
 }
 
 /* Some lane is beyond reach, and the lowest such is told. */
@@ -128,6 +152,7 @@ static void check_beyond(const struct scene *s)
     const struct damage d = damage_of(s);
 
     check_refused(&s->spoilt, 6, (unsigned)lowest_beyond(&d));
+    check_sometimes(s);
 }
 
 /* The one or the other; true if it is the level. */
@@ -186,7 +211,7 @@ static void check_marked(struct scene *s, size_t start)
     put_sticker(s, start, MARKED, draw_byte());
     put_marks(s, start, MARKED);
     check_read_back(s);
-    put_sticker(s, start, 0, 0);
+    take_off(s);
     put_marks(s, start, MARKED);
     check_read_back(s);
 }
@@ -302,8 +327,6 @@ static void check_two_runs(size_t c, size_t d)
     if (draw_below(2))
         change_any(&s, marks, marked);
     check_read_back(&s);
-    if (draw_below(16) == 0)
-        check_picture(&s.spoilt);
 }
 
 static void test_two_runs(void)
@@ -340,7 +363,7 @@ static void check_marked_more(struct scene *s, size_t start)
 {
     const size_t left = s->clean.strip_len - start;
 
-    put_sticker(s, start, 0, 0);
+    take_off(s);
     put_marks(s, start, MARKED + 1);
     check_beyond(s);
     put_sticker(s, start, MARKED + 1, draw_byte());
@@ -379,8 +402,6 @@ static void test_changed_or_refused(void)
             read++;
         else
             refused++;
-        if (k % 16 == 0)
-            check_picture(&s.spoilt);
     }
     if (read == 0 || refused == 0)
         group_fail("%zu levels and %zu refusals: both are due", read, refused);

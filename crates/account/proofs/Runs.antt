@@ -7,11 +7,11 @@ use Prim.Native.Nat.{ℕ, zero, suc, _+_, _*_, _-_, _/_, _%_, _≤_, _<_}
 use native.Mathlib.Nat.{div-add-mod, mod-lt, mul-le-mul-left, lt-of-mul-lt-mul-left, mul-suc, mul-add}
 use native.Mathlib.Decide.{decLt}
 use native.Mathlib.Omega.{arith}
-use lib.Dec.{T, eqb, eqb→eq}
+use lib.Dec.{T, eqb}
 use lib.ListN.{length, getD}
 use Rattle.account.specs.Reach.{oneIf, and, countTo, NoMarks, isMarked, differs, differsAt, differing, repainted}
 use Rattle.account.specs.Runs.{InRun, ChangedIn, MarkedIn}
-use Rattle.account.proofs.Cells.{count-cong, count-both, not-differs}
+use Rattle.account.proofs.Cells.{count-cong, count-both, same-at, not-differs}
 
 -- ---- counting in a run
 
@@ -108,17 +108,16 @@ module _ (marks : List ℕ) (a n : ℕ) (only : MarkedIn a n marks) where
   repainted-in-run s t =
       omega (arith, count-both (isMarked marks) (differs s t) (length s), count-run (isMarked marks) a n (length s) (λ p l. unmarked-outside p))
 
--- an unmarked cell is wrong exactly where it differs
-module _ (marks s t : List ℕ) (p : ℕ) (unmarked : getD marks p 0 ≡ 0) where
-  pub unmarked-differs : differsAt marks s t p ≡ differs s t p
-  unmarked-differs = ap (λ (m : ℕ). and (not (not (eqb m 0))) (differs s t p)) unmarked
+-- an unmarked cell is wrong where it differs
+pub unmarked-wrong : (marks s t : List ℕ) (p : ℕ) → getD marks p 0 ≡ 0 → getD s p 0 ≢ getD t p 0 → T (differsAt marks s t p)
+unmarked-wrong marks s t p unmarked ne =
+    go (differsAt marks s t p) (λ same. ne (sym (same-at marks s t p (subst (λ (m : ℕ). T (not (not (eqb m 0)))) (sym unmarked) tt) same)))
+  where
+    go : (b : Bool) → (T (not b) → ⊥) → T b
+    go true n = tt
+    go false n = absurd (n tt)
 
-  pub unmarked-wrong : getD s p 0 ≢ getD t p 0 → T (differsAt marks s t p)
-  unmarked-wrong ne = subst T (sym unmarked-differs) (go (eqb (getD t p 0) (getD s p 0)) refl)
-    where
-      go : (b : Bool) → eqb (getD t p 0) (getD s p 0) ≡ b → T (not b)
-      go true e = absurd (ne (sym (eqb→eq (getD t p 0) (getD s p 0) (subst T (sym e) tt))))
-      go false e = tt
-
+-- and where nothing is marked, all that differ are
 pub unmarked-differing : (marks s t : List ℕ) → NoMarks marks → differing marks s t ≡ countTo (differs s t) (length s)
-unmarked-differing marks s t none = count-cong (differsAt marks s t) (differs s t) (length s) (λ p l. unmarked-differs marks s t p (none p))
+unmarked-differing marks s t none = count-cong (differsAt marks s t) (differs s t) (length s) (λ p l.
+    ap (λ (m : ℕ). and (not (not (eqb m 0))) (differs s t p)) (none p))

@@ -18,7 +18,6 @@ use Rattle.rules.proofs.Laws.{first-fixes, all-hold, after, hold-both, numbered
 use Rattle.code.specs.Word.{writtenNumbers}
 use Rattle.code.specs.declared.word.Written.{Written}
 use Rattle.code.proofs.Answers.{written-zero}
-use Rattle.level.specs.Sizes.{tilesMost, scratchLeast}
 use Rattle.level.specs.Level.{Level, IsLevel, Counted, lending}
 use Rattle.level.specs.Record.{recordLength}
 use Rattle.level.specs.Strip.{columns, Legal, IsStrip, StripReach, Reached, Mendable, wrongIn, markedIn, mendedOf, repaintedOf, IsWear}
@@ -33,7 +32,7 @@ use Rattle.level.proofs.Theorems as levels
 use Rattle.lending.proofs.Lent.{written-level, level-written}
 use Rattle.strip.specs.declared.read.Reading.{Reading}
 use Rattle.strip.specs.Writing.{stripLength, StripWritesAs, WeWrote}
-use Rattle.strip.specs.Reading.{stripNumbers, LevelRead, StripReadsAs, Answers, Gives}
+use Rattle.strip.specs.Reading.{stripNumbers, LevelRead, StripReadsAs, WeRead, Answers, Gives}
 use Rattle.strip.proofs.Laid.{record-fits}
 use Rattle.strip.proofs.Alike as alike
 use Rattle.strip.proofs.Reader.{zeros}
@@ -156,6 +155,21 @@ module _ (R : ℕ) (two : 2 ≤ R) where
   pub written-strip-level : (l : Level) (old new : List ℕ) (a : Written) → StripWritesAs R l old new a → writtenNumbers a .code ≡ 0 → IsLevel l
   written-strip-level l old new a A z = written-level l 384 (length old) (writtenNumbers a .code) z (A .code) .1
 
+  -- ---- strips that we read, with buffers that are long enough
+
+  good-none : (marks : List ℕ) → NoMarks marks → GoodMarks marks
+  good-none marks none p l = omega (arith, none p)
+
+  unworn : (s marks : List ℕ) → Answers R s marks (λ x tiles'. x .mended ≡ 0 → x .wear ≡ 0)
+  unworn s marks r = wear-none s marks (r .tiles) (r .tiles') (r .scratch) (r .scratch') (r .answer) (r .promise)
+
+  module _ (s marks : List ℕ) (legal : Legal R (length s)) (matched : length marks ≡ length s) (good : GoodMarks marks) where
+    entered : (r : WeRead R s marks) → Hold (entering R s marks (length (r .tiles)) (length (r .scratch)))
+    entered r = (legal, (matched, (good, (r .room, (r .room', tt)))))
+
+    told-six : (j : ℕ) → j < R → (Mendable gf256 R marks s j → ⊥) → Answers R s marks (λ x tiles'. x .code ≡ 6)
+    told-six j hj n r = beyond-is-six s marks (r .tiles) (r .tiles') (r .scratch) (r .scratch') (entered r) (r .answer) (r .promise) j hj n
+
   -- ---- strips that we wrote
 
   module _ (l : Level) (t : List ℕ) (w : WeWrote R l t) where
@@ -167,63 +181,59 @@ module _ (R : ℕ) (two : 2 ≤ R) where
     wrote-strip = subst (IsStrip gf256 R l) (sym (w .front ∙ ap (λ (n : ℕ). take n (w .new)) (w .promise .value (w .done)))) (w .promise .strip (w .done))
 
     -- of legal length
-    size : length t ≡ stripLength R l
-    size = strip-size gf256 field256 R some l t wrote-strip
-
-    fits : (columns R 4 ≤ columns R (recordLength (l .width) (l .height))) × (columns R (recordLength (l .width) (l .height)) ≤ columns R 364)
-    fits =
-        let f = record-fits l wrote-level in
-        (columns-more R some 4 (recordLength (l .width) (l .height)) (f .0), columns-more R some (recordLength (l .width) (l .height)) 364 (f .1))
-
     pub wrote-legal : Legal R (length t)
-    wrote-legal = record { k = columns R (recordLength (l .width) (l .height)); from = fits .0; to = fits .1; cells = size }
+    wrote-legal =
+        let f = record-fits l wrote-level in
+        record {
+          k = columns R (recordLength (l .width) (l .height));
+          from = columns-more R some 4 (recordLength (l .width) (l .height)) (f .0);
+          to = columns-more R some (recordLength (l .width) (l .height)) 364 (f .1);
+          cells = strip-size gf256 field256 R some l t wrote-strip;
+        }
 
     -- a picture of it: a strip of that length, with marks
     module _ (s marks : List ℕ) (same : length t ≡ length s) (matched : length marks ≡ length s) (good : GoodMarks marks) where
-      full : length s ≡ R * (columns R (recordLength (l .width) (l .height)) + 5)
-      full = sym same ∙ size
+      legal : Legal R (length s)
+      legal = subst (Legal R) same wrote-legal
 
-      entered : (tiles scratch : List ℕ) → tilesMost ≤ length tiles → scratchLeast ≤ length scratch
-          → Hold (entering R s marks (length tiles) (length scratch))
-      entered tiles scratch room room' = (subst (Legal R) same wrote-legal, (matched, (good, (room, (room', tt)))))
+      words : legal .k + 5 ≤ 255
+      words = omega (arith, legal .to, short)
 
-      -- FORMAT 11.8: where 2e + f is 6 in a lane, the strip is refused.
+      -- FORMAT 11.8: where 2e + f is 6 in a lane, the strip is refused with 6.
       pub refused-at-six : (j : ℕ) → j < R → 2 * wrongIn R marks s t j + markedIn R marks j ≡ 6 → Answers R s marks (λ x tiles'. x .code ≡ 6)
-      refused-at-six j hj six tiles tiles' scratch scratch' a room room' A =
-          beyond-is-six s marks tiles tiles' scratch scratch' (entered tiles scratch room room') a A j hj
-          (six-beyond gf256 field256 R some marks s (columns R (recordLength (l .width) (l .height)) + 5) full (omega (arith, fits, short)) l t j matched
-          wrote-strip same hj six)
+      refused-at-six j hj six r =
+          told-six s marks legal matched good j hj
+          (six-beyond gf256 field256 R some marks s (legal .k + 5) (legal .cells) words l t j matched wrote-strip same hj six) r
 
       -- FORMAT 11.10: with damage within reach in every lane its level is returned; mended is the number of unmarked cells that changed, and
       -- repainted that of the marked ones.
       pub damaged-read-back : StripReach R marks s t
           → Answers R s marks (λ x tiles'. Gives l x tiles' × (x .mended ≡ differing marks s t) × (x .repainted ≡ repainted marks s t))
-      damaged-read-back reach tiles tiles' scratch scratch' a room room' A = (
-        record { read = z; level = sym (A .level z .only l t at) },
-        A .level z .mended-is ∙ ap (mendedOf R marks s) strips ∙ levels.mended-differing R some marks s t cells full matched same,
-        A .level z .repainted-is ∙ ap (repaintedOf R marks s) strips ∙ levels.repainted-differing R some marks s t cells full matched same,
+      damaged-read-back reach r = (
+        record { read = z; level = sym (read .only l t at) },
+        read .mended-is ∙ ap (mendedOf R marks s) strips ∙ levels.mended-differing R some marks s t (legal .k + 5) (legal .cells) matched same,
+        read .repainted-is ∙ ap (repaintedOf R marks s) strips ∙ levels.repainted-differing R some marks s t (legal .k + 5) (legal .cells) matched same,
       )
         where
-          cells : ℕ
-          cells = columns R (recordLength (l .width) (l .height)) + 5
-
           at : Reached gf256 R marks s l t
           at = record { is-level = wrote-level; is-strip = wrote-strip; reach = reach }
 
-          z : stripNumbers a .code ≡ 0
-          z = read-when-reached s marks tiles tiles' scratch scratch' (entered tiles scratch room room') a A l t at
+          z : stripNumbers (r .answer) .code ≡ 0
+          z = read-when-reached s marks (r .tiles) (r .tiles') (r .scratch) (r .scratch') (entered s marks legal matched good r) (r .answer) (r .promise) l t at
 
-          strips : A .level z .strip ≡ t
+          read : LevelRead gf256 R s marks (r .tiles) (r .tiles') (stripNumbers (r .answer))
+          read = r .promise .level z
+
+          strips : read .strip ≡ t
           strips =
-              same-strip gf256 field256 R some marks s cells full (omega (arith, fits, short)) (returned (stripNumbers a) tiles') l (A .level z .strip) t
-              (A .level z .reached) at
+              same-strip gf256 field256 R some marks s (legal .k + 5) (legal .cells) words (returned (stripNumbers (r .answer)) (r .tiles')) l
+              (read .strip) t (read .reached) at
 
       -- FORMAT 11.15: with 2e + f at most 6 in every lane its level is returned, or the strip is refused with 6.
       pub level-or-six : ((j : ℕ) → j < R → 2 * wrongIn R marks s t j + markedIn R marks j ≤ 6)
           → Answers R s marks (λ x tiles'. Gives l x tiles' ⊎ (x .code ≡ 6))
-      level-or-six near tiles tiles' scratch scratch' a room room' A =
-          ⊎-elim (λ few. inl (damaged-read-back (lanes-reach R some marks s t matched same few) tiles tiles' scratch scratch' a room room' A .0))
-          (λ x. inr (refused-at-six (x .0) (x .1) (x .2) tiles tiles' scratch scratch' a room room' A))
+      level-or-six near r =
+          ⊎-elim (λ few. inl (damaged-read-back (lanes-reach R some marks s t matched same few) r .0)) (λ x. inr (refused-at-six (x .0) (x .1) (x .2) r))
           (most-or-one R 5 (λ j. 2 * wrongIn R marks s t j + markedIn R marks j) near)
 
   -- ---- stickers: damage to a strip that we wrote, in runs of neighbouring cells
@@ -233,44 +243,42 @@ module _ (R : ℕ) (two : 2 ≤ R) where
       → 2 * c + d ≤ 5 → n ≤ R * c → ChangedIn marks a n s t → m ≤ R * d → MarkedIn b m marks
       → Answers R s marks (λ x tiles'. Gives l x tiles' × (x .mended ≡ differing marks s t) × (x .mended ≤ n) × (x .repainted ≡ repainted marks s t)
       × (x .repainted ≤ m))
-  two-runs l t s marks a n c b m d w matched good five few changed few' only tiles tiles' scratch scratch' x room room' A =
+  two-runs l t s marks a n c b m d w matched good five few changed few' only r =
       let same = sym (changed .same-length) in
-      let d = damaged-read-back l t w s marks same matched good (runs-reach R some marks s t matched same a n c b m d five few few' changed only)
-      tiles tiles' scratch scratch' x room room' A in (
-        d .0,
-        d .1,
-        omega (arith, d .1, differing-in-run marks a n s t changed),
-        d .2,
-        omega (arith, d .2, repainted-in-run marks b m only s t),
+      let back = damaged-read-back l t w s marks same matched good (runs-reach R some marks s t matched same a n c b m d five few few' changed only) r in (
+        back .0,
+        back .1,
+        omega (arith, back .1, differing-in-run marks a n s t changed),
+        back .2,
+        omega (arith, back .2, repainted-in-run marks b m only s t),
       )
 
   -- FORMAT 14.3: up to 2R neighbouring cells changed at will, and no marks: the same level. Mended is the number of cells that did change.
   pub changed-run : (l : Level) (t s marks : List ℕ) (a n : ℕ) → WeWrote R l t → length marks ≡ length s → NoMarks marks
       → n ≤ 2 * R → ChangedIn marks a n s t
       → Answers R s marks (λ x tiles'. Gives l x tiles' × (x .mended ≡ countTo (differs s t) (length s)) × (x .mended ≤ n) × (x .repainted ≡ 0))
-  changed-run l t s marks a n w matched none few changed tiles tiles' scratch scratch' x room room' A =
-      let d = two-runs l t s marks a n 2 0 0 0 w matched (λ p k. omega (arith, none p)) (omega arith) (omega arith) changed (omega arith) (λ p o. none p)
-      tiles tiles' scratch scratch' x room room' A in
-      (d .0, d .1 ∙ unmarked-differing marks s t none, d .2, omega (arith, d .4))
+  changed-run l t s marks a n w matched none few changed r =
+      let back =
+      two-runs l t s marks a n 2 0 0 0 w matched (good-none marks none) (omega arith) (omega arith) changed (omega arith) (λ p o. none p) r in
+      (back .0, back .1 ∙ unmarked-differing marks s t none, back .2, omega (arith, back .4))
 
   -- FORMAT 11.9: with none changed nothing is mended, repainted or worn.
   pub strip-read-back : (l : Level) (t marks : List ℕ) → WeWrote R l t → length marks ≡ length t → NoMarks marks
       → Answers R t marks (λ x tiles'. Gives l x tiles' × (x .mended ≡ 0) × (x .repainted ≡ 0) × (x .wear ≡ 0))
-  strip-read-back l t marks w matched none tiles tiles' scratch scratch' x room room' A =
-      let d = changed-run l t t marks 0 0 w matched none (omega arith) (record { same-length = refl; outside = λ p o e. refl })
-      tiles tiles' scratch scratch' x room room' A in
-      let unmended : stripNumbers x .mended ≡ 0 = omega (arith, d .2) in
-      (d .0, unmended, d .3, wear-none t marks tiles tiles' scratch scratch' x A unmended)
+  strip-read-back l t marks w matched none r =
+      let back = changed-run l t t marks 0 0 w matched none (omega arith) (record { same-length = refl; outside = λ p o e. refl }) r in
+      let unmended : stripNumbers (r .answer) .mended ≡ 0 = omega (arith, back .2) in
+      (back .0, unmended, back .3, unworn t marks r unmended)
 
   -- FORMAT 14.4: up to 5R neighbouring cells marked, whatever stands there, and all others right: the same level, and nothing is mended.
   pub marked-run : (l : Level) (t s marks : List ℕ) (a n : ℕ) → WeWrote R l t → length marks ≡ length s → GoodMarks marks
       → n ≤ 5 * R → MarkedIn a n marks → SameRead marks s t
       → Answers R s marks (λ x tiles'. Gives l x tiles' × (x .mended ≡ 0) × (x .wear ≡ 0) × (x .repainted ≡ repainted marks s t) × (x .repainted ≤ n))
-  marked-run l t s marks a n w matched good few only right tiles tiles' scratch scratch' x room room' A =
-      let d = two-runs l t s marks 0 0 0 a n 5 w matched good (omega arith) (omega arith)
-      (record { same-length = right .same-length; outside = λ p o. right .read p }) (omega arith) only tiles tiles' scratch scratch' x room room' A in
-      let unmended : stripNumbers x .mended ≡ 0 = omega (arith, d .2) in
-      (d .0, unmended, wear-none s marks tiles tiles' scratch scratch' x A unmended, d .3, d .4)
+  marked-run l t s marks a n w matched good few only right r =
+      let back = two-runs l t s marks 0 0 0 a n 5 w matched good (omega arith) (omega arith)
+      (record { same-length = right .same-length; outside = λ p o. right .read p }) (omega arith) only r in
+      let unmended : stripNumbers (r .answer) .mended ≡ 0 = omega (arith, back .2) in
+      (back .0, unmended, unworn s marks r unmended, back .3, back .4)
 
   -- FORMAT 14.5: one cell more is too many. A run of 2R + 1 to 3R cells, each of which did change, is refused with 6,
   pub changed-refused : (l : Level) (t s marks : List ℕ) (a n : ℕ) → WeWrote R l t → length marks ≡ length s → NoMarks marks
@@ -279,11 +287,11 @@ module _ (R : ℕ) (two : 2 ≤ R) where
   changed-refused l t s marks a n w matched none many few ends changed all =
       let same = sym (changed .same-length) in
       let j = mod-lt a some in
-      refused-at-six l t w s marks same matched (λ p k. omega (arith, none p)) (a % R) j
+      refused-at-six l t w s marks same matched (good-none marks none) (a % R) j
       (omega (
         arith,
         run-wrong R some marks s t matched same a n 2 (wrote-legal l t w .k + 5) (changed .same-length ∙ wrote-legal l t w .cells) (omega arith) ends
-            (λ p r. unmarked-wrong marks s t p (none p) (all p r)),
+            (λ p u. unmarked-wrong marks s t p (none p) (all p u)),
         wrong-in-run R some marks s t matched same a n 3 (omega arith) changed (a % R) j,
         marked-in-run R some marks s t matched same 0 0 0 (omega arith) (λ p o. none p) (a % R) j,
       ))
@@ -292,18 +300,18 @@ module _ (R : ℕ) (two : 2 ≤ R) where
   pub marked-refused : (s marks : List ℕ) (a n : ℕ) → Legal R (length s) → length marks ≡ length s → GoodMarks marks
       → 5 * R < n → a + n ≤ length s → ((p : ℕ) → InRun a n p → getD marks p 0 ≡ 1)
       → Answers R s marks (λ x tiles'. x .code ≡ 6)
-  marked-refused s marks a n legal matched good many ends all tiles tiles' scratch scratch' x room room' A =
-      beyond-is-six s marks tiles tiles' scratch scratch' (legal, (matched, (good, (room, (room', tt))))) x A (a % R) (mod-lt a some)
+  marked-refused s marks a n legal matched good many ends all =
+      told-six s marks legal matched good (a % R) (mod-lt a some)
       (six-marks R some marks s s matched refl gf256 (a % R)
       (run-marked R some marks s s matched refl a n 5 (legal .k + 5) (legal .cells) (omega arith) ends
-      (λ p r. subst (λ (m : ℕ). T (not (eqb m 0))) (sym (all p r)) tt)))
+      (λ p u. subst (λ (m : ℕ). T (not (eqb m 0))) (sym (all p u)) tt)))
 
   -- FORMAT 14.7: up to 3R neighbouring cells changed at will, and no marks: the same level or refusal 6, and never another level.
   pub changed-or-refused : (l : Level) (t s marks : List ℕ) (a n : ℕ) → WeWrote R l t → length marks ≡ length s → NoMarks marks
       → n ≤ 3 * R → ChangedIn marks a n s t → Answers R s marks (λ x tiles'. Gives l x tiles' ⊎ (x .code ≡ 6))
   changed-or-refused l t s marks a n w matched none few changed =
       let same = sym (changed .same-length) in
-      level-or-six l t w s marks same matched (λ p k. omega (arith, none p)) (λ j hj. omega (
+      level-or-six l t w s marks same matched (good-none marks none) (λ j hj. omega (
         arith,
         wrong-in-run R some marks s t matched same a n 3 (omega arith) changed j hj,
         marked-in-run R some marks s t matched same 0 0 0 (omega arith) (λ p o. none p) j hj,

@@ -44,10 +44,20 @@ pub record StripReadsAs (R : ℕ) (s marks tiles tiles' scratch scratch' : List 
   pub tiles-kept : (stripNumbers a .code ≡ 0 → ⊥) → tiles' ≡ tiles
   pub scratch-kept : (Hold (entering R s marks (length tiles) (length scratch)) → ⊥) → scratch' ≡ scratch
 
--- FORMAT 11.1: what the strip reader answers to a strip and its marks, lent buffers that are long enough, is as P says of the numbers and the tiles
+-- FORMAT 11.1: a strip that we read, with its marks: the reader was lent buffers that are long enough
+pub record WeRead (R : ℕ) (s marks : List ℕ) : Type 0 where
+  pub tiles : List ℕ
+  pub tiles' : List ℕ
+  pub scratch : List ℕ
+  pub scratch' : List ℕ
+  pub answer : Reading
+  pub promise : StripReadsAs R s marks tiles tiles' scratch scratch' answer
+  pub room : tilesMost ≤ length tiles
+  pub room' : scratchLeast ≤ length scratch
+
+-- whatever the reader then answers is as P says of the numbers and the tiles
 abbrev pub Answers : ℕ → List ℕ → List ℕ → (ReadNumbers → List ℕ → Type 0) → Type 0
-Answers R s marks P = (tiles tiles' scratch scratch' : List ℕ) (a : Reading) → tilesMost ≤ length tiles → scratchLeast ≤ length scratch
-    → StripReadsAs R s marks tiles tiles' scratch scratch' a → P (stripNumbers a) tiles'
+Answers R s marks P = (r : WeRead R s marks) → P (stripNumbers (r .answer)) (r .tiles')
 
 -- FORMAT 8.15: the level l is returned
 pub record Gives (l : Level) (n : ReadNumbers) (tiles' : List ℕ) : Type 0 where

@@ -20,9 +20,9 @@ extern "C" {
 #endif
 
 #define ZAV_STRIP_LANES 4
-#define ZAV_STRIP_MIN 24    /* cells in a strip; always a multiple of 4 */
-#define ZAV_STRIP_MAX 384   /* and in a buffer for one */
-#define ZAV_SCRATCH_MIN 384 /* bytes of scratch that the reader needs */
+#define ZAV_STRIP_MIN 24   /* cells in a strip; always a multiple of 4 */
+#define ZAV_STRIP_MAX 384  /* and in a buffer for one */
+#define ZAV_SCRATCH_MIN 96 /* bytes of scratch that the reader needs */
 
 /*
  * What a sticker may cover: so many neighbouring cells, wherever it starts and
@@ -71,7 +71,8 @@ uint64_t zav_strip_write(size_t width, size_t height, size_t par,
  *
  * strip_len is the strip's own length, the one that its writer returned, and
  * not that of the buffer it stands in. tiles_len must be at least
- * ZAV_TILES_MAX, and scratch_len at least ZAV_SCRATCH_MIN.
+ * ZAV_TILES_MAX, and scratch_len at least ZAV_SCRATCH_MIN: one lane, whatever
+ * the strip's length. More scratch makes no difference.
  *
  * The strip and the marks are never written, nor are the tiles when refused.
  * After 1 to 5 the scratch keeps its bytes; from 6 on, and when a level is

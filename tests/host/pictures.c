@@ -86,6 +86,16 @@ void damage_lane(struct picture *p, size_t lane, size_t wrong, size_t marked,
     put_lane(p, lane, &s);
 }
 
+void damage_lanes(struct picture *p, size_t most)
+{
+    for (size_t lane = 0; lane < REF_LANES; lane++) {
+        const size_t wrong = draw_below(most / 2 + 1);
+
+        damage_lane(p, lane, wrong, draw_below(most - 2 * wrong + 1),
+                    draw_under_mark());
+    }
+}
+
 /* ---- checking ---- */
 
 static struct {
@@ -138,7 +148,7 @@ static void describe(char *what, const struct picture *p)
 }
 
 /* What the call leaves must be as expected; `level` is what the tiles hold.
-   Once cells are looked at, as much scratch as there are cells is free. */
+   Once cells are looked at, the first lane of the scratch is free. */
 static void check_read(const struct picture *p, struct ref_result r,
                        const uint8_t *level)
 {
@@ -155,7 +165,7 @@ static void check_read(const struct picture *p, struct ref_result r,
 
     memcpy(e.tiles, level, (size_t)r.width * r.height);
     if (was_judged(r))
-        memcpy(e.scratch, lent.scratch.bytes, p->strip_len);
+        memcpy(e.scratch, lent.scratch.bytes, REF_SCRATCH_MIN);
     if (got == packed(r) && all_kept(p, &e))
         return;
     describe(what, p);

@@ -8,8 +8,9 @@
 #include "draw.h"
 #include "worked.h"
 
-/* Long enough for a strip or a scratch that is too long. */
-enum { STRIP_ROOM = 512, SCRATCH_ROOM = REF_SCRATCH_MIN + 64 };
+/* Long enough for a strip that is too long, and for a scratch that would hold
+   the longest strip. */
+enum { STRIP_ROOM = 512, SCRATCH_ROOM = REF_STRIP_MAX + 64 };
 
 struct picture {
     uint8_t strip[STRIP_ROOM];
@@ -46,6 +47,9 @@ void put_lane(struct picture *p, size_t lane, const struct sample *s);
 /* Mark so many cells of a lane and change so many others. */
 void damage_lane(struct picture *p, size_t lane, size_t wrong, size_t marked,
                  enum under_mark under);
+
+/* Damage every lane, with 2e + f at most so much. */
+void damage_lanes(struct picture *p, size_t most);
 
 /*
  * Read the picture and compare with the second implementation, all buffers

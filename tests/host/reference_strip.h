@@ -7,7 +7,7 @@
 #include "reference_record.h"
 
 enum { REF_LANES = 4, REF_STRIP_MIN = 24, REF_STRIP_MAX = 384,
-       REF_SCRATCH_MIN = 384,
+       REF_SCRATCH_MIN = 96,
        REF_K_MAX = REF_STRIP_MAX / REF_LANES - REF_CHECK_BYTES };
 
 /* Data bytes in each lane of the strip for a record of so many bytes. */

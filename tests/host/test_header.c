@@ -6,6 +6,8 @@
 
 #include "draw.h"
 #include "harness.h"
+#include "reference_strip.h"
+#include "reference_text.h"
 #include "zavullimen.h"
 
 /* Readers and writers share bits, so each is unpacked by its own fields. In
@@ -113,9 +115,40 @@ static void test_version(void)
     group_end();
 }
 
+/* What callers lay out their buffers by. */
+static void test_sizes(void)
+{
+    static const struct {
+        const char *name;
+        size_t header, reference;
+    } sizes[] = {
+        {"ZAV_CHECK_BYTES", ZAV_CHECK_BYTES, REF_CHECK_BYTES},
+        {"ZAV_WORD_MIN", ZAV_WORD_MIN, REF_WORD_MIN},
+        {"ZAV_WORD_MAX", ZAV_WORD_MAX, REF_WORD_MAX},
+        {"ZAV_LANE_MAX", ZAV_LANE_MAX, REF_LANE_MAX},
+        {"ZAV_RECORD_MIN", ZAV_RECORD_MIN, REF_RECORD_MIN},
+        {"ZAV_RECORD_MAX", ZAV_RECORD_MAX, REF_RECORD_MAX},
+        {"ZAV_TILES_MAX", ZAV_TILES_MAX, REF_TILES_MAX},
+        {"ZAV_STRIP_LANES", ZAV_STRIP_LANES, REF_LANES},
+        {"ZAV_STRIP_MIN", ZAV_STRIP_MIN, REF_STRIP_MIN},
+        {"ZAV_STRIP_MAX", ZAV_STRIP_MAX, REF_STRIP_MAX},
+        {"ZAV_SCRATCH_MIN", ZAV_SCRATCH_MIN, REF_SCRATCH_MIN},
+        {"ZAV_TEXT_MIN", ZAV_TEXT_MIN, REF_TEXT_MIN},
+        {"ZAV_TEXT_MAX", ZAV_TEXT_MAX, REF_TEXT_MAX},
+    };
+
+    group_begin("header", "sizes");
+    for (size_t i = 0; i < COUNT(sizes); i++) {
+        group_case();
+        check_number(sizes[i].header, sizes[i].reference, sizes[i].name);
+    }
+    group_end();
+}
+
 void test_header(void)
 {
     test_version();
+    test_sizes();
     test_reader_fields();
     test_writer_fields();
     test_texts();

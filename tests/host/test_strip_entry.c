@@ -99,17 +99,65 @@ static void test_tile_buffers(void)
     group_end();
 }
 
+/* The scratch is used where cells have to be put right. */
 static void test_scratches(void)
 {
     struct picture p;
     struct board b;
 
-    group_begin(subject, "scratch of every length");
+    group_begin(subject, "scratch of every length, clean strips and damaged");
     for (size_t room = 0; room <= SCRATCH_ROOM; room++) {
         picture_any_level(&p, &b);
         p.scratch_len = room;
         check_picture(&p);
+        damage_lanes(&p, REF_REACH);
+        check_picture(&p);
     }
+    group_end();
+}
+
+/* Tiles that are not written stay as they are, the same in every call. */
+static uint64_t read_with(const struct picture *p, size_t scratch_len,
+                          uint8_t tiles[REF_TILES_MAX])
+{
+    uint8_t scratch[SCRATCH_ROOM];
+
+    draw_bytes(scratch, scratch_len);
+    memset(tiles, 0xA5, REF_TILES_MAX);
+    return zav_strip_read(p->strip, p->strip_len, p->marks, p->marks_len,
+                          tiles, REF_TILES_MAX, scratch, scratch_len);
+}
+
+/* FORMAT 10.10: with one lane of scratch the answer and the tiles are those
+   with more, as much as a whole strip and past that. */
+static void check_alike(const struct picture *p)
+{
+    static const size_t longer[] = {REF_SCRATCH_MIN + 1, REF_STRIP_MAX - 1,
+                                    REF_STRIP_MAX, REF_STRIP_MAX + 1,
+                                    SCRATCH_ROOM};
+    uint8_t tiles[REF_TILES_MAX], others[REF_TILES_MAX];
+    const uint64_t answer = read_with(p, REF_SCRATCH_MIN, tiles);
+
+    for (size_t i = 0; i < COUNT(longer); i++) {
+        group_case();
+        check_number(read_with(p, longer[i], others), answer, "more scratch");
+        if (memcmp(tiles, others, sizeof tiles) != 0)
+            group_fail("with a scratch of %zu the tiles are others", longer[i]);
+    }
+}
+
+static void test_one_answer(void)
+{
+    struct picture p;
+
+    group_begin(subject, "one answer, however long the scratch");
+    for (size_t k = 1; k <= REF_K_MAX; k++)
+        for (size_t n = 0; n < scaled(20); n++) {
+            picture_length(&p, k);
+            check_alike(&p);
+            damage_lanes(&p, draw_below(2) ? REF_REACH : REF_REACH + 1);
+            check_alike(&p);
+        }
     group_end();
 }
 
@@ -240,6 +288,7 @@ void test_strip_entry(void)
     test_mark_values();
     test_tile_buffers();
     test_scratches();
+    test_one_answer();
     test_order();
     test_limits();
     test_nulls();

@@ -16,6 +16,7 @@
 #include "test_huge.h"
 #include "test_record.h"
 #include "test_repair.h"
+#include "test_stack.h"
 #include "test_stickers.h"
 #include "test_strip.h"
 #include "test_text.h"
@@ -419,6 +420,7 @@ int main(int argc, char **argv)
     test_strip_damage();
     test_strip_wild();
     test_stickers();
+    test_stack();
     test_huge();
     return groups_finish();
 }

@@ -54,15 +54,19 @@ abbrev pub OfMended : Ops → ℕ → List ℕ → List ℕ → (List ℕ → Ty
 OfMended O R marks s ask = (t : List ℕ) → Mends O R marks s t → ask (dataOf R t)
 
 -- FORMAT 9.1 to 9.5: what is asked before the picture is looked at. 1: the length; 2: as many marks; 3: each 0 or 1; 4: the tile buffer;
--- 5: the scratch
-abbrev pub entering : ℕ → List ℕ → List ℕ → ℕ → ℕ → List Rule
-entering R s marks room scratch =
+-- 5: the scratch, of so many bytes at least
+abbrev pub enteringWith : ℕ → ℕ → List ℕ → List ℕ → ℕ → ℕ → List Rule
+enteringWith least R s marks room scratch =
     unless 1 (Legal R (length s))
     ∷ unless 2 (length marks ≡ length s)
     ∷ unless 3 (GoodMarks marks)
     ∷ unless 4 (tilesMost ≤ room)
-    ∷ unless 5 (scratchLeast ≤ scratch)
+    ∷ unless 5 (least ≤ scratch)
     ∷ []
+
+-- with the limit of FORMAT 9.5
+abbrev pub entering : ℕ → List ℕ → List ℕ → ℕ → ℕ → List Rule
+entering = enteringWith scratchLeast
 
 -- FORMAT 9.6, 9.46: what the picture is asked. 6: each lane can be mended; 7 to 10 of the mended record
 abbrev pub mending : Ops → ℕ → List ℕ → List ℕ → List Rule

@@ -19,6 +19,6 @@ stripLeast = 24
 abbrev pub stripMost : ℕ
 stripMost = 384
 
--- FORMAT 9.5: what the strip reader is lent beside
+-- FORMAT 9.5: what the strip reader is lent beside, as many bytes as a lane has at the most
 abbrev pub scratchLeast : ℕ
-scratchLeast = 384
+scratchLeast = 96

@@ -10,8 +10,8 @@ pub const RECORD_MOST: usize = 364;
 pub const STRIP_LEAST: usize = 24;
 
 pub const STRIP_MOST: usize = 384;
-// What the strip reader is lent beside.
-pub const SCRATCH_LEAST: usize = 384;
+// What the strip reader is lent beside: one lane.
+pub const SCRATCH_LEAST: usize = 96;
 
 // A crate has at least one function.
 fn level() {}

@@ -10,18 +10,18 @@ use Rattle.account.specs.Reach.{SameRead}
 use Rattle.account.proofs.Theorems.{read-itself, read-turned}
 use Rattle.gf256.specs.Gf256.{gf256}
 use Rattle.gf256.proofs.Field256.{field256}
-use Rattle.rules.specs.Refusal.{First, Hold}
+use Rattle.rules.specs.Refusal.{Rule, First, Hold}
 use Rattle.rules.proofs.Laws.{first-fixes, all-hold, hold-both, parts, before, after, first-alike, asked-alike, Alike, at-most, either}
 use Rattle.level.specs.Level.{Level}
 use Rattle.level.specs.Strip.{columns, Legal, Reached, Lowest, Mendable, mendedOf, repaintedOf, IsWear}
-use Rattle.level.specs.Reading.{ReadNumbers, refusedAt, butRepainted, returned, entering, mending, judging, OfMended}
+use Rattle.level.specs.Reading.{ReadNumbers, refusedAt, butRepainted, returned, enteringWith, mending, judging, OfMended}
 use Rattle.rules.proofs.Numbers.{lt-or-ge}
 use Rattle.level.proofs.Strips.{same-strip}
 use Rattle.level.proofs.Counts.{legal-some}
 use Rattle.level.proofs.Theorems.{wear-one}
 use Rattle.level.proofs.Unread.{same-reached, same-mends, same-mendable, same-mended}
 use Rattle.strip.specs.declared.read.Reading.{Reading}
-use Rattle.strip.specs.Reading.{stripNumbers, LevelRead, StripReadsAs}
+use Rattle.strip.specs.Reading.{stripNumbers, LevelRead, ReadsWith}
 use Rattle.strip.proofs.Reader.{zeros}
 
 -- ---- the numbers of an answer
@@ -44,10 +44,21 @@ all-numbers x y e d = ap₂ (λ (n : ReadNumbers) (i : ℕ). numbers (n .code) (
 
 -- ---- two readings
 
-module _ (R : ℕ) (some : 0 < R) (short : columns R 364 + 5 ≤ 255) (r s marks tiles t1 t2 u u' v v' : List ℕ) (same : SameRead marks r s)
-    (eu : length u ≡ length v) (a b : Reading) (A : StripReadsAs R r marks tiles t1 u u' a) (B : StripReadsAs R s marks tiles t2 v v' b) where
+-- two readers ask for at least x and y bytes of scratch: each is lent enough, or neither is
+abbrev pub EnoughAlike : ℕ → ℕ → List ℕ → List ℕ → Type 0
+EnoughAlike x y u v = (x ≤ length u → y ≤ length v) × (y ≤ length v → x ≤ length u)
+
+module _ (R : ℕ) (some : 0 < R) (short : columns R 364 + 5 ≤ 255) (x y : ℕ) (r s marks tiles t1 t2 u u' v v' : List ℕ) (same : SameRead marks r s)
+    (room : EnoughAlike x y u v) (a b : Reading) (A : ReadsWith x R r marks tiles t1 u u' a)
+    (B : ReadsWith y R s marks tiles t2 v v' b) where
+  abbrev early-r : List Rule
+  early-r = enteringWith x R r marks (length tiles) (length u)
+
+  abbrev early-s : List Rule
+  early-s = enteringWith y R s marks (length tiles) (length v)
+
   -- the same is asked before the pictures are looked at
-  enter-alike : Alike (entering R r marks (length tiles) (length u)) (entering R s marks (length tiles) (length v))
+  enter-alike : Alike early-r early-s
   enter-alike = (
     refl,
     subst (Legal R) (same .same-length),
@@ -60,13 +71,13 @@ module _ (R : ℕ) (some : 0 < R) (short : columns R 364 + 5 ≤ 255) (r s marks
         refl,
         (λ g. g),
         (λ g. g),
-        (refl, (λ g. g), (λ g. g), (refl, (λ g. omega (arith, eu)), (λ g. omega (arith, eu)), tt)),
+        (refl, (λ g. g), (λ g. g), (refl, room .0, room .1, tt)),
       ),
     ),
   )
 
   -- and of the pictures
-  module _ (h : Hold (entering R r marks (length tiles) (length u))) where
+  module _ (h : Hold early-r) where
     full : length r ≡ R * (h .0 .k + 5)
     full = h .0 .cells
 
@@ -92,36 +103,36 @@ module _ (R : ℕ) (some : 0 < R) (short : columns R 364 + 5 ≤ 255) (r s marks
           (λ ask f t M. f t (same-mends R some marks r s (h .0 .k + 5) full matched same gf256 t M)),
     )
 
-  entered : stripNumbers a .code ≡ 0 → Hold (entering R r marks (length tiles) (length u))
+  entered : stripNumbers a .code ≡ 0 → Hold early-r
   entered z =
-      hold-both (entering R r marks (length tiles) (length u)) (mending gf256 R r marks)
-      (all-hold 10 (entering R r marks (length tiles) (length u) ++ mending gf256 R r marks) (stripNumbers a .code) tt (A .code) z) .0
+      hold-both early-r (mending gf256 R r marks)
+      (all-hold 10 (early-r ++ mending gf256 R r marks) (stripNumbers a .code) tt (A .code) z) .0
 
-  moved : First (entering R s marks (length tiles) (length v) ++ mending gf256 R s marks) (stripNumbers a .code)
-  moved = go (parts (entering R r marks (length tiles) (length u)) (mending gf256 R r marks) (stripNumbers a .code) (A .code))
+  moved : First (early-s ++ mending gf256 R s marks) (stripNumbers a .code)
+  moved = go (parts early-r (mending gf256 R r marks) (stripNumbers a .code) (A .code))
     where
-      go : ((Hold (entering R r marks (length tiles) (length u)) → ⊥) × First (entering R r marks (length tiles) (length u)) (stripNumbers a .code))
-          ⊎ (Hold (entering R r marks (length tiles) (length u)) × First (mending gf256 R r marks) (stripNumbers a .code))
-          → First (entering R s marks (length tiles) (length v) ++ mending gf256 R s marks) (stripNumbers a .code)
+      go : ((Hold early-r → ⊥) × First early-r (stripNumbers a .code))
+          ⊎ (Hold early-r × First (mending gf256 R r marks) (stripNumbers a .code))
+          → First (early-s ++ mending gf256 R s marks) (stripNumbers a .code)
       go (inl q) =
-          before (entering R s marks (length tiles) (length v)) (mending gf256 R s marks) (stripNumbers a .code) (λ z. q .0 (entered z))
-          (first-alike (entering R r marks (length tiles) (length u)) (entering R s marks (length tiles) (length v)) (stripNumbers a .code) enter-alike (q .1))
+          before early-s (mending gf256 R s marks) (stripNumbers a .code) (λ z. q .0 (entered z))
+          (first-alike early-r early-s (stripNumbers a .code) enter-alike (q .1))
       go (inr q) =
-          after (entering R s marks (length tiles) (length v)) (mending gf256 R s marks) (stripNumbers a .code) (
+          after early-s (mending gf256 R s marks) (stripNumbers a .code) (
             subst (Legal R) (same .same-length) (q .0 .0),
             (
               q .0 .1 .0
                   ∙ same .same-length,
-              (q .0 .1 .1 .0, (q .0 .1 .1 .1 .0, (omega (arith, eu, q .0 .1 .1 .1 .1 .0), tt))),
+              (q .0 .1 .1 .0, (q .0 .1 .1 .1 .0, (room .0 (q .0 .1 .1 .1 .1 .0), tt))),
             ),
           )
           (first-alike (mending gf256 R r marks) (mending gf256 R s marks) (stripNumbers a .code) (mend-alike (q .0)) (q .1))
 
   codes : stripNumbers a .code ≡ stripNumbers b .code
-  codes = first-fixes (entering R s marks (length tiles) (length v) ++ mending gf256 R s marks) (stripNumbers a .code) (stripNumbers b .code) moved (B .code)
+  codes = first-fixes (early-s ++ mending gf256 R s marks) (stripNumbers a .code) (stripNumbers b .code) moved (B .code)
 
   -- the lowest lane is one
-  lowest : Hold (entering R r marks (length tiles) (length u)) → (i j : ℕ) → Lowest gf256 R marks r i → Lowest gf256 R marks s j → i ≡ j
+  lowest : Hold early-r → (i j : ℕ) → Lowest gf256 R marks r i → Lowest gf256 R marks s j → i ≡ j
   lowest h i j p q =
       ⊎-elim (λ l. absurd (p .beyond (to-r i (q .below i l))))
       (λ g. ⊎-elim (λ l. absurd (q .beyond (to-s j (p .below j l)))) (λ k. omega arith) (lt-or-ge j i)) (lt-or-ge i j)
@@ -133,13 +144,13 @@ module _ (R : ℕ) (some : 0 < R) (short : columns R 364 + 5 ≤ 255) (r s marks
       to-s n = same-mendable R some marks r s (h .0 .k + 5) (full h) (matched h) same gf256 n
 
   -- 6 is told of a picture, not before
-  looked-at : stripNumbers a .code ≡ 6 → Hold (entering R r marks (length tiles) (length u))
-  looked-at e = go (parts (entering R r marks (length tiles) (length u)) (mending gf256 R r marks) (stripNumbers a .code) (A .code))
+  looked-at : stripNumbers a .code ≡ 6 → Hold early-r
+  looked-at e = go (parts early-r (mending gf256 R r marks) (stripNumbers a .code) (A .code))
     where
-      go : ((Hold (entering R r marks (length tiles) (length u)) → ⊥) × First (entering R r marks (length tiles) (length u)) (stripNumbers a .code))
-          ⊎ (Hold (entering R r marks (length tiles) (length u)) × First (mending gf256 R r marks) (stripNumbers a .code))
-          → Hold (entering R r marks (length tiles) (length u))
-      go (inl q) = absurd (omega (arith, e, at-most 5 (entering R r marks (length tiles) (length u)) (stripNumbers a .code) tt (q .1)))
+      go : ((Hold early-r → ⊥) × First early-r (stripNumbers a .code))
+          ⊎ (Hold early-r × First (mending gf256 R r marks) (stripNumbers a .code))
+          → Hold early-r
+      go (inl q) = absurd (omega (arith, e, at-most 5 early-r (stripNumbers a .code) tt (q .1)))
       go (inr q) = q .0
 
   lanes : stripNumbers a .lane ≡ stripNumbers b .lane
@@ -156,7 +167,7 @@ module _ (R : ℕ) (some : 0 < R) (short : columns R 364 + 5 ≤ 255) (r s marks
     zb : LevelRead gf256 R s marks tiles t2 (stripNumbers b)
     zb = B .level (sym codes ∙ z)
 
-    h : Hold (entering R r marks (length tiles) (length u))
+    h : Hold early-r
     h = entered z
 
     reached : Reached gf256 R marks s (returned (stripNumbers a) t1) (za .strip)
@@ -210,22 +221,23 @@ module _ (R : ℕ) (some : 0 < R) (short : columns R 364 + 5 ≤ 255) (r s marks
   )
 
 -- two readings of one strip
-module _ (R : ℕ) (some : 0 < R) (short : columns R 364 + 5 ≤ 255) (s marks tiles t1 t2 u u' v v' : List ℕ) (eu : length u ≡ length v) (a b : Reading)
-    (A : StripReadsAs R s marks tiles t1 u u' a) (B : StripReadsAs R s marks tiles t2 v v' b) where
+module _ (R : ℕ) (some : 0 < R) (short : columns R 364 + 5 ≤ 255) (x y : ℕ) (s marks tiles t1 t2 u u' v v' : List ℕ)
+    (room : EnoughAlike x y u v) (a b : Reading) (A : ReadsWith x R s marks tiles t1 u u' a)
+    (B : ReadsWith y R s marks tiles t2 v v' b) where
   itself : SameRead marks s s
   itself = read-itself marks s
 
   one-code : stripNumbers a .code ≡ stripNumbers b .code
-  one-code = codes R some short s s marks tiles t1 t2 u u' v v' itself eu a b A B
+  one-code = codes R some short x y s s marks tiles t1 t2 u u' v v' itself room a b A B
 
   -- what is repainted is counted against one strip
   one-repainted : stripNumbers a .repainted ≡ stripNumbers b .repainted
   one-repainted =
       either (stripNumbers a .repainted ≡ stripNumbers b .repainted) (stripNumbers a .code)
-      (λ z. za R some short s s marks tiles t1 t2 u u' v v' itself eu a b A B z .repainted-is ∙ ap (repaintedOf R marks s) (strips R some short s s marks tiles t1 t2 u u' v v' itself eu a b A B z) ∙ sym (zb R some short s s marks tiles t1 t2 u u' v v' itself eu a b A B z .repainted-is))
+      (λ z. za R some short x y s s marks tiles t1 t2 u u' v v' itself room a b A B z .repainted-is ∙ ap (repaintedOf R marks s) (strips R some short x y s s marks tiles t1 t2 u u' v v' itself room a b A B z) ∙ sym (zb R some short x y s s marks tiles t1 t2 u u' v v' itself room a b A B z .repainted-is))
       (λ n. ap (λ (x : ReadNumbers). x .repainted) (zeros a n) ∙ sym (ap (λ (x : ReadNumbers). x .repainted) (zeros b (λ z. n (one-code ∙ z)))))
 
   pub read-once : (t1 ≡ t2) × (stripNumbers a ≡ stripNumbers b)
   read-once =
-      let q = read-alike R some short s s marks tiles t1 t2 u u' v v' itself eu a b A B in
+      let q = read-alike R some short x y s s marks tiles t1 t2 u u' v v' itself room a b A B in
       (q .0, all-numbers (stripNumbers a) (stripNumbers b) (q .1) one-repainted)

@@ -18,6 +18,7 @@ use Rattle.rules.proofs.Laws.{first-fixes, all-hold, after, hold-both, numbered
 use Rattle.code.specs.Word.{writtenNumbers}
 use Rattle.code.specs.declared.word.Written.{Written}
 use Rattle.code.proofs.Answers.{written-zero}
+use Rattle.level.specs.Sizes.{scratchLeast}
 use Rattle.level.specs.Level.{Level, IsLevel, Counted, lending}
 use Rattle.level.specs.Record.{recordLength}
 use Rattle.level.specs.Strip.{columns, Legal, IsStrip, StripReach, Reached, Mendable, wrongIn, markedIn, mendedOf, repaintedOf, IsWear}
@@ -32,7 +33,7 @@ use Rattle.level.proofs.Theorems as levels
 use Rattle.lending.proofs.Lent.{written-level, level-written}
 use Rattle.strip.specs.declared.read.Reading.{Reading}
 use Rattle.strip.specs.Writing.{stripLength, StripWritesAs, WeWrote}
-use Rattle.strip.specs.Reading.{stripNumbers, LevelRead, StripReadsAs, WeRead, Answers, Gives}
+use Rattle.strip.specs.Reading.{stripNumbers, LevelRead, ReadsWith, StripReadsAs, WeRead, Answers, Gives}
 use Rattle.strip.proofs.Laid.{record-fits}
 use Rattle.strip.proofs.Alike as alike
 use Rattle.strip.proofs.Reader.{zeros}
@@ -112,16 +113,28 @@ module _ (R : ℕ) (two : 2 ≤ R) where
         (subst (λ (m : ℕ). IsWear m (length s) (stripNumbers a .wear)) e (A .level z .wear-is)))
         (λ n. ap (λ (x : ReadNumbers). x .wear) (zeros a n))
 
+  -- scratches of one length are long enough alike
+  enough-alike : (u v : List ℕ) → length u ≡ length v → alike.EnoughAlike scratchLeast scratchLeast u v
+  enough-alike u v eu = ((λ h. omega (arith, eu)), (λ h. omega (arith, eu)))
+
   -- FORMAT 10.8, 10.9: the reader's promise fixes every number and every tile byte; the scratch's old bytes have no influence.
   pub strip-reads-fixed : (s marks tiles t1 t2 u u' v v' : List ℕ) (a b : Reading) → length u ≡ length v → StripReadsAs R s marks tiles t1 u u' a
       → StripReadsAs R s marks tiles t2 v v' b → (t1 ≡ t2) × (stripNumbers a ≡ stripNumbers b)
-  strip-reads-fixed s marks tiles t1 t2 u u' v v' a b eu A B = alike.read-once R some short s marks tiles t1 t2 u u' v v' eu a b A B
+  strip-reads-fixed s marks tiles t1 t2 u u' v v' a b eu A B =
+      alike.read-once R some short scratchLeast scratchLeast s marks tiles t1 t2 u u' v v' (enough-alike u v eu) a b A B
+
+  -- FORMAT 10.10: nor has its length, or the length that is asked for, where it is long enough.
+  pub any-scratch : (x y : ℕ) (s marks tiles t1 t2 u u' v v' : List ℕ) (a b : Reading) → x ≤ length u → y ≤ length v
+      → ReadsWith x R s marks tiles t1 u u' a → ReadsWith y R s marks tiles t2 v v' b → (t1 ≡ t2) × (stripNumbers a ≡ stripNumbers b)
+  any-scratch x y s marks tiles t1 t2 u u' v v' a b hx hy A B =
+      alike.read-once R some short x y s marks tiles t1 t2 u u' v v' ((λ _. hy), (λ _. hx)) a b A B
 
   -- FORMAT 11.11: the bytes under marks influence repainted, and no other number and no tile.
   pub under-marks : (r s marks tiles t1 t2 u u' v v' : List ℕ) (a b : Reading) → SameRead marks r s → length u ≡ length v
       → StripReadsAs R r marks tiles t1 u u' a
       → StripReadsAs R s marks tiles t2 v v' b → (t1 ≡ t2) × (butRepainted (stripNumbers a) ≡ butRepainted (stripNumbers b))
-  under-marks r s marks tiles t1 t2 u u' v v' a b same eu A B = alike.read-alike R some short r s marks tiles t1 t2 u u' v v' same eu a b A B
+  under-marks r s marks tiles t1 t2 u u' v v' a b same eu A B =
+      alike.read-alike R some short scratchLeast scratchLeast r s marks tiles t1 t2 u u' v v' same (enough-alike u v eu) a b A B
 
   -- ---- writing
 
@@ -377,3 +390,10 @@ pub twenty-marked : (l : Level) (t s marks : List ℕ) (a n : ℕ) → WeWrote 4
     → SameRead marks s t
     → Answers 4 s marks (λ x tiles'. Gives l x tiles' × (x .mended ≡ 0) × (x .wear ≡ 0) × (x .repainted ≡ repainted marks s t) × (x .repainted ≤ n))
 twenty-marked = marked-run 4 (omega arith)
+
+-- ---- what a console lends, of four lanes
+
+-- FORMAT 10.10: with a scratch of one lane or more, every number and every tile byte are what they were where 384 bytes were asked for and lent.
+pub as-with-384 : (s marks tiles t1 t2 u u' v v' : List ℕ) (a b : Reading) → scratchLeast ≤ length u → 384 ≤ length v
+    → StripReadsAs 4 s marks tiles t1 u u' a → ReadsWith 384 4 s marks tiles t2 v v' b → (t1 ≡ t2) × (stripNumbers a ≡ stripNumbers b)
+as-with-384 = any-scratch 4 (omega arith) scratchLeast 384

@@ -10,7 +10,7 @@ use Rattle.level.specs.Sizes.{tilesMost, scratchLeast}
 use Rattle.level.specs.Level.{Level}
 use Rattle.level.specs.Record.{fieldAt}
 use Rattle.level.specs.Strip.{Reached, Lowest, mendedOf, repaintedOf, IsWear}
-use Rattle.level.specs.Reading.{ReadNumbers, refusedAt, returned, entering, mending, judging, tilesOf}
+use Rattle.level.specs.Reading.{ReadNumbers, refusedAt, returned, enteringWith, mending, judging, tilesOf}
 use Rattle.strip.specs.declared.read.Reading.{Reading}
 use Rattle.strip.specs.declared.read.Reading.the-variants as reading
 use Rattle.fields.specs.Judged.{AcceptedAs}
@@ -33,16 +33,20 @@ pub record LevelRead (O : Ops) (R : ℕ) (s marks tiles tiles' : List ℕ) (n : 
   pub rest : drop (n .width * n .height) tiles' ≡ drop (n .width * n .height) tiles
 
 -- FORMAT 8.13, 9.44, 9.45, 10.2 to 10.4: refused before the picture was looked at, the scratch is kept; refused by the picture, no level is
--- within reach. Only then, and with a level, is the scratch free.
-pub record StripReadsAs (R : ℕ) (s marks tiles tiles' scratch scratch' : List ℕ) (a : Reading) : Type 0 where
-  pub code : First (entering R s marks (length tiles) (length scratch) ++ mending gf256 R s marks) (stripNumbers a .code)
+-- within reach. Only then, and with a level, is the scratch free. Of the scratch at least so many bytes are asked for.
+pub record ReadsWith (least R : ℕ) (s marks tiles tiles' scratch scratch' : List ℕ) (a : Reading) : Type 0 where
+  pub code : First (enteringWith least R s marks (length tiles) (length scratch) ++ mending gf256 R s marks) (stripNumbers a .code)
   pub lane : stripNumbers a .code ≡ 6 → Lowest gf256 R marks s (stripNumbers a .lane)
   pub other-lane : (stripNumbers a .code ≡ 6 → ⊥) → stripNumbers a .lane ≡ 0
   pub level : stripNumbers a .code ≡ 0 → LevelRead gf256 R s marks tiles tiles' (stripNumbers a)
-  pub no-level : Hold (entering R s marks (length tiles) (length scratch)) → (stripNumbers a .code ≡ 0 → ⊥) → (l : Level) (t : List ℕ)
+  pub no-level : Hold (enteringWith least R s marks (length tiles) (length scratch)) → (stripNumbers a .code ≡ 0 → ⊥) → (l : Level) (t : List ℕ)
       → Reached gf256 R marks s l t → ⊥
   pub tiles-kept : (stripNumbers a .code ≡ 0 → ⊥) → tiles' ≡ tiles
-  pub scratch-kept : (Hold (entering R s marks (length tiles) (length scratch)) → ⊥) → scratch' ≡ scratch
+  pub scratch-kept : (Hold (enteringWith least R s marks (length tiles) (length scratch)) → ⊥) → scratch' ≡ scratch
+
+-- the promise of the strip reader: it asks for one lane
+abbrev pub StripReadsAs : ℕ → List ℕ → List ℕ → List ℕ → List ℕ → List ℕ → List ℕ → Reading → Type 0
+StripReadsAs = ReadsWith scratchLeast
 
 -- FORMAT 11.1: a strip that we read, with its marks: the reader was lent buffers that are long enough
 pub record WeRead (R : ℕ) (s marks : List ℕ) : Type 0 where

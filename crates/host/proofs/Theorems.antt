@@ -17,6 +17,7 @@ use Rattle.code.specs.declared.word.Tested.{Tested}
 use Rattle.code.specs.declared.word.Tested.the-variants as tested
 use Rattle.code.proofs.Answers.{written-zero, repaired-zero}
 use Rattle.code.proofs.Theorems.{repainted-few}
+use Rattle.level.specs.Sizes.{stripMost}
 use Rattle.level.specs.Level.{Level, IsLevel}
 use Rattle.level.specs.Reading.{ReadNumbers, readingRecord, entering, mending, returned}
 use Rattle.level.specs.Writing.{writingLevel}
@@ -102,7 +103,7 @@ text-write-told l old new r E =
 pub strip-write-told : (l : Level) (old new : List ℕ) (r : ℕ) (E : StripExport 4 l old new r) → unpackedLength r ≡ writtenNumbers (E .answer)
 strip-write-told l old new r E =
     ap unpackedLength (E .is)
-    ∙ back-length (writtenNumbers (E .answer)) (written-room (writingLevel 384 l (length old)) (E .answer) tt (E .kept .code)
+    ∙ back-length (writtenNumbers (E .answer)) (written-room (writingLevel stripMost l (length old)) (E .answer) tt (E .kept .code)
     (λ z. omega (arith, E .kept .value z, record-fits l (written-strip-level 4 (omega arith) l old new (E .answer) (E .kept) z))))
 
 -- ---- levels read

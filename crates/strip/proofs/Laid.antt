@@ -14,6 +14,7 @@ use Rattle.rules.specs.Refusal.{First, asked}
 use Rattle.rules.specs.Placed.{Placed}
 use Rattle.dealt.specs.Lanes.{ChecksPut}
 use Rattle.code.specs.declared.word.Written.the-variants as written
+use Rattle.level.specs.Sizes.{stripMost}
 use Rattle.level.specs.Level.{Level, IsLevel, lending}
 use Rattle.level.specs.Record.{recordLength}
 use Rattle.level.specs.Strip.{columns, IsStrip}
@@ -113,10 +114,10 @@ module _ (R : ℕ) (some : 0 < R) (l : Level) (o x1 x2 x3 : List ℕ) (b k : ℕ
 -- ---- the writer's answers
 
 module _ (R : ℕ) (l : Level) (old : List ℕ) where
-  pub wrote-none : (c : ℕ) → (c ≡ 0 → ⊥) → First (writingLevel 384 l (length old)) c → StripWritesAs R l old old (written.Refused c)
+  pub wrote-none : (c : ℕ) → (c ≡ 0 → ⊥) → First (writingLevel stripMost l (length old)) c → StripWritesAs R l old old (written.Refused c)
   wrote-none c n f = record { code = f; value = λ z. absurd (n z); strip = λ z. absurd (n z); past = λ z. absurd (n z); kept = λ _. refl }
 
-  pub wrote-strip : (new : List ℕ) (c n : ℕ) → 384 ≤ length old → c ≡ 0 → First (asked (λ ask. ask l) lending) c → LaidAs R l old new n
+  pub wrote-strip : (new : List ℕ) (c n : ℕ) → stripMost ≤ length old → c ≡ 0 → First (asked (λ ask. ask l) lending) c → LaidAs R l old new n
       → StripWritesAs R l old new (written.Length n)
   wrote-strip new c n room z f L = record {
     code = inr (room, subst (First (asked (λ ask. ask l) lending)) z f);

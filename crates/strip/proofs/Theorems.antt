@@ -18,7 +18,7 @@ use Rattle.rules.proofs.Laws.{first-fixes, all-hold, after, hold-both, numbered
 use Rattle.code.specs.Word.{writtenNumbers}
 use Rattle.code.specs.declared.word.Written.{Written}
 use Rattle.code.proofs.Answers.{written-zero}
-use Rattle.level.specs.Sizes.{scratchLeast}
+use Rattle.level.specs.Sizes.{stripMost, scratchLeast}
 use Rattle.level.specs.Level.{Level, IsLevel, Counted, lending}
 use Rattle.level.specs.Record.{recordLength}
 use Rattle.level.specs.Strip.{columns, Legal, IsStrip, StripReach, Reached, Mendable, wrongIn, markedIn, mendedOf, repaintedOf, IsWear}
@@ -123,7 +123,7 @@ module _ (R : ℕ) (two : 2 ≤ R) where
   strip-reads-fixed s marks tiles t1 t2 u u' v v' a b eu A B =
       alike.read-once R some short scratchLeast scratchLeast s marks tiles t1 t2 u u' v v' (enough-alike u v eu) a b A B
 
-  -- FORMAT 10.10: nor has its length, or the length that is asked for, where it is long enough.
+  -- FORMAT 10.10: of two readers, one asks for x bytes of scratch and one for y, and each is lent enough: the same numbers and tile bytes.
   pub any-scratch : (x y : ℕ) (s marks tiles t1 t2 u u' v v' : List ℕ) (a b : Reading) → x ≤ length u → y ≤ length v
       → ReadsWith x R s marks tiles t1 u u' a → ReadsWith y R s marks tiles t2 v v' b → (t1 ≡ t2) × (stripNumbers a ≡ stripNumbers b)
   any-scratch x y s marks tiles t1 t2 u u' v v' a b hx hy A B =
@@ -147,11 +147,11 @@ module _ (R : ℕ) (two : 2 ≤ R) where
   )
     where
       codes : writtenNumbers a .code ≡ writtenNumbers b .code
-      codes = first-fixes (writingLevel 384 l (length old)) (writtenNumbers a .code) (writtenNumbers b .code) (A .code) (B .code)
+      codes = first-fixes (writingLevel stripMost l (length old)) (writtenNumbers a .code) (writtenNumbers b .code) (A .code) (B .code)
 
       same : writtenNumbers a .code ≡ 0 → u ≡ v
       same z =
-          let il = written-level l 384 (length old) (writtenNumbers a .code) z (A .code) .1 in
+          let il = written-level l stripMost (length old) (writtenNumbers a .code) z (A .code) .1 in
           sym (take-append-drop (stripLength R l) u)
           ∙ ap₂ (λ (x y : List ℕ). x ++ y)
           (levels.one-strip gf256 field256 R some l (take (stripLength R l) u) (take (stripLength R l) v) il
@@ -160,13 +160,13 @@ module _ (R : ℕ) (two : 2 ≤ R) where
           ∙ take-append-drop (stripLength R l) v
 
   -- FORMAT 8.16: each level is written, and nothing else is.
-  pub level-strip-written : (l : Level) (old new : List ℕ) (a : Written) → IsLevel l → 384 ≤ length old → StripWritesAs R l old new a
+  pub level-strip-written : (l : Level) (old new : List ℕ) (a : Written) → IsLevel l → stripMost ≤ length old → StripWritesAs R l old new a
       → writtenNumbers a .code ≡ 0
   level-strip-written l old new a il room A =
-      first-fixes (writingLevel 384 l (length old)) (writtenNumbers a .code) 0 (A .code) (level-written l 384 (length old) room il)
+      first-fixes (writingLevel stripMost l (length old)) (writtenNumbers a .code) 0 (A .code) (level-written l stripMost (length old) room il)
 
   pub written-strip-level : (l : Level) (old new : List ℕ) (a : Written) → StripWritesAs R l old new a → writtenNumbers a .code ≡ 0 → IsLevel l
-  written-strip-level l old new a A z = written-level l 384 (length old) (writtenNumbers a .code) z (A .code) .1
+  written-strip-level l old new a A z = written-level l stripMost (length old) (writtenNumbers a .code) z (A .code) .1
 
   -- ---- strips that we read, with buffers that are long enough
 
@@ -337,7 +337,7 @@ module _ (R : ℕ) (two : 2 ≤ R) where
   -- ones repainted.
   module _ (s marks tiles tiles' scratch scratch' : List ℕ) (a : Reading) (A : StripReadsAs R s marks tiles tiles' scratch scratch' a)
       (z : stripNumbers a .code ≡ 0) (old new : List ℕ) (b : Written) (W : StripWritesAs R (returned (stripNumbers a) tiles') old new b)
-      (room : 384 ≤ length old) where
+      (room : stripMost ≤ length old) where
     abbrev level : Level
     level = returned (stripNumbers a) tiles'
 

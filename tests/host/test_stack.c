@@ -205,11 +205,11 @@ static void check_stack(const struct entry *e)
 
     printf("   %s uses %zu bytes of stack\n", e->name, used);
     if (used > e->most)
-        group_fail("%s uses %zu bytes of stack, more than %zu", e->name, used,
-                   e->most);
+        group_fail("%s uses %zu bytes of stack, more than %zu: look for an "
+                   "array that came to stand there", e->name, used, e->most);
     if (used + SAVED <= e->most)
-        group_fail("%s uses %zu bytes of stack, and %zu leave too much room",
-                   e->name, used, e->most);
+        group_fail("%s uses %zu bytes of stack: lower its figure, %zu, here "
+                   "and in docs/C-INTERFACE.md", e->name, used, e->most);
 }
 
 /* The sanitizers put functions of their own in the place of memcpy and memset,

@@ -48,7 +48,8 @@ void put_lane(struct picture *p, size_t lane, const struct sample *s);
 void damage_lane(struct picture *p, size_t lane, size_t wrong, size_t marked,
                  enum under_mark under);
 
-/* Damage every lane, with 2e + f at most so much. */
+/* Damage every lane, with 2e + f at most so much: 6 or less, since the shortest
+   lanes have six cells. */
 void damage_lanes(struct picture *p, size_t most);
 
 /*

@@ -51,13 +51,14 @@ EnoughAlike x y u v = (x ≤ length u → y ≤ length v) × (y ≤ length v →
 module _ (R : ℕ) (some : 0 < R) (short : columns R 364 + 5 ≤ 255) (x y : ℕ) (r s marks tiles t1 t2 u u' v v' : List ℕ) (same : SameRead marks r s)
     (room : EnoughAlike x y u v) (a b : Reading) (A : ReadsWith x R r marks tiles t1 u u' a)
     (B : ReadsWith y R s marks tiles t2 v v' b) where
+  -- what is asked before each picture is looked at
   abbrev early-r : List Rule
   early-r = enteringWith x R r marks (length tiles) (length u)
 
   abbrev early-s : List Rule
   early-s = enteringWith y R s marks (length tiles) (length v)
 
-  -- the same is asked before the pictures are looked at
+  -- it is the same
   enter-alike : Alike early-r early-s
   enter-alike = (
     refl,

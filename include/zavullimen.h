@@ -1,10 +1,10 @@
 /*
  * zavullimen.h - the whole library: strips, records, texts, words and lanes.
  *
- * Games need zav_strip_write and zav_strip_read. C-INTERFACE.md has all
- * functions, the buffers and the packed results, FORMAT.md what each function
- * does and which refusals it gives. They are in docs/, and installed under
- * share/doc/zavullimen.
+ * Games need zav_strip_write and zav_strip_read, and zav_strip_pool if they have
+ * two pictures of one strip. C-INTERFACE.md has all functions, the buffers and
+ * the packed results, FORMAT.md what each function does and which refusals it
+ * gives. They are in docs/, and installed under share/doc/zavullimen.
  */
 #ifndef ZAVULLIMEN_H
 #define ZAVULLIMEN_H
@@ -12,6 +12,7 @@
 #include "zavullimen_words.h"
 #include "zavullimen_records.h"
 #include "zavullimen_strips.h"
+#include "zavullimen_pools.h"
 #include "zavullimen_texts.h"
 
 /*

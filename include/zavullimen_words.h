@@ -43,7 +43,8 @@ enum zav_result_code {
     ZAV_BAD_TILE = 9,
     ZAV_NOT_PLAYABLE = 10,
     ZAV_BAD_TEXT = 11,
-    ZAV_BAD_ROWS = 12
+    ZAV_BAD_ROWS = 12,
+    ZAV_UNEQUAL_STRIPS = 13
 };
 
 /* What a code says, for people; the text may change, the code does not. */
@@ -79,6 +80,8 @@ static inline const char *zav_refusal_text(unsigned code)
     case ZAV_BAD_ROWS:
         return "no row, more than 31 rows, or a longest row of 0 or of more "
                "than 31 tiles";
+    case ZAV_UNEQUAL_STRIPS:
+        return "the two strips have different lengths";
     default:
         return "unknown refusal";
     }
@@ -89,11 +92,11 @@ static inline const char *zav_refusal_text(unsigned code)
  * the function returns. The repairs and the strip reader have mended in bits
  * 31 to 36 and repainted in bits 37 to 43; the other fields of readers are in
  * the headers of their readers. The writers and the word test have a length in
- * bits 48 to 63, and nothing else. Readers have other fields in some of these
- * bits, so take a result apart by what its function returns: zav_length of a
- * reader's result means nothing, nor does a reader's field of a writer's. All
- * other bits are zero. With a refusal everything but the code is zero, and of a
- * strip beyond reach the lane.
+ * bits 48 to 63, and nothing else. Pooling has its four counts in bits 5 to 40.
+ * They share bits, so take a result apart by what its function returns:
+ * zav_length of a reader's result means nothing, nor does a reader's field of a
+ * writer's. All other bits are zero. With a refusal everything but the code is
+ * zero, and of a strip beyond reach the lane.
  */
 static inline unsigned zav_code(uint64_t result)
 {

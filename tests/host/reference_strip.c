@@ -1,7 +1,6 @@
 /* reference_strip.c - strips cell by cell, each from its place. */
 #include "reference_strip.h"
 
-#include <stdbool.h>
 #include <string.h>
 
 size_t ref_k_of(size_t record_len)
@@ -87,12 +86,12 @@ struct ref_result ref_strip_write(size_t width, size_t height, size_t par,
     return r;
 }
 
-static bool is_strip_len(size_t len)
+bool ref_is_strip_len(size_t len)
 {
     return len >= REF_STRIP_MIN && len <= REF_STRIP_MAX && len % REF_LANES == 0;
 }
 
-static bool has_bad_mark(const uint8_t *marks, size_t len)
+bool ref_has_bad_mark(const uint8_t *marks, size_t len)
 {
     for (size_t p = 0; p < len; p++)
         if (marks[p] != 0 && marks[p] != 1)
@@ -105,11 +104,11 @@ static unsigned refusal_at_entry(size_t strip_len, const uint8_t *marks,
                                  size_t marks_len, size_t tiles_len,
                                  size_t scratch_len)
 {
-    if (!is_strip_len(strip_len))
+    if (!ref_is_strip_len(strip_len))
         return 1;
     if (marks_len != strip_len)
         return 2;
-    if (has_bad_mark(marks, marks_len))
+    if (ref_has_bad_mark(marks, marks_len))
         return 3;
     if (tiles_len < REF_TILES_MAX)
         return 4;

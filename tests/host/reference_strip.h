@@ -4,11 +4,17 @@
 #ifndef REFERENCE_STRIP_H
 #define REFERENCE_STRIP_H
 
+#include <stdbool.h>
+
 #include "reference_record.h"
 
 enum { REF_LANES = 4, REF_STRIP_MIN = 24, REF_STRIP_MAX = 384,
        REF_SCRATCH_MIN = 96,
        REF_K_MAX = REF_STRIP_MAX / REF_LANES - REF_CHECK_BYTES };
+
+/* Whether a strip may be so long, and whether some mark is neither 0 nor 1. */
+bool ref_is_strip_len(size_t len);
+bool ref_has_bad_mark(const uint8_t *marks, size_t len);
 
 /* Data bytes in each lane of the strip for a record of so many bytes. */
 size_t ref_k_of(size_t record_len);

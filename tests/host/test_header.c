@@ -6,12 +6,13 @@
 
 #include "draw.h"
 #include "harness.h"
+#include "reference_pool.h"
 #include "reference_strip.h"
 #include "reference_text.h"
 #include "zavullimen.h"
 
-/* Readers and writers share bits, so each is unpacked by its own fields. In
-   both the bits of no field are first set and then clear, to see that the
+/* Readers, writers and pooling share bits, so each is unpacked by its own
+   fields. In all the bits of no field are first set and then clear, to see that the
    unpackers leave them out. */
 
 static const struct ref_result reader_set = {
@@ -78,13 +79,47 @@ static void test_writer_fields(void)
     group_end();
 }
 
+static const struct ref_pooling pool_set = {31, 511, 511, 511, 511};
+
+static struct ref_pooling draw_pooling(void)
+{
+    return (struct ref_pooling){.code = (unsigned)draw_below(32),
+                                .agreed = (unsigned)draw_below(512),
+                                .taken = (unsigned)draw_below(512),
+                                .in_conflict = (unsigned)draw_below(512),
+                                .marked_in_both = (unsigned)draw_below(512)};
+}
+
+static void check_pooling(struct ref_pooling r, uint64_t result)
+{
+    group_case();
+    check_number(zav_code(result), r.code, "code");
+    check_number(zav_agreed(result), r.agreed, "agreed");
+    check_number(zav_taken(result), r.taken, "taken");
+    check_number(zav_in_conflict(result), r.in_conflict, "in conflict");
+    check_number(zav_marked_in_both(result), r.marked_in_both,
+                 "marked in both");
+}
+
+static void test_pool_fields(void)
+{
+    group_begin("header", "unpackers of the counts of pooling");
+    for (size_t k = 0; k < scaled(30000); k++) {
+        const struct ref_pooling r = draw_pooling();
+
+        check_pooling(r, packed_pooling(r) | ~packed_pooling(pool_set));
+        check_pooling(r, packed_pooling(r));
+    }
+    group_end();
+}
+
 /* Each refusal has words of its own, and no other number has any. */
 static void test_texts(void)
 {
     static const char unknown[] = "unknown refusal";
 
     group_begin("header", "refusals in words");
-    for (unsigned code = 0; code <= 12; code++)
+    for (unsigned code = 0; code <= 13; code++)
         for (unsigned other = 0; other <= 300; other++) {
             const bool same = strcmp(zav_refusal_text(code),
                                      zav_refusal_text(other)) == 0;
@@ -93,7 +128,7 @@ static void test_texts(void)
             if (same != (code == other))
                 group_fail("%u and %u: the same words or not", code, other);
         }
-    for (unsigned code = 13; code <= 300; code++)
+    for (unsigned code = 14; code <= 300; code++)
         if (strcmp(zav_refusal_text(code), unknown) != 0)
             group_fail("%u is no refusal, and has words", code);
     if (strcmp(zav_refusal_text(0), "no refusal") != 0)
@@ -151,5 +186,6 @@ void test_header(void)
     test_sizes();
     test_reader_fields();
     test_writer_fields();
+    test_pool_fields();
     test_texts();
 }

@@ -2,7 +2,7 @@
 #include "test_huge.h"
 
 #include "harness.h"
-#include "reference_strip.h"
+#include "reference_pool.h"
 #include "test_repair.h"
 #include "test_writer.h"
 #include "zavullimen.h"
@@ -72,9 +72,10 @@ static void check_huge_writer(const struct writer *entry, uint8_t *zeros,
                  "buffer");
 }
 
-/* The buffers of the strip reader. */
+/* The buffers of the strip reader, and a second picture. */
 struct stretch {
     uint8_t *strip, *marks, *tiles, *scratch;
+    uint8_t *second, *second_marks;
 };
 
 struct lengths {
@@ -89,6 +90,38 @@ static void check_huge_strip(struct stretch s, struct lengths len)
                  packed(ref_strip_read(s.strip, len.strip, s.marks, len.marks,
                                        s.tiles, len.tiles, len.scratch)),
                  "strip reader");
+}
+
+/* Zeros pooled with zeros, and a length that would fit the others if it were
+   cut. */
+static void check_huge_pool(struct stretch s, const size_t len[6])
+{
+    const struct ref_picture first = {s.strip, len[0], s.marks, len[1]};
+    const struct ref_picture second = {s.second, len[2], s.second_marks,
+                                       len[3]};
+
+    group_case();
+    check_number(zav_strip_pool(s.strip, len[0], s.marks, len[1], s.second,
+                                len[2], s.second_marks, len[3], s.tiles,
+                                len[4], s.scratch, len[5]),
+                 packed_pooling(ref_strip_pool(&first, &second, s.tiles,
+                                               len[4], s.scratch, len[5])),
+                 "pooling");
+}
+
+/* Each length by itself, and those of both pictures together. */
+static void check_huge_lengths_of_pool(struct stretch s, size_t past)
+{
+    const size_t pictures[6] = {past + 24, past + 24, past + 24, past + 24,
+                                24, 24};
+
+    check_huge_pool(s, pictures);
+    for (size_t k = 0; k < 6; k++) {
+        size_t len[6] = {24, 24, 24, 24, 24, 24};
+
+        len[k] += past;
+        check_huge_pool(s, len);
+    }
 }
 
 /* Each length by itself, and strip and marks together. */
@@ -121,6 +154,7 @@ static void check_past(struct stretch s, size_t past)
     for (size_t e = 0; e < WRITERS; e++)
         check_huge_writer(&writers[e], s.strip, s.tiles, past);
     check_huge_lengths_of_strip(s, past);
+    check_huge_lengths_of_pool(s, past);
 }
 
 /* All are zeros. Only the scratch is written to, as every call is refused. */
@@ -130,7 +164,8 @@ void test_huge(void)
                                   (size_t)1 << 31, (size_t)1 << 32};
     const size_t most = ((size_t)1 << 32) + 4096;
     const struct stretch s = {map_zeros(most), map_zeros(most),
-                              map_zeros(most), map_scratch(most)};
+                              map_zeros(most), map_scratch(most),
+                              map_zeros(most), map_zeros(most)};
 
     group_begin("all entries", "lengths past 2^8, 2^16, 2^31 and 2^32");
     for (size_t k = 0; k < COUNT(past); k++)
@@ -140,4 +175,6 @@ void test_huge(void)
     unmap_long(s.marks, most);
     unmap_long(s.tiles, most);
     unmap_long(s.scratch, most);
+    unmap_long(s.second, most);
+    unmap_long(s.second_marks, most);
 }

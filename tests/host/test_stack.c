@@ -17,7 +17,7 @@
 
 /* ---- what the entries are given, here and not on the stack that is painted */
 
-static struct picture picture;
+static struct picture picture, other;
 static struct board board;
 static struct sample word;
 static struct typed text;
@@ -40,6 +40,14 @@ static void draw_picture(void)
         picture_board(&picture, &board);
     }
     damage_lanes(&picture, draw_below(DAMAGE_MAX + 1));
+}
+
+/* Two of one length. */
+static void draw_pictures(void)
+{
+    draw_picture();
+    other = picture;
+    draw_bytes(other.strip, draw_below(other.strip_len));
 }
 
 static void draw_record(void)
@@ -92,6 +100,14 @@ static void call_strip_read(void)
     zav_strip_read(picture.strip, picture.strip_len, picture.marks,
                    picture.marks_len, tiles, sizeof tiles, scratch,
                    sizeof scratch);
+}
+
+static void call_strip_pool(void)
+{
+    zav_strip_pool(picture.strip, picture.strip_len, picture.marks,
+                   picture.marks_len, other.strip, other.strip_len,
+                   other.marks, other.marks_len, out, picture.strip_len,
+                   tiles, picture.strip_len);
 }
 
 static void call_record_write(void)
@@ -166,6 +182,7 @@ struct entry {
 static const struct entry entries[] = {
     {"zav_strip_write", 600, draw_record, call_strip_write},
     {"zav_strip_read", 3000, draw_picture, call_strip_read},
+    {"zav_strip_pool", 300, draw_pictures, call_strip_pool},
     {"zav_record_write", 300, draw_record, call_record_write},
     {"zav_record_read", 400, draw_record, call_record_read},
     {"zav_text_write", 400, draw_record, call_text_write},

@@ -14,6 +14,7 @@
 #include "reference.h"
 #include "test_header.h"
 #include "test_huge.h"
+#include "test_pool.h"
 #include "test_record.h"
 #include "test_repair.h"
 #include "test_stack.h"
@@ -420,6 +421,7 @@ int main(int argc, char **argv)
     test_strip_damage();
     test_strip_wild();
     test_stickers();
+    test_pool();
     test_stack();
     test_huge();
     return groups_finish();

@@ -38,6 +38,27 @@ static void print_read(const uint8_t *strip, size_t len, const size_t *wrong,
                          scratch, sizeof scratch));
 }
 
+/* FORMAT 15.10; and the same, with a mark buffer or a second strip of another
+ * length. */
+static void print_pools(const uint8_t *strip)
+{
+    enum { LEN = 24, LONGER = 28 };
+    static const uint8_t marks[LEN] = {1, 1}, other[LONGER] = {0, 1, 0, 0, 0, 1};
+    uint8_t first[LEN], second[LONGER] = {0}, cells[LEN], out[LEN + 1];
+
+    memcpy(first, strip, LEN);
+    memcpy(second, strip, LEN);
+    first[0] = first[1] = 0xFF;
+    second[1] = second[5] = 0x00;
+    second[3] = 0x59;
+    print(zav_strip_pool(first, LEN, marks, LEN, second, LEN, other, LEN,
+                         cells, LEN, out, LEN));
+    print(zav_strip_pool(first, LEN, marks, LEN, second, LEN, other, LEN,
+                         cells, LEN, out, LEN + 1));
+    print(zav_strip_pool(first, LEN, marks, LEN, second, LONGER, other, LONGER,
+                         cells, LEN, out, LEN));
+}
+
 int main(void)
 {
     static const uint8_t level[] = {2, 6}, finished[] = {4, 5};
@@ -67,5 +88,6 @@ int main(void)
     print(zav_strip_write(2, 1, 5, finished, 2, bytes, sizeof bytes));
     print_read(finished_strip, sizeof finished_strip, front, 0, none,
                sizeof finished_strip);
+    print_pools(bytes);
     return 0;
 }

@@ -1,6 +1,7 @@
 /*
- * recipe.c - the lines of docs/C-INTERFACE.md that draw a mended strip, tried
- * on the level of FORMAT 12.13. recipe.h has them as they stand on the page.
+ * recipe.c - the lines of docs/C-INTERFACE.md that draw a mended strip and read
+ * two pictures, tried on the level of FORMAT 12.13. recipe.h has them as they
+ * stand on the page.
  */
 #include "recipe.h"
 
@@ -62,6 +63,42 @@ static bool refuses(void)
            memcmp(strip, before, LEN) == 0;
 }
 
+/* A picture of the strip in which a whole lane is covered and marked. */
+struct covered {
+    uint8_t cells[LEN], marks[LEN];
+};
+
+static struct covered cover(size_t lane)
+{
+    struct covered c = {.marks = {0}};
+
+    memcpy(c.cells, written, LEN);
+    for (size_t p = lane; p < LEN; p += ZAV_STRIP_LANES) {
+        c.cells[p] = 0xEE;
+        c.marks[p] = 1;
+    }
+    return c;
+}
+
+static uint64_t read_pair(const struct covered *a, const struct covered *b,
+                          size_t b_len, uint8_t tiles[ZAV_TILES_MAX])
+{
+    return read_both(a->cells, a->marks, LEN, b->cells, b->marks, b_len, tiles);
+}
+
+/* One picture with a copy of itself is beyond reach; with one that is covered
+ * elsewhere it is read; with one of another length it is not pooled. */
+static bool pools(void)
+{
+    const struct covered a = cover(0), b = cover(1), copy = a;
+    uint8_t tiles[ZAV_TILES_MAX];
+
+    return zav_code(read_pair(&a, &copy, LEN, tiles)) == ZAV_BEYOND_REACH &&
+           zav_code(read_pair(&a, &b, LEN - 1, tiles)) == ZAV_BAD_LENGTH &&
+           zav_code(read_pair(&a, &b, LEN, tiles)) == ZAV_DONE &&
+           tiles[0] == 2 && tiles[1] == 6;
+}
+
 int main(void)
 {
     static const uint8_t level[] = {2, 6};
@@ -74,6 +111,10 @@ int main(void)
     }
     if (!refuses()) {
         puts("a strip beyond reach is drawn");
+        return 1;
+    }
+    if (!pools()) {
+        puts("two pictures are not read as they ought to be");
         return 1;
     }
     return 0;

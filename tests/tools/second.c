@@ -4,8 +4,11 @@
  * second show FILE prints what zavshow must print, and ends as it must; second
  * text FILE the same for zavshow --text, second strip FILE for zavshow --strip,
  * and second make FILE for zavmake.
+ * second pool FILE FILE... writes what zavpool must write, and says the counts
+ * on standard error.
  * second draw FOLDER COUNT writes so many files for zavshow and zavscan to
- * read, and second type FOLDER COUNT so many texts for zavmake.
+ * read, second type FOLDER COUNT so many texts for zavmake, and second cover
+ * FOLDER COUNT so many times three pictures of a strip for zavpool.
  */
 #include <stdio.h>
 #include <stdlib.h>
@@ -13,6 +16,7 @@
 
 #include "boards.h"
 #include "draw.h"
+#include "reference_pool.h"
 #include "typed.h"
 
 enum { BYTES_ROOM = 2 * REF_STRIP_MAX + 1 };
@@ -243,6 +247,79 @@ static int draw_file(const char *folder, size_t number)
     return put(folder, number, "cells", f.bytes, f.len);
 }
 
+/* ---- pool ---- */
+
+static struct ref_picture picture_of(const struct file *f)
+{
+    const size_t cells = f->len / 2;
+
+    return (struct ref_picture){f->bytes, cells, f->bytes + cells, cells};
+}
+
+/* A picture; that it gives a level by itself is said. */
+static void take_picture(struct file *f, const char *path)
+{
+    uint8_t tiles[REF_TILES_MAX];
+
+    f->len = take(path, f->bytes, sizeof f->bytes);
+    if (judge(f->bytes, f->len, tiles).code == 0)
+        fprintf(stderr, "%s: gives a level by itself\n", path);
+}
+
+/* The file takes in the next; false if that is refused. */
+static bool pool_with(struct file *all, const char *before, const char *path)
+{
+    struct file next, out = {.len = all->len};
+
+    take_picture(&next, path);
+
+    const struct ref_picture a = picture_of(all), b = picture_of(&next);
+    const size_t cells = all->len / 2;
+    const struct ref_pooling r =
+        ref_strip_pool(&a, &b, out.bytes, cells, out.bytes + cells, cells);
+
+    if (next.len % 2 != 0 || r.code != 0)
+        return false;
+    *all = out;
+    fprintf(stderr, "%s with %s: %u cells agreed, %u taken from one, %u in "
+            "conflict, %u marked in both\n", before, path, r.agreed, r.taken,
+            r.in_conflict, r.marked_in_both);
+    return true;
+}
+
+static int pool(int count, char **paths)
+{
+    struct file all;
+
+    take_picture(&all, paths[0]);
+    if (all.len % 2 != 0)
+        return 1;
+    for (int i = 1; i < count; i++)
+        if (!pool_with(&all, i == 1 ? paths[0] : "pooled", paths[i]))
+            return 1;
+    fwrite(all.bytes, 1, all.len, stdout);
+    return 0;
+}
+
+/* Three pictures of one strip, each with damage of its own. */
+static int cover_strip(const char *folder, size_t number)
+{
+    static const char *const ends[] = {"a.cells", "b.cells", "c.cells"};
+    struct file strip;
+    int failed = 0;
+
+    draw_strip(&strip);
+    for (size_t i = 0; i < 3; i++) {
+        struct file f = strip;
+
+        damage(&f);
+        failed |= put(folder, number, ends[i], f.bytes, f.len);
+    }
+    return failed;
+}
+
+/* ---- */
+
 static int draw_files(const char *folder, size_t count,
                       int (*draw)(const char *folder, size_t number))
 {
@@ -264,12 +341,15 @@ int main(int argc, char **argv)
     static const struct {
         const char *name;
         int (*draw)(const char *folder, size_t number);
-    } drawings[] = {{"draw", draw_file}, {"type", type_file}};
+    } drawings[] = {{"draw", draw_file}, {"type", type_file},
+                    {"cover", cover_strip}};
 
     for (size_t i = 0; i < 4; i++)
         if (argc == 3 && strcmp(argv[1], sayings[i].name) == 0)
             return sayings[i].say(argv[2]);
-    for (size_t i = 0; i < 2; i++)
+    if (argc > 3 && strcmp(argv[1], "pool") == 0)
+        return pool(argc - 2, argv + 2);
+    for (size_t i = 0; i < 3; i++)
         if (argc == 4 && strcmp(argv[1], drawings[i].name) == 0)
             return draw_files(argv[2], strtoul(argv[3], NULL, 10),
                               drawings[i].draw);

@@ -8,7 +8,7 @@ use level::STRIP_MOST;
 use level::TILES_MOST;
 
 // A strip's length is legal.
-fn legal(n: usize) -> bool
+pub fn legal(n: usize) -> bool
     ensures { λ r. ⌜ Says r (Legal 4 n) ⌝ }
 {
     if n < STRIP_LEAST {

@@ -2,7 +2,7 @@
 use mathlib.Core.Path.{_≡_, refl, ap, _∙_}
 use mathlib.Core.Logic.{_≢_}
 use mathlib.Core.List.{List, _++_}
-use Prim.Native.Nat.{ℕ, _<_}
+use Prim.Native.Nat.{ℕ, _+_, _<_}
 use native.Mathlib.Decide.{ℕ-discrete}
 use native.Mathlib.Omega.{arith}
 use lib.Dec.{T}
@@ -33,9 +33,12 @@ use Rattle.strip.specs.declared.read.Reading.{Reading}
 use Rattle.strip.proofs.Laid.{record-fits}
 use Rattle.strip.proofs.Reader.{zeros}
 use Rattle.strip.proofs.Theorems.{written-strip-level, mended-most, repainted-most, wear-most}
-use Rattle.packing.specs.Packed.{unpackedLength, unpackedRead, unpackedRepair}
-use Rattle.packing.proofs.Rooms.{Room, ReadRoom, back-length, back-read, back-repair}
-use Rattle.host.specs.Export.{WriteExport, TestExport, RepairExport, RecordExport, RecordReadExport, TextExport, TextReadExport, StripExport, StripReadExport}
+use Rattle.pool.specs.declared.Pooling.{Pooling}
+use Rattle.pool.specs.Pooled.{Picture, Kind, agreed, taken, conflict, both, poolNumbers, told, pooling, PoolsAs}
+use Rattle.pool.proofs.Theorems.{pool-zeros, counts-add-up}
+use Rattle.packing.specs.Packed.{unpackedLength, unpackedRead, unpackedRepair, unpackedPool}
+use Rattle.packing.proofs.Rooms.{Room, ReadRoom, PoolRoom, back-length, back-read, back-repair, back-pool}
+use Rattle.host.specs.Export.{WriteExport, TestExport, RepairExport, RecordExport, RecordReadExport, TextExport, TextReadExport, StripExport, StripReadExport, PoolExport}
 
 -- a refusal has room
 few : (rs : List Rule) (c : ℕ) → T (between 1 31 rs) → First rs c → c < 32
@@ -201,3 +204,40 @@ pub strip-read-told : (s marks tiles tiles' scratch scratch' : List ℕ) (r : �
     → unpackedRead r ≡ stripNumbers (E .answer)
 strip-read-told s marks tiles tiles' scratch scratch' r E =
     ap unpackedRead (E .is) ∙ back-read (stripNumbers (E .answer)) (strip-room s marks tiles tiles' scratch scratch' (E .answer) (E .kept))
+
+-- ---- pictures pooled
+
+module _ (a b out out' : Picture) (r : Pooling) (P : PoolsAs 4 a b out out' r) where
+  -- no count is past the longest strip's cells
+  pool-small : (k : Kind) → told (poolNumbers r) k < 512
+  pool-small k = either (told (poolNumbers r) k < 512) (poolNumbers r .code) (λ z. within z k) (λ n. omega (arith, pool-zeros r n k))
+    where
+      within : poolNumbers r .code ≡ 0 → (j : Kind) → told (poolNumbers r) j < 512
+      within z j = go j
+        where
+          sum : poolNumbers r .agreed + poolNumbers r .taken + poolNumbers r .conflict + poolNumbers r .both ≡ length (a .cells)
+          sum = counts-add-up 4 a b out' (record { out = out; answer = r; promise = P; done = z })
+
+          most : length (a .cells) < 512
+          most =
+              let h = all-hold 13 (pooling 4 a b (length (out .cells)) (length (out .marks))) (poolNumbers r .code) tt (P .code) z .0 .0 in
+              omega (arith, h .to, h .cells)
+
+          go : (i : Kind) → told (poolNumbers r) i < 512
+          go agreed = omega (arith, sum, most)
+          go taken = omega (arith, sum, most)
+          go conflict = omega (arith, sum, most)
+          go both = omega (arith, sum, most)
+
+  pool-room : PoolRoom (poolNumbers r)
+  pool-room = record {
+    code = few (pooling 4 a b (length (out .cells)) (length (out .marks))) (poolNumbers r .code) tt (P .code);
+    agreed = pool-small agreed;
+    taken = pool-small taken;
+    conflict = pool-small conflict;
+    both = pool-small both;
+  }
+
+pub strip-pool-told : (a b out out' : Picture) (r : ℕ) (E : PoolExport 4 a b out out' r) → unpackedPool r ≡ poolNumbers (E .answer)
+strip-pool-told a b out out' r E =
+    ap unpackedPool (E .is) ∙ back-pool (poolNumbers (E .answer)) (pool-room a b out out' (E .answer) (E .kept))

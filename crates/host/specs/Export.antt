@@ -12,7 +12,8 @@ use Rattle.text.specs.Writing.{TextWritesAs}
 use Rattle.text.specs.Reading.{TextReadsAs}
 use Rattle.strip.specs.Writing.{StripWritesAs}
 use Rattle.strip.specs.Reading.{stripNumbers, StripReadsAs}
-use Rattle.packing.specs.Packed.{packedLength, packedRead, packedRepair}
+use Rattle.pool.specs.Pooled.{Picture, poolNumbers, PoolsAs}
+use Rattle.packing.specs.Packed.{packedLength, packedRead, packedRepair, packedPool}
 
 -- r is the packing of an answer that keeps the entry's promise
 pub record Export {A : Type 0} (keeps : A → Type 0) (packed : A → ℕ) (r : ℕ) : Type 0 where
@@ -47,3 +48,6 @@ StripExport R l old new = Export (StripWritesAs R l old new) (λ a. packedLength
 
 abbrev pub StripReadExport : ℕ → List ℕ → List ℕ → List ℕ → List ℕ → List ℕ → List ℕ → ℕ → Type 0
 StripReadExport R s marks tiles tiles' scratch scratch' = Export (StripReadsAs R s marks tiles tiles' scratch scratch') (λ a. packedRead (stripNumbers a))
+
+abbrev pub PoolExport : ℕ → Picture → Picture → Picture → Picture → ℕ → Type 0
+PoolExport R a b out out' = Export (PoolsAs R a b out out') (λ r. packedPool (poolNumbers r))

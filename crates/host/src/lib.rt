@@ -7,8 +7,9 @@ ghost use Rattle.gf256.specs.Gf256.{gf256, times};
 ghost use Rattle.code.specs.Word.{wordMost};
 ghost use Rattle.code.specs.Lane.{laneMost, wordOf};
 ghost use Rattle.level.specs.Writing.{lent};
+ghost use Rattle.pool.specs.Pooled.{photo};
 ghost use Rattle.packing.specs.Packed.{packedSums};
-ghost use Rattle.host.specs.Export.{WriteExport, TestExport, RepairExport, RecordExport, RecordReadExport, TextExport, TextReadExport, StripExport, StripReadExport};
+ghost use Rattle.host.specs.Export.{WriteExport, TestExport, RepairExport, RecordExport, RecordReadExport, TextExport, TextReadExport, StripExport, StripReadExport, PoolExport};
 use code::lane::LANE_MOST;
 use code::lane::Lane;
 use code::repair::Repaired;
@@ -191,4 +192,19 @@ pub extern "C" fn zav_strip_read(
     ensures { λ r. ⌜ StripReadExport 4 (now (strip .entry)) (now (marks .entry)) (now (tiles .entry)) (now (tiles .exit)) (now (scratch .entry)) (now (scratch .exit)) r ⌝ }
 {
     packing::pack_reading(strip::read::read(strip, marks, tiles, scratch))
+}
+
+// Pools two pictures of a strip.
+#[no_mangle]
+pub extern "C" fn zav_strip_pool(
+    first: &[u8],
+    first_marks: &[u8],
+    second: &[u8],
+    second_marks: &[u8],
+    cells: &mut [u8],
+    marks: &mut [u8],
+) -> u64
+    ensures { λ r. ⌜ PoolExport 4 (photo (now (first .entry)) (now («first_marks» .entry))) (photo (now (second .entry)) (now («second_marks» .entry))) (photo (now (cells .entry)) (now (marks .entry))) (photo (now (cells .exit)) (now (marks .exit))) r ⌝ }
+{
+    packing::pack_pooling(pool::pool(first, first_marks, second, second_marks, cells, marks))
 }

@@ -1,5 +1,5 @@
 -- Counts over the lanes: a sum over lanes is a count over cells; what is mended and repainted is little.
-use mathlib.Core.Path.{_≡_, refl, sym, ap, ap₂, _∙_, subst}
+use mathlib.Core.Path.{_≡_, refl, sym, ap, ap₂, _∙_}
 use mathlib.Core.Bool.{Bool, not}
 use mathlib.Core.Logic.{_⊎_, inl, inr, ⊎-elim}
 use mathlib.Core.List.{List}
@@ -14,7 +14,7 @@ use Rattle.account.specs.Reach.{oneIf, and, countTo, isMarked, differsAt, diffe
 use Rattle.account.proofs.Cells.{count-cong}
 use Rattle.account.proofs.Theorems.{repainted-marked}
 use Rattle.account.proofs.Lanes.{length-lane, getD-lane, columns-of}
-use Rattle.rules.proofs.Numbers.{lt-or-ge}
+use Rattle.rules.proofs.Numbers.{lt-or-ge, all-or-one}
 use Rattle.level.specs.Strip.{columns, Legal, StripReach, wrongIn, markedIn, mendedOf, repaintedIn, repaintedOf, IsWear}
 use Rattle.level.proofs.Nearest.{nearest-most}
 
@@ -40,15 +40,8 @@ sum-most (suc R) b f h = omega (arith, mul-suc b R, sum-most R b f (λ j l. h j 
 
 -- where none is above one more than b, none is above b, or one is that
 pub most-or-one : (R b : ℕ) (f : ℕ → ℕ) → ((j : ℕ) → j < R → f j ≤ suc b) → ((j : ℕ) → j < R → f j ≤ b) ⊎ ((j : ℕ) × (j < R) × (f j ≡ suc b))
-most-or-one zero b f h = inl (λ j l. absurd (omega arith))
-most-or-one (suc R) b f h = go (most-or-one R b f (λ j l. h j (omega arith))) (lt-or-ge b (f R))
-  where
-    go : ((j : ℕ) → j < R → f j ≤ b) ⊎ ((j : ℕ) × (j < R) × (f j ≡ suc b)) → (b < f R) ⊎ (f R ≤ b)
-        → ((j : ℕ) → j < suc R → f j ≤ b) ⊎ ((j : ℕ) × (j < suc R) × (f j ≡ suc b))
-    go (inr x) y = inr (x .0, omega (arith, x .1), x .2)
-    go (inl m) (inl y) = inr (R, omega arith, omega (arith, h R (omega arith)))
-    go (inl m) (inr y) =
-        inl (λ j l. ⊎-elim (m j) (λ k. let e : R ≡ j = omega arith in subst (λ (x : ℕ). f x ≤ b) e y) (lt-or-ge j R))
+most-or-one R b f h =
+    all-or-one R (λ j. f j ≤ b) (λ j. f j ≡ suc b) (λ j l. ⊎-elim (λ y. inr (omega (arith, h j l))) (λ y. inl y) (lt-or-ge b (f j)))
 
 -- n cells after the first a
 count-more : (f : ℕ → Bool) (a n : ℕ) → countTo f (a + n) ≡ countTo f a + sumOf n (λ j. oneIf (f (a + j)))

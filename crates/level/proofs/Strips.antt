@@ -1,13 +1,17 @@
 -- Strips and reach, over the field and the lane count.
 use mathlib.Core.Path.{_≡_, sym, ap, _∙_, subst}
+use mathlib.Core.Logic.{_⊎_, inl, inr, ⊎-elim}
 use Prim.Native.Nat.{ℕ, _+_, _*_, _-_, _/_, _≤_, _<_}
 use native.Mathlib.Omega.{arith}
-use mathlib.Core.List.{List}
+use mathlib.Core.List.{List, []}
 use lib.ListN.{length}
 use Rattle.account.specs.Field.{Ops, IsField}
+use Rattle.account.specs.Code.{Cells, Clean}
+use Rattle.account.specs.Reach.{differing}
 use Rattle.account.specs.Lanes.{lane}
 use Rattle.account.proofs.Lanes.{length-lane, bytes-lane, columns-of, ext-lanes}
-use Rattle.account.proofs.Theorems.{one-in-reach, none-at-six}
+use Rattle.account.proofs.Theorems.{six-apart, one-in-reach, none-at-six}
+use Rattle.rules.proofs.Numbers.{all-or-one}
 use Rattle.level.specs.Level.{Level, IsLevel}
 use Rattle.level.specs.Record.{recordLength}
 use Rattle.level.specs.Strip.{columns, Dealt, IsStrip, Reached, Mends, Mendable, wrongIn, markedIn}
@@ -35,6 +39,17 @@ module _ (O : Ops) (F : IsField O) (R : ℕ) (some : 0 < R) where
   pub strip-injective : (l m : Level) (s : List ℕ) → IsLevel l → IsLevel m → IsStrip O R l s → IsStrip O R m s → l ≡ m
   strip-injective l m s il im a b =
       same-bytes l m (a .bs) (b .bs) il im (a .is-record) (b .is-record) (same-cells O F R some (a .bs) (b .bs) s (a .dealt) (b .dealt))
+
+  -- two strips of one length, each lane a clean word, are the same, or differ in six cells or more of some lane
+  pub lane-apart : (t u : List ℕ) (m : ℕ) → length t ≡ R * m → length u ≡ length t → m ≤ order → Cells O t → Cells O u
+      → ((j : ℕ) → j < R → Clean O (lane R j t)) → ((j : ℕ) → j < R → Clean O (lane R j u))
+      → (t ≡ u) ⊎ ((j : ℕ) × (j < R) × (6 ≤ differing [] (lane R j u) (lane R j t)))
+  lane-apart t u m full same short ct cu clt clu =
+      ⊎-elim (λ all. inl (ext-lanes R some t u m full same (λ j h. sym (all j h)))) inr
+      (all-or-one R (λ j. lane R j u ≡ lane R j t) (λ j. 6 ≤ differing [] (lane R j u) (lane R j t))
+      (λ j h. six-apart O F (lane R j u) (lane R j t) (omega (arith, length-lane R some j u, columns-of R some u m (same ∙ full)))
+      (length-lane R some j t ∙ ap (λ (n : ℕ). n / R) (sym same) ∙ sym (length-lane R some j u)) (bytes-lane R some O j u h cu) (bytes-lane R some O j t h ct)
+      (clu j h) (clt j h)))
 
   -- a level's strip within reach is what the strip is mended to
   pub reached-mends : (marks s : List ℕ) (l : Level) (t : List ℕ) → Reached O R marks s l t → Mends O R marks s t

@@ -5,7 +5,8 @@ use native.Mathlib.Omega.{arith}
 use Rattle.rules.specs.Refusal.{Numbers}
 use Rattle.code.specs.Repair.{RepairNumbers}
 use Rattle.level.specs.Reading.{ReadNumbers}
-use Rattle.packing.specs.Packed.{packedLength, packedRead, asRead, packedRepair, unpackedLength, unpackedRead, unpackedRepair}
+use Rattle.pool.specs.Pooled.{PoolNumbers}
+use Rattle.packing.specs.Packed.{packedLength, packedRead, asRead, packedRepair, packedPool, unpackedLength, unpackedRead, unpackedRepair, unpackedPool}
 
 -- ---- packing and unpacking lose nothing
 
@@ -22,6 +23,13 @@ pub record ReadRoom (n : ReadNumbers) : Type 0 where
   pub mended : n .mended < 64
   pub repainted : n .repainted < 128
   pub wear : n .wear < 64
+
+pub record PoolRoom (n : PoolNumbers) : Type 0 where
+  pub code : n .code < 32
+  pub agreed : n .agreed < 512
+  pub taken : n .taken < 512
+  pub conflict : n .conflict < 512
+  pub both : n .both < 512
 
 abbrev numbers : ℕ → ℕ → Numbers
 numbers c v = record { code = c; value = v }
@@ -100,3 +108,31 @@ back-repair n c m d = ap (λ (x : ReadNumbers). repair (x .code) (x .mended) (x 
       repainted = d;
       wear = omega arith;
     }
+
+abbrev counts : ℕ → ℕ → ℕ → ℕ → ℕ → PoolNumbers
+counts c a t k m = record { code = c; agreed = a; taken = t; conflict = k; both = m }
+
+module _ (n : PoolNumbers) (h : PoolRoom n) where
+  plain-pool : packedPool n ≡ n .code + n .agreed * 32 + n .taken * 16384 + n .conflict * 8388608 + n .both * 4294967296
+  plain-pool = omega (arith, h .code, h .agreed, h .taken, h .conflict, h .both)
+
+  pub back-pool : unpackedPool (packedPool n) ≡ n
+  back-pool =
+      ap₂ (λ (x y : ℕ). counts x y (packedPool n / 2 ^ 14 % 512) (packedPool n / 2 ^ 23 % 512) (packedPool n / 2 ^ 32 % 512)) c a
+      ∙ ap₂ (λ (x y : ℕ). counts (n .code) (n .agreed) x y (packedPool n / 2 ^ 32 % 512)) t k
+      ∙ ap (counts (n .code) (n .agreed) (n .taken) (n .conflict)) m
+    where
+      c : packedPool n % 32 ≡ n .code
+      c = ap (λ (x : ℕ). x % 32) plain-pool ∙ omega (arith, h .code)
+
+      a : packedPool n / 2 ^ 5 % 512 ≡ n .agreed
+      a = ap (λ (x : ℕ). x / 32 % 512) plain-pool ∙ omega (arith, h .code, h .agreed)
+
+      t : packedPool n / 2 ^ 14 % 512 ≡ n .taken
+      t = ap (λ (x : ℕ). x / 16384 % 512) plain-pool ∙ omega (arith, h .code, h .agreed, h .taken)
+
+      k : packedPool n / 2 ^ 23 % 512 ≡ n .conflict
+      k = ap (λ (x : ℕ). x / 8388608 % 512) plain-pool ∙ omega (arith, h .code, h .agreed, h .taken, h .conflict)
+
+      m : packedPool n / 2 ^ 32 % 512 ≡ n .both
+      m = ap (λ (x : ℕ). x / 4294967296 % 512) plain-pool ∙ omega (arith, h .code, h .agreed, h .taken, h .conflict, h .both)

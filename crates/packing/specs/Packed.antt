@@ -5,6 +5,7 @@ use lib.ListN.{getD}
 use Rattle.rules.specs.Refusal.{Numbers}
 use Rattle.code.specs.Repair.{RepairNumbers}
 use Rattle.level.specs.Reading.{ReadNumbers}
+use Rattle.pool.specs.Pooled.{PoolNumbers}
 
 -- code in bits 0 to 4, and a length, or whether a word is clean, in bits 48 to 63
 abbrev pub packedLength : Numbers → ℕ
@@ -23,6 +24,10 @@ asRead n = record { code = n .code; lane = 0; width = 0; height = 0; par = 0; me
 abbrev pub packedRepair : RepairNumbers → ℕ
 packedRepair n = packedRead (asRead n)
 
+-- the numbers of pooling: code in bits 0 to 4, agreed from 5, taken from 14, conflict from 23, both from 32
+abbrev pub packedPool : PoolNumbers → ℕ
+packedPool n = n .code % 32 + n .agreed % 512 * 2 ^ 5 + n .taken % 512 * 2 ^ 14 + n .conflict % 512 * 2 ^ 23 + n .both % 512 * 2 ^ 32
+
 -- the numbers taken out again, as the header does
 abbrev pub unpackedLength : ℕ → Numbers
 unpackedLength r = record { code = r % 32; value = r / 2 ^ 48 % 65536 }
@@ -40,6 +45,15 @@ unpackedRead r = record {
   mended = r / 2 ^ 31 % 64;
   repainted = r / 2 ^ 37 % 128;
   wear = r / 2 ^ 44 % 64;
+}
+
+abbrev pub unpackedPool : ℕ → PoolNumbers
+unpackedPool r = record {
+  code = r % 32;
+  agreed = r / 2 ^ 5 % 512;
+  taken = r / 2 ^ 14 % 512;
+  conflict = r / 2 ^ 23 % 512;
+  both = r / 2 ^ 32 % 512;
 }
 
 -- five bytes, the first in the lowest place

@@ -4,10 +4,12 @@ ghost use Rattle.code.specs.Word.{writtenNumbers, testedNumbers};
 ghost use Rattle.code.specs.Repair.{repairedNumbers};
 ghost use Rattle.record.specs.Reading.{recordNumbers};
 ghost use Rattle.strip.specs.Reading.{stripNumbers};
-ghost use Rattle.packing.specs.Packed.{packedLength, packedRead, packedRepair};
+ghost use Rattle.pool.specs.Pooled.{poolNumbers};
+ghost use Rattle.packing.specs.Packed.{packedLength, packedRead, packedRepair, packedPool};
 use code::repair::Repaired;
 use code::word::Tested;
 use code::word::Written;
+use pool::Pooling;
 use record::read::RecordRead;
 use strip::read::Reading;
 
@@ -91,5 +93,30 @@ pub fn pack_reading(a: Reading) -> u64
             wear,
         } => pack_numbers(0, 0, width, height, par, mended, repainted, wear),
         Reading::Refused { code, lane } => pack_numbers(code, lane, 0, 0, 0, 0, 0, 0),
+    }
+}
+
+// The numbers of pooling, nine bits for each count.
+fn pack_counts(code: u8, agreed: usize, taken: usize, conflict: usize, both: usize) -> u64
+    ensures { λ r. ⌜ r ≡ packedPool record { code = code; agreed = agreed; taken = taken; conflict = conflict; both = both } ⌝ }
+{
+    (code % 32) as u64
+        + ((agreed % 512) as u64) * 32
+        + ((taken % 512) as u64) * 16384
+        + ((conflict % 512) as u64) * 8388608
+        + ((both % 512) as u64) * 4294967296
+}
+
+pub fn pack_pooling(a: Pooling) -> u64
+    ensures { λ r. ⌜ r ≡ packedPool (poolNumbers a) ⌝ }
+{
+    match a {
+        Pooling::Pooled {
+            agreed,
+            taken,
+            conflict,
+            both,
+        } => pack_counts(0, agreed, taken, conflict, both),
+        Pooling::Refused(c) => pack_counts(c, 0, 0, 0, 0),
     }
 }

@@ -70,7 +70,7 @@ static int refuse_length(const char *name, size_t cells, size_t before)
 }
 
 /* The file's picture, or why there is none. It need not be one that is read;
- * but where it is, pooling can do no good, and that is said. */
+ * but one that is needs no pooling, and that is said. */
 static int take(struct cells *c, const char *name)
 {
     uint8_t tiles[ZAV_TILES_MAX];

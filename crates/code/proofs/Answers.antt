@@ -59,15 +59,15 @@ module _ (most n m : ℕ) (marks r s v w : List ℕ) (a b : Repaired) (same : Sa
     refl,
     (λ x. x),
     (λ x. x),
-    (
+    λ _. (
       refl,
       (λ x. x),
       (λ x. x),
-      (
+      λ _. (
         refl,
         (λ x. x),
         (λ x. x),
-        (refl, theorems.same-reachable gf256 marks s r back, theorems.same-reachable gf256 marks r s same, tt),
+        λ _. (refl, theorems.same-reachable gf256 marks s r back, theorems.same-reachable gf256 marks r s same, λ _. tt),
       ),
     ),
   )

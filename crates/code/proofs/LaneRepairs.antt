@@ -54,7 +54,7 @@ module _ (lane marks : Lane) where
             refl,
             (λ _. within),
             (λ _. record { from = omega (arith, long); to = omega (arith, long) }),
-            (refl, (λ _. refl), (λ _. mlong ∙ sym long), (refl, (λ g. g), (λ g. g), (refl, (λ R. R), (λ R. R), tt))),
+            λ _. (refl, (λ _. refl), (λ _. mlong ∙ sym long), λ _. (refl, (λ g. g), (λ g. g), λ _. (refl, (λ R. R), (λ R. R), λ _. tt))),
           )
           A
 

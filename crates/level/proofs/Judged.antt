@@ -151,5 +151,5 @@ module _ (R : ℕ) (some : 0 < R) (l : Level) (rec bs : List ℕ) (co : Counted 
         refl,
         subst Ranged (sym spelled-board),
         subst Ranged spelled-board,
-        (refl, (λ _. shaped), (λ _. co), (refl, subst Coded (sym spelled-board), subst Coded spelled-board, (refl, subst Fair (sym spelled-board), subst Fair spelled-board, tt))),
+        λ _. (refl, (λ _. shaped), (λ _. co), λ _. (refl, subst Coded (sym spelled-board), subst Coded spelled-board, λ _. (refl, subst Fair (sym spelled-board), subst Fair spelled-board, λ _. tt))),
       )

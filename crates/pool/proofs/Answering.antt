@@ -20,7 +20,7 @@ module _ (R : ℕ) (a b out : Picture) (c : ℕ) (f : First (pooling R a b (leng
     few = omega (arith, P .taken-is, P .conflict-is, P .both-is, total (kindAt a b) (length (a .cells)))
 
     pub pools : c ≡ 0
-        → PoolsAs R a b out out' (answer.Pooled (length (a .cells) - r .taken - r .conflict - r .both) (r .taken) (r .conflict) (r .both))
+        → PoolsAs R a b out out' (answer.Pooled (length (a .cells) - (r .taken + r .conflict + r .both)) (r .taken) (r .conflict) (r .both))
     pools z = record {
       code = subst (First (pooling R a b (length (out .cells)) (length (out .marks)))) z f;
       counts = λ _ k. count k;
@@ -29,7 +29,7 @@ module _ (R : ℕ) (a b out : Picture) (c : ℕ) (f : First (pooling R a b (leng
     }
       where
         count : (k : Kind)
-            → told (poolNumbers (answer.Pooled (length (a .cells) - r .taken - r .conflict - r .both) (r .taken) (r .conflict) (r .both))) k ≡ countOf a b k
+            → told (poolNumbers (answer.Pooled (length (a .cells) - (r .taken + r .conflict + r .both)) (r .taken) (r .conflict) (r .both))) k ≡ countOf a b k
         count agreed = omega (arith, P .taken-is, P .conflict-is, P .both-is, total (kindAt a b) (length (a .cells)))
         count taken = P .taken-is
         count conflict = P .conflict-is

@@ -85,9 +85,6 @@ mark-self x zero h = ap (λ (e : Bool). markOf (kindOf false false e)) (eq-eqb x
 mark-self x (suc zero) h = refl
 mark-self x (suc (suc m)) h = absurd (omega arith)
 
-pub unmarked-self : (x m : ℕ) → not (eqb m 0) ≡ false → byte x m x m ≡ x
-unmarked-self x m q = rw (q, eq-eqb x x refl) refl
-
 pub marked-self : (x m : ℕ) → not (eqb m 0) ≡ true → byte x m x m ≡ 0
 marked-self x m q = rw q refl
 

@@ -1,6 +1,6 @@
 -- What is promised of pooled pictures, over the number of lanes R. The entry has four.
 use mathlib.Core.Path.{_≡_, refl, sym, ap, ap₂, _∙_, subst}
-use mathlib.Core.Logic.{_≢_, _⊎_, inl, inr, ⊎-elim}
+use mathlib.Core.Logic.{_≢_, _⊎_, ⊎-elim}
 use mathlib.Core.Bool.{Bool, true, false, not}
 use mathlib.Core.List.{List, [], _∷_}
 use Prim.Native.Nat.{ℕ, zero, suc, _+_, _*_, _/_, _≤_, _<_}
@@ -19,7 +19,7 @@ use Rattle.account.proofs.Runs.{differing-in-run}
 use Rattle.gf256.specs.Gf256.{gf256}
 use Rattle.gf256.proofs.Field256.{field256}
 use Rattle.rules.specs.Refusal.{First, Hold}
-use Rattle.rules.proofs.Laws.{first-fixes, all-hold, either}
+use Rattle.rules.proofs.Laws.{first-fixes, first-alike, all-hold, either}
 use Rattle.rules.proofs.Numbers.{lt-or-ge}
 use Rattle.level.specs.Level.{Level}
 use Rattle.level.specs.Strip.{Legal, IsStrip, markedIn}
@@ -36,23 +36,13 @@ use Rattle.pool.specs.declared.Pooling.the-variants as answer
 use Rattle.pool.specs.Pooled.{Picture, photo, Kind, agreed, taken, conflict, both, kindOf, markOf, is, kindAt, byteAt, pooled, countOf, PoolNumbers, poolNumbers, told, pooling, PoolsAs, WePooled, Shows, GaveLevel}
 use Rattle.pool.proofs.OneCell.{unset, agreed-by, taken-by, conflict-by, both-by}
 use Rattle.pool.proofs.Pouring.{total}
-use Rattle.pool.proofs.Shown.{shown-by, mark-differs, mark-right, no-conflict, kind-swap, mark-self, unmarked-self, marked-self, mark-small, unmarked-zero, past-unmarked, length-cells, length-marks, cell-at, mark-at, pooled-swap}
+use Rattle.pool.proofs.Shown.{shown-by, mark-differs, mark-right, no-conflict, kind-swap, mark-self, marked-self, mark-small, unmarked-zero, past-unmarked, length-cells, length-marks, cell-at, mark-at, pooled-swap}
 
 -- what passes one of two tests, and never both
 count-sum : (f g h : ℕ → Bool) (n : ℕ) → ((p : ℕ) → oneIf (f p) ≡ oneIf (g p) + oneIf (h p)) → countTo f n ≡ countTo g n + countTo h n
 unfolding countTo
 count-sum f g h zero e = refl
 count-sum f g h (suc n) e = omega (arith, count-sum f g h n e, e n)
-
--- each passes a test or fails it
-parted : (f : ℕ → Bool) (n : ℕ) → countTo (λ p. not (f p)) n + countTo f n ≡ n
-unfolding countTo
-parted f zero = refl
-parted f (suc n) = omega (arith, parted f n, one (f n))
-  where
-    one : (t : Bool) → oneIf (not t) + oneIf t ≡ 1
-    one true = refl
-    one false = refl
 
 -- the counts of an answer, and the code, are all of it
 same-numbers : (m n : PoolNumbers) → m .code ≡ n .code → ((k : Kind) → told m k ≡ told n k) → m ≡ n
@@ -91,23 +81,27 @@ module _ (R : ℕ) where
   -- FORMAT 15.7: exchanged, the pictures are refused by the same number
   refused-alike : (a b : Picture) (x y c : ℕ) → First (pooling R a b x y) c → First (pooling R b a x y) c
   refused-alike a b x y c =
-      ⊎-elim (λ p. inl ((λ h. p .0 (h .1, h .0)), p .1)) (λ p. inr (
-        (p .0 .1, p .0 .0),
-        (
-            ⊎-elim (λ q. inl ((λ h. q .0 (sym h)), q .1)) (λ q. inr (
-              sym (q .0),
-              (
-                  ⊎-elim (λ m. inl ((λ h. m .0 (h .1, h .0)), m .1)) (λ m. inr (
-                    (m .0 .1, m .0 .0),
-                    (
-                        ⊎-elim (λ g. inl ((λ h. g .0 (h .1, h .0)), g .1)) (λ g. inr (
-                          (g .0 .1, g .0 .0),
-                          (
-                              ⊎-elim (λ o. inl ((λ h. o .0 (h .0 ∙ q .0, h .1 ∙ q .0)), o .1)) (λ o. inr ((o .0 .0 ∙ sym (q .0), o .0 .1 ∙ sym (q .0)), o .1)) (g .1)),
-                        )) (m .1)),
-                  )) (q .1)),
-            )) (p .1)),
-      ))
+      first-alike (pooling R a b x y) (pooling R b a x y) c (
+        refl,
+        (λ h. (h .1, h .0)),
+        (λ h. (h .1, h .0)),
+        λ _. (
+          refl,
+          (λ e. sym e),
+          (λ e. sym e),
+          λ e. (
+            refl,
+            (λ h. (h .1, h .0)),
+            (λ h. (h .1, h .0)),
+            λ _. (
+              refl,
+              (λ h. (h .1, h .0)),
+              (λ h. (h .1, h .0)),
+              λ _. (refl, (λ h. (h .0 ∙ sym e, h .1 ∙ sym e)), (λ h. (h .0 ∙ e, h .1 ∙ e)), λ _. tt),
+            ),
+          ),
+        ),
+      )
 
   -- FORMAT 15.7: and what keeps the promise for the one order keeps it for the other,
   pub exchanged : (a b out out' : Picture) (r : Pooling) → PoolsAs R a b out out' r → PoolsAs R b a out out' r
@@ -378,15 +372,13 @@ module _ (R : ℕ) where
         (λ p h. let k : p < length (a .cells) = omega (arith, as-long a a c w .1) in
         mark-is a a c w p k ∙ mark-self (getD (a .cells) p 0) (getD (a .marks) p 0) (held a a c w .1 .1 .1 .0 .0 p (omega (arith, matched a a c w .0))))
 
+    -- of its own cells it is right
+    own : Shows (a .cells) a
+    own = record { same-length = refl; read = λ p _. refl }
+
     -- the same bytes where it is unmarked,
     pub itself-shown : SameRead (a .marks) (c .cells) (a .cells)
-    itself-shown = record { same-length = as-long a a c w .0; read = λ p u. ⊎-elim (inside p u) (outside p) (lt-or-ge p (length (a .cells))) }
-      where
-        inside : (p : ℕ) → isMarked (a .marks) p ≡ false → p < length (a .cells) → getD (c .cells) p 0 ≡ getD (a .cells) p 0
-        inside p u h = cell-is a a c w p h ∙ unmarked-self (getD (a .cells) p 0) (getD (a .marks) p 0) u
-
-        outside : (p : ℕ) → length (a .cells) ≤ p → getD (c .cells) p 0 ≡ getD (a .cells) p 0
-        outside p h = getD-past (c .cells) p (omega (arith, as-long a a c w .0)) ∙ sym (getD-past (a .cells) p h)
+    itself-shown = subst (λ (m : List ℕ). SameRead m (c .cells) (a .cells)) itself-marked (pooled-shows a a c w (a .cells) own own)
 
     -- and byte 0 under its marks;
     pub itself-hidden : (p : ℕ) → isMarked (a .marks) p ≡ true → getD (c .cells) p 0 ≡ 0
@@ -401,7 +393,7 @@ module _ (R : ℕ) where
     -- all its unmarked cells are agreed, and the others marked in both.
     pub itself-counted : (poolNumbers (w .answer) .agreed ≡ countTo (isRead (a .marks)) (length (a .cells)))
         × (poolNumbers (w .answer) .both ≡ marked (a .marks) (a .cells)) × (poolNumbers (w .answer) .taken ≡ 0) × (poolNumbers (w .answer) .conflict ≡ 0)
-    itself-counted = (agree, hide, omega (arith, none, sums), omega (arith, none, sums))
+    itself-counted = (agree, hide, none, none-in-conflict a a c w (a .cells) own own)
       where
         twice : (i : Bool) → and i i ≡ i
         twice true = refl
@@ -410,6 +402,11 @@ module _ (R : ℕ) where
         equal : (i : Bool) (x : ℕ) → is agreed (kindOf i i (eqb x x)) ≡ not i
         equal true x = refl
         equal false x = ap (λ (e : Bool). is agreed (kindOf false false e)) (eq-eqb x x refl)
+
+        untaken : (i e : Bool) → T (not (is taken (kindOf i i e)))
+        untaken true e = tt
+        untaken false true = tt
+        untaken false false = tt
 
         agree : poolNumbers (w .answer) .agreed ≡ countTo (isRead (a .marks)) (length (a .cells))
         agree =
@@ -422,12 +419,11 @@ module _ (R : ℕ) where
             ∙ count-cong (λ p. and (isMarked (a .marks) p) (isMarked (a .marks) p)) (isMarked (a .marks)) (length (a .cells))
             (λ p _. twice (isMarked (a .marks) p))
 
-        none : countTo (isRead (a .marks)) (length (a .cells)) + marked (a .marks) (a .cells) ≡ length (a .cells)
-        none = parted (isMarked (a .marks)) (length (a .cells))
-
-        sums : countTo (isRead (a .marks)) (length (a .cells)) + poolNumbers (w .answer) .taken + poolNumbers (w .answer) .conflict
-            + marked (a .marks) (a .cells) ≡ length (a .cells)
-        sums = omega (arith, counts-add-up a a c w, agree, hide)
+        none : poolNumbers (w .answer) .taken ≡ 0
+        none =
+            w .promise .counts (w .done) taken
+            ∙ count-none (λ p. is taken (kindAt a a p)) (length (a .cells))
+            (λ p _. untaken (isMarked (a .marks) p) (eqb (getD (a .cells) p 0) (getD (a .cells) p 0)))
 
 -- ---- worked
 

@@ -227,7 +227,7 @@ pub fn pool(
     let conflict = c.conflict as usize;
     let both = c.both as usize;
     Pooling::Pooled {
-        agreed: first.len() - taken - conflict - both,
+        agreed: first.len() - (taken + conflict + both),
         taken,
         conflict,
         both,

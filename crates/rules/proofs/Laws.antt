@@ -123,25 +123,25 @@ stops (suc k) (r ∷ rs) c s = inr (s .0, stops k rs c (s .1))
 
 -- ---- rules exchanged for others with the same number
 
--- each rule of the first list says what its fellow of the second does
+-- each rule of the first list says what its fellow of the second does, where those before it hold
 abbrev pub Alike : List Rule → List Rule → Type 0
 Alike [] [] = Unit {0}
 Alike [] (q ∷ qs) = ⊥
 Alike (r ∷ rs) [] = ⊥
-Alike (r ∷ rs) (q ∷ qs) = (r .number ≡ q .number) × (r .holds → q .holds) × (q .holds → r .holds) × Alike rs qs
+Alike (r ∷ rs) (q ∷ qs) = (r .number ≡ q .number) × (r .holds → q .holds) × (q .holds → r .holds) × (r .holds → Alike rs qs)
 
 pub first-alike : (rs qs : List Rule) (c : ℕ) → Alike rs qs → First rs c → First qs c
 first-alike [] [] c a f = f
 first-alike [] (q ∷ qs) c a f = absurd a
 first-alike (r ∷ rs) [] c a f = absurd a
 first-alike (r ∷ rs) (q ∷ qs) c a (inl p) = inl ((λ h. p .0 (a .2 h)), p .1 ∙ a .0)
-first-alike (r ∷ rs) (q ∷ qs) c a (inr p) = inr (a .1 (p .0), first-alike rs qs c (a .3) (p .1))
+first-alike (r ∷ rs) (q ∷ qs) c a (inr p) = inr (a .1 (p .0), first-alike rs qs c (a .3 (p .0)) (p .1))
 
 -- the same questions, told in two ways
 pub asked-alike : {A : Type 0} (t u : (A → Type 0) → Type 0) (qs : List (Question A)) → ((P : A → Type 0) → t P → u P) → ((P : A → Type 0) → u P → t P)
     → Alike (asked t qs) (asked u qs)
 asked-alike t u [] to from = tt
-asked-alike t u (q ∷ qs) to from = (refl, to (q .asks), from (q .asks), asked-alike t u qs to from)
+asked-alike t u (q ∷ qs) to from = (refl, to (q .asks), from (q .asks), λ _. asked-alike t u qs to from)
 
 -- ---- answers
 

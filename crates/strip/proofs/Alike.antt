@@ -64,15 +64,15 @@ module _ (R : ℕ) (some : 0 < R) (short : columns R 364 + 5 ≤ 255) (x y : ℕ
     refl,
     subst (Legal R) (same .same-length),
     subst (Legal R) (sym (same .same-length)),
-    (
+    λ _. (
       refl,
       (λ e. e ∙ same .same-length),
       (λ e. e ∙ sym (same .same-length)),
-      (
+      λ _. (
         refl,
         (λ g. g),
         (λ g. g),
-        (refl, (λ g. g), (λ g. g), (refl, room .0, room .1, tt)),
+        λ _. (refl, (λ g. g), (λ g. g), λ _. (refl, room .0, room .1, λ _. tt)),
       ),
     ),
   )
@@ -99,7 +99,7 @@ module _ (R : ℕ) (some : 0 < R) (short : columns R 364 + 5 ≤ 255) (x y : ℕ
       refl,
       (λ f j l. same-mendable R some marks r s (h .0 .k + 5) full matched same gf256 j (f j l)),
       (λ f j l. same-mendable R some marks s r (h .0 .k + 5) full' matched' back gf256 j (f j l)),
-      asked-alike (OfMended gf256 R marks r) (OfMended gf256 R marks s) (judging R)
+      λ _. asked-alike (OfMended gf256 R marks r) (OfMended gf256 R marks s) (judging R)
           (λ ask f t M. f t (same-mends R some marks s r (h .0 .k + 5) full' matched' back gf256 t M))
           (λ ask f t M. f t (same-mends R some marks r s (h .0 .k + 5) full matched same gf256 t M)),
     )

@@ -36,25 +36,11 @@ cast-conflict c = search needs
 cast-both : tie.Need-cast-both
 cast-both c = search needs
 
-sub-t13 : tie.Need-sub-t13
-sub-t13 c =
-    let s = c .before .before .before .before .before .before .before .before .before .before .before .before .before .before .before .before .before .before .args in
-    let a = photo (s .first .now) (s .first-marks .now) in
-    let b = photo (s .second .now) (s .second-marks .now) in
-    let out = photo (s .cells .now) (s .marks .now) in
-    let p = c .before .before .before .before .before .before .before .pour in
-    let e = c .before .before .before .before .before .before .before .before .before .before .before .enter in
-    omega (arith, few 4 a b out (e .result) (e .ensures) _ (p .result) (p .ensures))
+add-t13 : tie.Need-add-t13
+add-t13 c = search needs
 
-sub-t19 : tie.Need-sub-t19
-sub-t19 c =
-    let s = c .before .before .before .before .before .before .before .before .before .before .before .before .before .before .before .before .before .before .args in
-    let a = photo (s .first .now) (s .first-marks .now) in
-    let b = photo (s .second .now) (s .second-marks .now) in
-    let out = photo (s .cells .now) (s .marks .now) in
-    let p = c .before .before .before .before .before .before .before .pour in
-    let e = c .before .before .before .before .before .before .before .before .before .before .before .enter in
-    omega (arith, few 4 a b out (e .result) (e .ensures) _ (p .result) (p .ensures))
+add-t19 : tie.Need-add-t19
+add-t19 c = search needs
 
 sub-t20 : tie.Need-sub-t20
 sub-t20 c =
@@ -92,8 +78,8 @@ pool-spec =
     cast-taken
     cast-conflict
     cast-both
-    sub-t13
-    sub-t19
+    add-t13
+    add-t19
     sub-t20
     same-length
     same-length-2

@@ -1,5 +1,6 @@
 /*
- * zavullimen.h - the whole library: strips, records, texts, words and lanes.
+ * zavullimen.h - the whole library: strips, records, texts, words and lanes,
+ * and all boards of a tiny size.
  *
  * Games need zav_strip_write and zav_strip_read, and zav_strip_pool if they have
  * two pictures of one strip. C-INTERFACE.md has all functions, the buffers and
@@ -14,6 +15,7 @@
 #include "zavullimen_strips.h"
 #include "zavullimen_pools.h"
 #include "zavullimen_texts.h"
+#include "zavullimen_tiny.h"
 
 /*
  * The version of this header and of the library that was installed with it.

@@ -44,7 +44,8 @@ enum zav_result_code {
     ZAV_NOT_PLAYABLE = 10,
     ZAV_BAD_TEXT = 11,
     ZAV_BAD_ROWS = 12,
-    ZAV_UNEQUAL_STRIPS = 13
+    ZAV_UNEQUAL_STRIPS = 13,
+    ZAV_NOT_TINY = 14
 };
 
 /* What a code says, for people; the text may change, the code does not. */
@@ -82,6 +83,9 @@ static inline const char *zav_refusal_text(unsigned code)
                "than 31 tiles";
     case ZAV_UNEQUAL_STRIPS:
         return "the two strips have different lengths";
+    case ZAV_NOT_TINY:
+        return "the width or the height is 0, or the board has more than 6 "
+               "tiles";
     default:
         return "unknown refusal";
     }
@@ -89,14 +93,14 @@ static inline const char *zav_refusal_text(unsigned code)
 
 /*
  * Results are packed in one number: the code in bits 0 to 4 and, above it, what
- * the function returns. The repairs and the strip reader have mended in bits
- * 31 to 36 and repainted in bits 37 to 43; the other fields of readers are in
- * the headers of their readers. The writers and the word test have a length in
- * bits 48 to 63, and nothing else. Pooling has its four counts in bits 5 to 40.
- * They share bits, so take a result apart by what its function returns:
- * zav_length of a reader's result means nothing, nor does a reader's field of a
- * writer's. All other bits are zero. With a refusal everything but the code is
- * zero, and of a strip beyond reach the lane.
+ * the function returns. The repairs and the strip reader have mended in bits 31
+ * to 36 and repainted in bits 37 to 43; the other fields of readers are in the
+ * headers of their readers. The writers, the word test and zav_tiny_next have a
+ * length in bits 48 to 63, and nothing else. Pooling has its four counts in
+ * bits 5 to 40. They share bits, so take a result apart by what its function
+ * returns: zav_length of a reader's result means nothing, nor does a reader's
+ * field of a writer's. All other bits are zero. With a refusal everything but
+ * the code is zero, and of a strip beyond reach the lane.
  */
 static inline unsigned zav_code(uint64_t result)
 {

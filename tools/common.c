@@ -1,8 +1,10 @@
-/* common.c - what the tools share: input, pictures of text, refusals. */
+/* common.c - what the tools share: input, strips, refusals, progress. */
+#define _POSIX_C_SOURCE 200809L /* for isatty */
 #include "common.h"
 
 #include <errno.h>
 #include <string.h>
+#include <unistd.h>
 
 const char letters[] = " #$.*@+";
 
@@ -42,6 +44,22 @@ uint64_t read_cells(const struct cells *c, uint8_t tiles[ZAV_TILES_MAX])
         return ZAV_BAD_LENGTH;
     return zav_strip_read(c->bytes, len, c->bytes + len, len, tiles,
                           ZAV_TILES_MAX, scratch, sizeof scratch);
+}
+
+uint64_t put_cells(FILE *out, size_t width, size_t height, size_t par,
+                   const uint8_t *tiles)
+{
+    uint8_t strip[ZAV_STRIP_MAX];
+    static const uint8_t marks[ZAV_STRIP_MAX];
+    const uint64_t result = zav_strip_write(width, height, par, tiles,
+                                            width * height, strip,
+                                            sizeof strip);
+
+    if (zav_code(result) == ZAV_DONE) {
+        fwrite(strip, 1, zav_length(result), out);
+        fwrite(marks, 1, zav_length(result), out);
+    }
+    return result;
 }
 
 const char *refusal_words(unsigned code)
@@ -122,9 +140,41 @@ int complain(const char *tool, const char *name, const char *why)
     return NOT_RUN;
 }
 
+static struct {
+    bool shown;
+    size_t total;
+} progress;
+
+void begin_progress(size_t total)
+{
+    progress.shown = total > 0 && isatty(STDERR_FILENO);
+    progress.total = total;
+}
+
+void show_progress(size_t done)
+{
+    const size_t total = progress.total;
+
+    /* Once for each hundredth: a terminal is slower than the work. */
+    if (progress.shown && (done == 0 ||
+                           done * 100 / total != (done - 1) * 100 / total)) {
+        fprintf(stderr, "\r%zu of %zu", done, total);
+        fflush(stderr);
+    }
+}
+
+void hide_progress(void)
+{
+    if (progress.shown)
+        fprintf(stderr, "\r\033[K");
+}
+
 int finish(const char *tool, int status)
 {
-    if (fflush(stdout) != 0)
-        return complain(tool, "standard output", strerror(errno));
+    errno = 0;
+    /* What was refused before may leave nothing to be flushed now. */
+    if (fflush(stdout) != 0 || ferror(stdout))
+        return complain(tool, "standard output",
+                        errno != 0 ? strerror(errno) : "not all was written");
     return status;
 }

@@ -1,5 +1,5 @@
 /*
- * common.h - what the tools share: input, pictures of text, refusals.
+ * common.h - what the tools share: input, strips, refusals, progress.
  */
 #ifndef COMMON_H
 #define COMMON_H
@@ -39,6 +39,11 @@ bool take_cells_of(struct cells *c, const char *path);
  * worth, is refusal 1. */
 uint64_t read_cells(const struct cells *c, uint8_t tiles[ZAV_TILES_MAX]);
 
+/* Write the strip of a level, followed by as many zero marks; the strip
+ * writer's packed answer. Nothing is written when refused. */
+uint64_t put_cells(FILE *out, size_t width, size_t height, size_t par,
+                   const uint8_t *tiles);
+
 /* A refusal in words that fit cells and marks in a file. */
 const char *refusal_words(unsigned code);
 
@@ -54,6 +59,12 @@ void begin_complaint(const char *tool, const char *name);
 
 /* "tool: name: why" on standard error; returns NOT_RUN. */
 int complain(const char *tool, const char *name, const char *why);
+
+/* Long work shows how far it is, on standard error where that is a terminal:
+ * begin, show for each of the total, and hide before a line is printed. */
+void begin_progress(size_t total);
+void show_progress(size_t done);
+void hide_progress(void);
 
 /* Nothing is fine if standard output did not take it. */
 int finish(const char *tool, int status);

@@ -86,22 +86,16 @@ static bool take_text_of(struct text *t, const char *path)
 
 /* ---- the strip ---- */
 
-static int write_cells(uint64_t level, const uint8_t *tiles)
+static int write_strip(uint64_t level, const uint8_t *tiles)
 {
-    const size_t width = zav_width(level), height = zav_height(level);
-    uint8_t strip[ZAV_STRIP_MAX];
-    static const uint8_t marks[ZAV_STRIP_MAX];
-    const uint64_t result =
-        zav_strip_write(width, height, zav_par(level), tiles, width * height,
-                        strip, sizeof strip);
+    const uint64_t result = put_cells(stdout, zav_width(level),
+                                      zav_height(level), zav_par(level), tiles);
 
     if (zav_code(result) != ZAV_DONE) {
         fprintf(stderr, "%s: ", tool);
         print_refusal(stderr, result);
         return REFUSED;
     }
-    fwrite(strip, 1, zav_length(result), stdout);
-    fwrite(marks, 1, zav_length(result), stdout);
     return FINE;
 }
 
@@ -114,7 +108,7 @@ static int make(const struct text *t, const char *name)
         zav_text_read(t->bytes, t->len, tiles, sizeof tiles);
 
     if (zav_code(level) == ZAV_DONE)
-        return write_cells(level, tiles);
+        return write_strip(level, tiles);
     begin_complaint(tool, name);
     print_slip(stderr, t->bytes, t->len, zav_code(level));
     return REFUSED;

@@ -8,7 +8,7 @@
  * with -q the summary alone. On a terminal, standard error shows how far it
  * is. The help below says how it ends.
  */
-#define _POSIX_C_SOURCE 200809L /* for folders, strdup and isatty */
+#define _POSIX_C_SOURCE 200809L /* for folders and strdup */
 #include <dirent.h>
 #include <errno.h>
 #include <stdlib.h>
@@ -148,31 +148,6 @@ struct counts {
     size_t refused, refused_by[CODES];
 };
 
-/* ---- progress ---- */
-
-static struct {
-    bool shown; /* standard error is a terminal */
-    size_t total;
-} progress;
-
-static void show_progress(size_t done)
-{
-    const size_t total = progress.total;
-
-    /* Once for each hundredth: a terminal is slower than the reader. */
-    if (progress.shown && (done == 0 ||
-                           done * 100 / total != (done - 1) * 100 / total)) {
-        fprintf(stderr, "\r%zu of %zu", done, total);
-        fflush(stderr);
-    }
-}
-
-static void hide_progress(void)
-{
-    if (progress.shown)
-        fprintf(stderr, "\r\033[K");
-}
-
 /* ---- files ---- */
 
 /* NULL, or why it cannot be read. A pipe or a device in a folder could keep us
@@ -258,8 +233,7 @@ static void scan(struct names *n, bool quiet, struct counts *to)
 {
     if (n->count > 0)
         qsort(n->at, n->count, sizeof *n->at, by_name);
-    progress.shown = isatty(STDERR_FILENO) && n->count > 0;
-    progress.total = n->count;
+    begin_progress(n->count);
     for (size_t i = 0; i < n->count; i++) {
         show_progress(i);
         scan_name(&n->at[i], quiet, to);

@@ -9,6 +9,7 @@
 #include "reference_pool.h"
 #include "reference_strip.h"
 #include "reference_text.h"
+#include "reference_tiny.h"
 #include "zavullimen.h"
 
 /* Readers, writers and pooling share bits, so each is unpacked by its own
@@ -119,7 +120,7 @@ static void test_texts(void)
     static const char unknown[] = "unknown refusal";
 
     group_begin("header", "refusals in words");
-    for (unsigned code = 0; code <= 13; code++)
+    for (unsigned code = 0; code <= 14; code++)
         for (unsigned other = 0; other <= 300; other++) {
             const bool same = strcmp(zav_refusal_text(code),
                                      zav_refusal_text(other)) == 0;
@@ -128,7 +129,7 @@ static void test_texts(void)
             if (same != (code == other))
                 group_fail("%u and %u: the same words or not", code, other);
         }
-    for (unsigned code = 14; code <= 300; code++)
+    for (unsigned code = 15; code <= 300; code++)
         if (strcmp(zav_refusal_text(code), unknown) != 0)
             group_fail("%u is no refusal, and has words", code);
     if (strcmp(zav_refusal_text(0), "no refusal") != 0)
@@ -170,6 +171,7 @@ static void test_sizes(void)
         {"ZAV_SCRATCH_MIN", ZAV_SCRATCH_MIN, REF_SCRATCH_MIN},
         {"ZAV_TEXT_MIN", ZAV_TEXT_MIN, REF_TEXT_MIN},
         {"ZAV_TEXT_MAX", ZAV_TEXT_MAX, REF_TEXT_MAX},
+        {"ZAV_TINY_MAX", ZAV_TINY_MAX, REF_TINY_MAX},
     };
 
     group_begin("header", "sizes");

@@ -3,6 +3,7 @@
 
 #include "harness.h"
 #include "reference_pool.h"
+#include "reference_tiny.h"
 #include "test_repair.h"
 #include "test_writer.h"
 #include "zavullimen.h"
@@ -124,6 +125,26 @@ static void check_huge_lengths_of_pool(struct stretch s, size_t past)
     }
 }
 
+/* Zeros as a given board, and a number that would fit if it were cut. */
+static void check_huge_tiny(struct stretch s, size_t width, size_t height,
+                            size_t given_len, size_t tiles_len)
+{
+    group_case();
+    check_number(zav_tiny_next(width, height, ZAV_AFTER, s.strip, given_len,
+                               s.scratch, tiles_len),
+                 packed(ref_tiny_next(width, height, ZAV_AFTER, s.strip,
+                                      given_len, s.scratch, tiles_len)),
+                 "tiny boards");
+}
+
+static void check_huge_numbers_of_tiny(struct stretch s, size_t past)
+{
+    check_huge_tiny(s, past + 2, 1, 2, REF_TILES_MAX);
+    check_huge_tiny(s, 2, past + 1, 2, REF_TILES_MAX);
+    check_huge_tiny(s, 2, 1, past + 2, REF_TILES_MAX);
+    check_huge_tiny(s, 2, 1, 2, past);
+}
+
 /* Each length by itself, and strip and marks together. */
 static void check_huge_lengths_of_strip(struct stretch s, size_t past)
 {
@@ -155,9 +176,10 @@ static void check_past(struct stretch s, size_t past)
         check_huge_writer(&writers[e], s.strip, s.tiles, past);
     check_huge_lengths_of_strip(s, past);
     check_huge_lengths_of_pool(s, past);
+    check_huge_numbers_of_tiny(s, past);
 }
 
-/* All are zeros. Only the scratch is written to, as every call is refused. */
+/* All are zeros. Only the scratch is written to: every other call is refused. */
 void test_huge(void)
 {
     static const size_t past[] = {(size_t)1 << 8, (size_t)1 << 16,

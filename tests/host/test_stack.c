@@ -58,6 +58,15 @@ static void draw_record(void)
         record[draw_below(record_len)] ^= draw_nonzero();
 }
 
+/* A board of up to seven tiles to step from, or a wish to start. */
+static void draw_tiny(void)
+{
+    draw_level(&board, draw_between(1, 7), draw_between(1, 2));
+    board.par = draw_below(4);
+    for (size_t i = 0; i < board.tiles_len; i++)
+        board.tiles[i] = (uint8_t)draw_below(7);
+}
+
 static void draw_text(void)
 {
     draw_any_board(&board);
@@ -108,6 +117,12 @@ static void call_strip_pool(void)
                    picture.marks_len, other.strip, other.strip_len,
                    other.marks, other.marks_len, out, picture.strip_len,
                    tiles, picture.strip_len);
+}
+
+static void call_tiny_next(void)
+{
+    zav_tiny_next(board.width, board.height, board.par == 0, board.tiles,
+                  board.tiles_len, tiles, sizeof tiles);
 }
 
 static void call_record_write(void)
@@ -183,6 +198,7 @@ static const struct entry entries[] = {
     {"zav_strip_write", 600, draw_record, call_strip_write},
     {"zav_strip_read", 3000, draw_picture, call_strip_read},
     {"zav_strip_pool", 300, draw_pictures, call_strip_pool},
+    {"zav_tiny_next", 500, draw_tiny, call_tiny_next},
     {"zav_record_write", 300, draw_record, call_record_write},
     {"zav_record_read", 400, draw_record, call_record_read},
     {"zav_text_write", 400, draw_record, call_text_write},

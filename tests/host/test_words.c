@@ -21,6 +21,7 @@
 #include "test_stickers.h"
 #include "test_strip.h"
 #include "test_text.h"
+#include "test_tiny.h"
 #include "test_writer.h"
 #include "zavullimen_words.h"
 
@@ -422,6 +423,7 @@ int main(int argc, char **argv)
     test_strip_wild();
     test_stickers();
     test_pool();
+    test_tiny();
     test_stack();
     test_huge();
     return groups_finish();

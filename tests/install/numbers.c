@@ -59,6 +59,19 @@ static void print_pools(const uint8_t *strip)
                          cells, LEN, out, LEN));
 }
 
+/* FORMAT 16.10: the boards of two tiles; one of three is given, and there are
+ * none of seven. */
+static void print_walk(uint8_t tiles[ZAV_TILES_MAX])
+{
+    static const uint8_t first[] = {2, 6, 0}, last[] = {6, 2};
+
+    print(zav_tiny_next(2, 1, ZAV_START, NULL, 0, tiles, ZAV_TILES_MAX));
+    print(zav_tiny_next(2, 1, ZAV_AFTER, first, 2, tiles, ZAV_TILES_MAX));
+    print(zav_tiny_next(2, 1, ZAV_AFTER, last, 2, tiles, ZAV_TILES_MAX));
+    print(zav_tiny_next(2, 1, ZAV_AFTER, first, 3, tiles, ZAV_TILES_MAX));
+    print(zav_tiny_next(7, 1, ZAV_START, NULL, 0, tiles, ZAV_TILES_MAX));
+}
+
 int main(void)
 {
     static const uint8_t level[] = {2, 6}, finished[] = {4, 5};
@@ -89,5 +102,6 @@ int main(void)
     print_read(finished_strip, sizeof finished_strip, front, 0, none,
                sizeof finished_strip);
     print_pools(bytes);
+    print_walk(tiles);
     return 0;
 }

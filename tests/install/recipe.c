@@ -1,7 +1,7 @@
 /*
  * recipe.c - the lines of docs/C-INTERFACE.md that draw a mended strip and read
- * two pictures, tried on the level of FORMAT 12.13. recipe.h has them as they
- * stand on the page.
+ * two pictures, tried on the level of FORMAT 12.13, and those that go through
+ * all boards of a size. recipe.h has them as they stand on the page.
  */
 #include "recipe.h"
 
@@ -99,6 +99,37 @@ static bool pools(void)
            tiles[0] == 2 && tiles[1] == 6;
 }
 
+/* The boards of a walk, as one number after another in base 7. */
+struct walked {
+    size_t tiles, boards;
+    unsigned long last;
+    bool rising;
+};
+
+static void note(const uint8_t *tiles, void *with)
+{
+    struct walked *w = with;
+    unsigned long number = 0;
+
+    for (size_t i = 0; i < w->tiles; i++)
+        number = 7 * number + tiles[i];
+    w->rising = w->rising && (w->boards == 0 || number > w->last);
+    w->last = number;
+    w->boards++;
+}
+
+/* Of two tiles there are two boards, and the last has the number 44; of one
+ * there is none; seven are too many. */
+static bool walks(void)
+{
+    struct walked two = {2, 0, 0, true}, one = {1, 0, 0, true};
+
+    return each_board(2, 1, note, &two) == ZAV_DONE && two.boards == 2 &&
+           two.last == 44 && two.rising &&
+           each_board(1, 1, note, &one) == ZAV_DONE && one.boards == 0 &&
+           each_board(7, 1, note, &one) == ZAV_NOT_TINY && one.boards == 0;
+}
+
 int main(void)
 {
     static const uint8_t level[] = {2, 6};
@@ -115,6 +146,10 @@ int main(void)
     }
     if (!pools()) {
         puts("two pictures are not read as they ought to be");
+        return 1;
+    }
+    if (!walks()) {
+        puts("the boards of a size are not walked as they ought to be");
         return 1;
     }
     return 0;

@@ -6,6 +6,8 @@
  * and second make FILE for zavmake.
  * second pool FILE FILE... writes what zavpool must write, and says the counts
  * on standard error.
+ * second list WIDTH HEIGHT prints what zavtiny must print, and with FOLDER puts
+ * there the files that zavtiny must put.
  * second draw FOLDER COUNT writes so many files for zavshow and zavscan to
  * read, second type FOLDER COUNT so many texts for zavmake, and second cover
  * FOLDER COUNT so many times three pictures of a strip for zavpool.
@@ -17,6 +19,8 @@
 #include "boards.h"
 #include "draw.h"
 #include "reference_pool.h"
+#include "reference_text.h"
+#include "reference_tiny.h"
 #include "typed.h"
 
 enum { BYTES_ROOM = 2 * REF_STRIP_MAX + 1 };
@@ -331,6 +335,48 @@ static int draw_files(const char *folder, size_t count,
     return failed;
 }
 
+/* ---- list ---- */
+
+static void list_text(size_t width, size_t height, const uint8_t *tiles)
+{
+    uint8_t text[REF_TEXT_MAX];
+
+    fwrite(text, 1, ref_text_write(width, height, 0, tiles, width * height,
+                                   text, sizeof text).length, stdout);
+}
+
+static void list_strip(size_t width, size_t height, const uint8_t *tiles,
+                       const char *folder, size_t number)
+{
+    uint8_t cells[BYTES_ROOM] = {0};
+    char path[4096];
+    const size_t len = ref_strip_write(width, height, 0, tiles, width * height,
+                                       cells, REF_STRIP_MAX).length;
+
+    snprintf(path, sizeof path, "%s/%zux%zu-%04zu.cells", folder, width,
+             height, number);
+
+    FILE *file = open_or_stop(path, "wb");
+
+    fwrite(cells, 1, 2 * len, file);
+    fclose(file);
+}
+
+static int list(size_t width, size_t height, const char *folder)
+{
+    const struct ref_tiny *all = ref_tiny_of(width, height);
+    uint8_t tiles[REF_TINY_MAX];
+
+    for (size_t k = 0; k < all->count; k++) {
+        ref_tiny_tiles(all->numbers[k], tiles, width * height);
+        if (folder == NULL)
+            list_text(width, height, tiles);
+        else
+            list_strip(width, height, tiles, folder, k + 1);
+    }
+    return 0;
+}
+
 int main(int argc, char **argv)
 {
     static const struct {
@@ -347,6 +393,9 @@ int main(int argc, char **argv)
     for (size_t i = 0; i < 4; i++)
         if (argc == 3 && strcmp(argv[1], sayings[i].name) == 0)
             return sayings[i].say(argv[2]);
+    if (argc > 3 && strcmp(argv[1], "list") == 0)
+        return list(strtoul(argv[2], NULL, 10), strtoul(argv[3], NULL, 10),
+                    argv[4]);
     if (argc > 3 && strcmp(argv[1], "pool") == 0)
         return pool(argc - 2, argv + 2);
     for (size_t i = 0; i < 3; i++)

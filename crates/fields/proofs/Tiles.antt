@@ -47,6 +47,10 @@ unfolding weight totals
 counts [] = record { above = 0; sum = refl; right = λ z i l. absurd (omega arith); wrong = λ f. refl; few = (omega arith, omega arith, omega arith, omega arith) }
 counts (t ∷ ts) = more t ts (counts ts) (lt-or-ge t 7)
 
+-- a tile adds at most one crate and one goal
+pub at-most-each : (ts : List ℕ) → (totals ts .crate' ≤ length ts) × (totals ts .goal ≤ length ts)
+at-most-each ts = (counts ts .few .1, counts ts .few .2)
+
 module _ (ts : List ℕ) (x : ℕ) (short : length ts ≤ 961) (e : x ≡ weight ts) where
   top : x / 281474976710656 ≡ counts ts .above
   top = omega (arith, e, counts ts .sum, counts ts .few)
@@ -54,8 +58,11 @@ module _ (ts : List ℕ) (x : ℕ) (short : length ts ≤ 961) (e : x ≡ weight
   pub all-tiles : x / 281474976710656 ≡ 0 → AllTiles 1 ts
   all-tiles z = counts ts .right (omega (arith, top, z))
 
+  pub all-below : AllTiles 1 ts → x / 281474976710656 ≡ 0
+  all-below f = omega (arith, top, counts ts .wrong f)
+
   pub not-all : (x / 281474976710656 ≡ 0 → ⊥) → AllTiles 1 ts → ⊥
-  not-all n f = n (omega (arith, top, counts ts .wrong f))
+  not-all n f = n (all-below f)
 
   -- the four sums, each in its place
   pub record Sums : Type 0 where

@@ -36,9 +36,11 @@ use Rattle.strip.proofs.Theorems.{written-strip-level, mended-most, repainted-m
 use Rattle.pool.specs.declared.Pooling.{Pooling}
 use Rattle.pool.specs.Pooled.{Picture, Kind, agreed, taken, conflict, both, poolNumbers, told, pooling, PoolsAs}
 use Rattle.pool.proofs.Theorems.{pool-zeros, counts-add-up}
+use Rattle.tiny.specs.Tiny.{Place, nextNumbers, stepping}
+use Rattle.tiny.proofs.Theorems.{few-tiles, numbers-small}
 use Rattle.packing.specs.Packed.{unpackedLength, unpackedRead, unpackedRepair, unpackedPool}
 use Rattle.packing.proofs.Rooms.{Room, ReadRoom, PoolRoom, back-length, back-read, back-repair, back-pool}
-use Rattle.host.specs.Export.{WriteExport, TestExport, RepairExport, RecordExport, RecordReadExport, TextExport, TextReadExport, StripExport, StripReadExport, PoolExport}
+use Rattle.host.specs.Export.{WriteExport, TestExport, RepairExport, RecordExport, RecordReadExport, TextExport, TextReadExport, StripExport, StripReadExport, PoolExport, TinyExport}
 
 -- a refusal has room
 few : (rs : List Rule) (c : ℕ) → T (between 1 31 rs) → First rs c → c < 32
@@ -241,3 +243,13 @@ module _ (a b out out' : Picture) (r : Pooling) (P : PoolsAs 4 a b out out' r) w
 pub strip-pool-told : (a b out out' : Picture) (r : ℕ) (E : PoolExport 4 a b out out' r) → unpackedPool r ≡ poolNumbers (E .answer)
 strip-pool-told a b out out' r E =
     ap unpackedPool (E .is) ∙ back-pool (poolNumbers (E .answer)) (pool-room a b out out' (E .answer) (E .kept))
+
+-- ---- tiny boards
+
+pub tiny-next-told : (w h : ℕ) (p : Place) (old new : List ℕ) (r : ℕ) (E : TinyExport w h p old new r) → unpackedLength r ≡ nextNumbers (E .answer)
+tiny-next-told w h p old new r E =
+    ap unpackedLength (E .is)
+    ∙ back-length (nextNumbers (E .answer)) (record {
+      code = few (stepping w h p (length old)) (nextNumbers (E .answer) .code) (numbers-small w h p (length old)) (E .kept .code);
+      value = omega (arith, few-tiles w h p old new (E .answer) (E .kept));
+    })

@@ -13,6 +13,7 @@ use Rattle.text.specs.Reading.{TextReadsAs}
 use Rattle.strip.specs.Writing.{StripWritesAs}
 use Rattle.strip.specs.Reading.{stripNumbers, StripReadsAs}
 use Rattle.pool.specs.Pooled.{Picture, poolNumbers, PoolsAs}
+use Rattle.tiny.specs.Tiny.{Place, nextNumbers, StepsAs}
 use Rattle.packing.specs.Packed.{packedLength, packedRead, packedRepair, packedPool}
 
 -- r is the packing of an answer that keeps the entry's promise
@@ -51,3 +52,6 @@ StripReadExport R s marks tiles tiles' scratch scratch' = Export (StripReadsAs R
 
 abbrev pub PoolExport : ℕ → Picture → Picture → Picture → Picture → ℕ → Type 0
 PoolExport R a b out out' = Export (PoolsAs R a b out out') (λ r. packedPool (poolNumbers r))
+
+abbrev pub TinyExport : ℕ → ℕ → Place → List ℕ → List ℕ → ℕ → Type 0
+TinyExport w h p old new = Export (StepsAs w h p old new) (λ a. packedLength (nextNumbers a))

@@ -1,6 +1,8 @@
 // What C sees: numbers and byte slices, the numbers of an answer packed in one. docs/C-INTERFACE.md has the layout.
 ghost use mathlib.Core.Path.{_≡_};
+ghost use mathlib.Core.Bool.{not};
 ghost use Prim.Native.Nat.{_<_, _≤_};
+ghost use lib.Dec.{eqb};
 ghost use lib.ListN.{length};
 ghost use Rattle.account.specs.Code.{alphaTo, syndrome};
 ghost use Rattle.gf256.specs.Gf256.{gf256, times};
@@ -8,8 +10,9 @@ ghost use Rattle.code.specs.Word.{wordMost};
 ghost use Rattle.code.specs.Lane.{laneMost, wordOf};
 ghost use Rattle.level.specs.Writing.{lent};
 ghost use Rattle.pool.specs.Pooled.{photo};
+ghost use Rattle.tiny.specs.Tiny.{placeOf};
 ghost use Rattle.packing.specs.Packed.{packedSums};
-ghost use Rattle.host.specs.Export.{WriteExport, TestExport, RepairExport, RecordExport, RecordReadExport, TextExport, TextReadExport, StripExport, StripReadExport, PoolExport};
+ghost use Rattle.host.specs.Export.{WriteExport, TestExport, RepairExport, RecordExport, RecordReadExport, TextExport, TextReadExport, StripExport, StripReadExport, PoolExport, TinyExport};
 use code::lane::LANE_MOST;
 use code::lane::Lane;
 use code::repair::Repaired;
@@ -207,4 +210,18 @@ pub extern "C" fn zav_strip_pool(
     ensures { λ r. ⌜ PoolExport 4 (photo (now (first .entry)) (now («first_marks» .entry))) (photo (now (second .entry)) (now («second_marks» .entry))) (photo (now (cells .entry)) (now (marks .entry))) (photo (now (cells .exit)) (now (marks .exit))) r ⌝ }
 {
     packing::pack_pooling(pool::pool(first, first_marks, second, second_marks, cells, marks))
+}
+
+// The next legal board of a tiny size: the first of all, where `start` is not 0, or the one after a given board.
+#[no_mangle]
+pub extern "C" fn zav_tiny_next(
+    width: usize,
+    height: usize,
+    start: u32,
+    given: &[u8],
+    tiles: &mut [u8],
+) -> u64
+    ensures { λ r. ⌜ TinyExport width height (placeOf (not (eqb start 0)) (now (given .entry))) (now (tiles .entry)) (now (tiles .exit)) r ⌝ }
+{
+    packing::pack_found(tiny::next(width, height, start != 0, given, tiles))
 }

@@ -7,7 +7,7 @@ use Rattle.code.specs.Repair.{RepairNumbers}
 use Rattle.level.specs.Reading.{ReadNumbers}
 use Rattle.pool.specs.Pooled.{PoolNumbers}
 
--- code in bits 0 to 4, and a length, or whether a word is clean, in bits 48 to 63
+-- code in bits 0 to 4, and a length, whether a word is clean, or the tiles of a next board, in bits 48 to 63
 abbrev pub packedLength : Numbers → ℕ
 packedLength n = n .code % 32 + n .value % 65536 * 2 ^ 48
 

@@ -5,6 +5,7 @@ ghost use Rattle.code.specs.Repair.{repairedNumbers};
 ghost use Rattle.record.specs.Reading.{recordNumbers};
 ghost use Rattle.strip.specs.Reading.{stripNumbers};
 ghost use Rattle.pool.specs.Pooled.{poolNumbers};
+ghost use Rattle.tiny.specs.Tiny.{nextNumbers};
 ghost use Rattle.packing.specs.Packed.{packedLength, packedRead, packedRepair, packedPool};
 use code::repair::Repaired;
 use code::word::Tested;
@@ -12,6 +13,7 @@ use code::word::Written;
 use pool::Pooling;
 use record::read::RecordRead;
 use strip::read::Reading;
+use tiny::Found;
 
 // A code in the lowest five bits, and a value from bit 48 on.
 fn pack_length(code: u8, value: usize) -> u64
@@ -36,6 +38,16 @@ pub fn pack_tested(a: Tested) -> u64
         Tested::Clean => pack_length(0, 1),
         Tested::Damaged => pack_length(0, 0),
         Tested::Refused(c) => pack_length(c, 0),
+    }
+}
+
+pub fn pack_found(a: Found) -> u64
+    ensures { λ r. ⌜ r ≡ packedLength (nextNumbers a) ⌝ }
+{
+    match a {
+        Found::Board(n) => pack_length(0, n),
+        Found::NoneLeft => pack_length(0, 0),
+        Found::Refused(c) => pack_length(c, 0),
     }
 }
 

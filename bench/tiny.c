@@ -82,6 +82,7 @@ static void check(void *batch)
 int main(void)
 {
     static struct batch b;
+    char name[64];
 
     ref_tiny_list(&b.right, WIDTH, HEIGHT);
 
@@ -92,7 +93,8 @@ int main(void)
 
     printf("%-33s", "legal boards a second");
     print_heads("reference");
-    printf("all %zu of %d by %-20d", b.right.count, WIDTH, HEIGHT);
+    sprintf(name, "all %zu of %d by %d", b.right.count, WIDTH, HEIGHT);
+    printf("%-33s", name);
     print_rates(&row);
     return 0;
 }

@@ -34,10 +34,10 @@ extern "C" {
  * height, and each of its codes at most 6. With ZAV_START, or any number but 0,
  * it is the first of all, and the given board is not looked at: it may be NULL.
  *
- * Any width and height may be asked for; other sizes are refused with
- * ZAV_NOT_TINY. tiles_len must be at least ZAV_TILES_MAX. Nothing is written
- * when refused, and the given board never is. The two must not overlap: copy a
- * board out of the tile buffer before you ask for the one after it.
+ * A size that is not tiny is refused with ZAV_NOT_TINY, whatever the numbers.
+ * tiles_len must be at least ZAV_TILES_MAX. Nothing is written when refused,
+ * and the given board never is. The two must not overlap: copy a board out of
+ * the tile buffer before you ask for the one after it.
  */
 uint64_t zav_tiny_next(size_t width, size_t height, uint32_t start,
                        const uint8_t *given, size_t given_len,

@@ -16,7 +16,7 @@ use Rattle.level.specs.Level.{AllTiles}
 use Rattle.level.proofs.Unfinished.{some-two}
 use Rattle.tiny.specs.declared.Found.{Found}
 use Rattle.tiny.specs.declared.Found.the-variants as answer
-use Rattle.tiny.specs.Tiny.{Tiny, IsBoard, digits, number, Place, start, after, Later, IsNext, nextNumbers, giving, stepping, StepsAs}
+use Rattle.tiny.specs.Tiny.{Tiny, LegalBoard, digits, number, Place, start, after, Later, IsNext, nextNumbers, giving, stepping, StepsAs}
 use Rattle.tiny.specs.Parts.{Ruled, Over, Seeks, GoesOn}
 use Rattle.tiny.proofs.Given.{tiny-sized}
 use Rattle.tiny.proofs.Digits.{same-tiles, floor-least}
@@ -50,10 +50,10 @@ copied from z x e = ap (take (length from - 0)) e ∙ take-at from (drop (length
 
 -- ---- boards of a tiny size
 
-ruled : (w h : ℕ) (c : List ℕ) → IsBoard w h c → Ruled (w * h) c
+ruled : (w h : ℕ) (c : List ℕ) → LegalBoard w h c → Ruled (w * h) c
 ruled w h c b = record { long = b .count; codes = b .codes; fair = b .playable }
 
-pub board : (w h : ℕ) → Tiny w h → (c : List ℕ) → Ruled (w * h) c → IsBoard w h c
+pub board : (w h : ℕ) → Tiny w h → (c : List ℕ) → Ruled (w * h) c → LegalBoard w h c
 board w h t c r = record {
   ranged = record { known = refl; sized = tiny-sized w h t; par-small = omega arith };
   count = r .long;
@@ -81,9 +81,9 @@ given-holds w h g c f z = all-hold 9 (giving w h (after g)) c tt f z
 
 -- the tiles `from` stand for the place: the same boards are later
 module _ (w h : ℕ) (t : Tiny w h) (p : Place) (from : List ℕ) (long : length from ≡ w * h)
-    (to : (c : List ℕ) → IsBoard w h c → Later p c → number from < number c) (back : (c : List ℕ) → IsBoard w h c → number from < number c → Later p c)
+    (to : (c : List ℕ) → LegalBoard w h c → Later p c → number from < number c) (back : (c : List ℕ) → LegalBoard w h c → number from < number c → Later p c)
   where
-    sized : (c : List ℕ) → IsBoard w h c → Ruled (length from) c
+    sized : (c : List ℕ) → LegalBoard w h c → Ruled (length from) c
     sized c b = subst (λ (n : ℕ). Ruled n c) (sym long) (ruled w h c b)
 
     pub steps : (old new : List ℕ) (a : Found) → Hold (stepping w h p (length old)) → length new ≡ length old → GoesOn from old new a → StepsAs w h p old new a
@@ -100,7 +100,7 @@ module _ (w h : ℕ) (t : Tiny w h) (p : Place) (from : List ℕ) (long : length
         found k =
             let s = g .next k in
             let b = take (length from) new in
-            let legal : IsBoard w h b = board w h t b (record {
+            let legal : LegalBoard w h b = board w h t b (record {
               long = length-take-le (length from) new (omega (arith, same, long, t .few, hold .0)) ∙ long;
               codes = s .0 .codes;
               fair = s .1;
@@ -143,7 +143,7 @@ unfolding digits
 start-0 f c = omega arith
 
 -- all floor stands for the start
-pub floor-first : (w h : ℕ) (c : List ℕ) → IsBoard w h c → number (floor (w * h)) < number c
+pub floor-first : (w h : ℕ) (c : List ℕ) → LegalBoard w h c → number (floor (w * h)) < number c
 floor-first w h c b = go (eq-or-lt-of-le least)
   where
     f : List ℕ

@@ -1,13 +1,14 @@
--- A size that is tiny, and the codes of a given board.
-use mathlib.Core.Path.{_≡_, sym, subst}
-use mathlib.Core.Logic.{inl, inr, ⊎-elim}
+-- A size that is tiny, and a board that is judged.
+use mathlib.Core.Path.{_≡_}
 use mathlib.Core.List.{List}
-use Prim.Native.Nat.{ℕ, _+_, _*_, _≤_, _<_}
-use native.Mathlib.Nat.{mul-le-mul, le-refl, eq-or-lt-of-le}
+use Prim.Native.Nat.{ℕ, _*_, _≤_}
+use native.Mathlib.Nat.{mul-le-mul, le-refl}
 use native.Mathlib.Omega.{arith}
+use Rattle.rules.specs.Refusal.{asked}
+use Rattle.rules.proofs.Laws.{all-hold, none-first}
 use Rattle.level.specs.Tile.{totals}
-use Rattle.level.specs.Level.{Sized, AllTiles, Playable}
-use Rattle.fields.specs.Sum.{BoardCode}
+use Rattle.level.specs.Level.{Sized, AllTiles, Playable, boarding}
+use Rattle.fields.specs.Sum.{boardOf, BoardCode}
 use Rattle.tiny.specs.Tiny.{Tiny}
 
 module _ (w h : ℕ) (t : Tiny w h) where
@@ -27,19 +28,11 @@ module _ (w h : ℕ) (t : Tiny w h) where
 pub product-most : (w h : ℕ) → w ≤ 6 → h ≤ 6 → w * h ≤ 36
 product-most w h a b = mul-le-mul a b
 
--- ---- one tile after the other
+-- ---- a board judged by refusals 9 and 10
 
-pub one-more : (P : ℕ → Type 0) (i : ℕ) → ((j : ℕ) → j < i → P j) → P i → (j : ℕ) → j < i + 1 → P j
-one-more P i f p j h = ⊎-elim (λ e. subst P (sym e) p) (λ l. f j l) (eq-or-lt-of-le {n = j} {m = i} (omega (arith, h)))
+module _ (ts : List ℕ) (c : ℕ) (f : BoardCode 1 ts c) where
+  pub is-fair : c ≡ 0 → Playable 1 (totals ts)
+  is-fair z = all-hold 10 (asked (λ ask. ask (boardOf 1 ts)) boarding) c tt f z .1 .0
 
--- ---- a whole board, by refusals 9 and 10
-
-pub is-fair : (ts : List ℕ) (c : ℕ) → BoardCode 1 ts c → c ≡ 0 → Playable 1 (totals ts)
-is-fair ts c (inl p) z = absurd (omega (arith, p .1, z))
-is-fair ts c (inr (f, inl p)) z = absurd (omega (arith, p .1, z))
-is-fair ts c (inr (f, inr p)) z = p .0
-
-pub not-fair : (ts : List ℕ) (c : ℕ) → BoardCode 1 ts c → AllTiles 1 ts → (c ≡ 0 → ⊥) → Playable 1 (totals ts) → ⊥
-not-fair ts c (inl p) f n k = p .0 f
-not-fair ts c (inr (g, inl p)) f n k = p .0 k
-not-fair ts c (inr (g, inr p)) f n k = n (p .1)
+  pub not-fair : AllTiles 1 ts → (c ≡ 0 → ⊥) → Playable 1 (totals ts) → ⊥
+  not-fair a n p = n (none-first (asked (λ ask. ask (boardOf 1 ts)) boarding) c (a, (p, tt)) f)

@@ -12,7 +12,7 @@ use Rattle.rules.proofs.Numbers.{lt-or-ge}
 use Rattle.level.specs.Sizes.{tilesMost}
 use Rattle.tiny.specs.declared.Found.{Found}
 use Rattle.tiny.specs.declared.Found.the-variants as answer
-use Rattle.tiny.specs.Tiny.{Tiny, IsBoard, digits, number, Place, start, after, Later, IsNext, NoneLeft, nextNumbers, stepping, StepsAs, Gave, Walk, WholeWalk, AllInOrder}
+use Rattle.tiny.specs.Tiny.{Tiny, LegalBoard, digits, number, Place, start, after, Later, IsNext, NoneLeft, nextNumbers, stepping, StepsAs, Gave, Walk, WholeWalk, AllInOrder}
 use Rattle.tiny.proofs.Digits.{same-board, digits-below}
 
 module _ (w h : ℕ) where
@@ -27,7 +27,7 @@ module _ (w h : ℕ) where
   next-later g b k = gave-next (after g) b k .later
 
   -- and no legal board lies between
-  pub none-between : (p : Place) (b : List ℕ) → Gave w h p b → (c : List ℕ) → IsBoard w h c → Later p c → number c < number b → ⊥
+  pub none-between : (p : Place) (b : List ℕ) → Gave w h p b → (c : List ℕ) → LegalBoard w h c → Later p c → number c < number b → ⊥
   none-between p b k c l e s = omega (arith, gave-next p b k .least c l e, s)
 
   -- none is left exactly if there is none
@@ -104,7 +104,7 @@ module _ (w h : ℕ) where
     pub start-taken : StepsAs w h start old new a → nextNumbers a .code ≡ 0
     start-taken P = none-first (stepping w h start (length old)) (nextNumbers a .code) (room, (t, tt)) (P .code)
 
-    pub board-taken : (b : List ℕ) → IsBoard w h b → StepsAs w h (after b) old new a → nextNumbers a .code ≡ 0
+    pub board-taken : (b : List ℕ) → LegalBoard w h b → StepsAs w h (after b) old new a → nextNumbers a .code ≡ 0
     board-taken b l P = none-first (stepping w h (after b) (length old)) (nextNumbers a .code) (room, (t, (l .count, (l .codes, tt)))) (P .code)
 
   -- ---- FORMAT 16.9: walks
@@ -120,7 +120,7 @@ module _ (w h : ℕ) where
   on-the-way p (b ∷ bs) W = (W .0, on-the-way (after b) bs (W .1))
 
   -- it gives later legal boards
-  pub walk-only : (p : Place) (bs : List (List ℕ)) → Walk w h p bs → (i : ℕ) → i < length bs → IsBoard w h (getD bs i []) × Later p (getD bs i [])
+  pub walk-only : (p : Place) (bs : List (List ℕ)) → Walk w h p bs → (i : ℕ) → i < length bs → LegalBoard w h (getD bs i []) × Later p (getD bs i [])
   walk-only p [] W i l = absurd (omega (arith, l))
   walk-only p (b ∷ bs) W zero l = let n = gave-next p b (W .0) in (n .board, n .later)
   walk-only p (b ∷ bs) W (suc i) l =
@@ -146,7 +146,7 @@ module _ (w h : ℕ) where
       go (inr m) (inr q) = omega (arith, m, q)
 
   -- continued until none is left, it meets all of them
-  pub walk-meets : (p : Place) (bs : List (List ℕ)) → WholeWalk w h p bs → (c : List ℕ) → IsBoard w h c → Later p c
+  pub walk-meets : (p : Place) (bs : List (List ℕ)) → WholeWalk w h p bs → (c : List ℕ) → LegalBoard w h c → Later p c
       → (i : ℕ) × (i < length bs) × (getD bs i [] ≡ c)
   walk-meets p [] W c l m = absurd (W .promise .none (W .done) (W .none) c l m)
   walk-meets p (b ∷ bs) W c l m = go (λ q. walk-meets (after b) bs (W .1) c l q) (eq-or-lt-of-le (n .least c l m))
@@ -160,13 +160,13 @@ module _ (w h : ℕ) where
       go f (inr q) = let r = f q in (suc (r .0), omega (arith, r .1), r .2)
 
   -- so from any place on it gives just the later legal boards, each once and in order
-  pub walk-from : (p : Place) (bs : List (List ℕ)) → WholeWalk w h p bs → AllInOrder (λ c. IsBoard w h c × Later p c) bs
+  pub walk-from : (p : Place) (bs : List (List ℕ)) → WholeWalk w h p bs → AllInOrder (λ c. LegalBoard w h c × Later p c) bs
   walk-from p bs W =
       let U = on-the-way p bs W in
       record { only = walk-only p bs U; meets = λ c l. walk-meets p bs W c (l .0) (l .1); once = walk-once p bs U; rising = walk-rising p bs U }
 
   -- and from the start on all legal boards of the size
-  pub walk-whole : (bs : List (List ℕ)) → WholeWalk w h start bs → AllInOrder (IsBoard w h) bs
+  pub walk-whole : (bs : List (List ℕ)) → WholeWalk w h start bs → AllInOrder (LegalBoard w h) bs
   walk-whole bs W =
       let r = walk-from start bs W in
       record { only = λ i l. r .only i l .0; meets = λ c l. r .meets c (l, tt); once = r .once; rising = r .rising }

@@ -8,7 +8,7 @@ use lib.ListN.{getD}
 use Rattle.level.specs.Tile.{adds, totals}
 use Rattle.level.specs.Level.{Playable}
 use Rattle.level.proofs.Unfinished.{some-two}
-use Rattle.tiny.specs.Tiny.{Tiny, IsBoard, digits, number, start, after, IsNext, NoneLeft, WholeWalk}
+use Rattle.tiny.specs.Tiny.{Tiny, LegalBoard, digits, number, start, after, IsNext, NoneLeft, WholeWalk}
 use Rattle.tiny.proofs.Answering.{board}
 use Rattle.tiny.proofs.Theorems.{gave-next, next-fixed}
 
@@ -35,6 +35,10 @@ crate-first = 2 ∷ 6 ∷ []
 abbrev pub player-first : List ℕ
 player-first = 6 ∷ 2 ∷ []
 
+pub worked-numbers : (number crate-first ≡ 20) × (number player-first ≡ 44)
+unfolding digits
+worked-numbers = (refl, refl)
+
 -- what adds a player and one goal more than crates
 fellow : (u : ℕ) → adds u .player ≡ 1 → adds u .crate' + 1 ≡ adds u .goal → u ≡ 6
 fellow zero p g = absurd (omega (arith, p))
@@ -56,7 +60,7 @@ in-front u p = fellow u (omega (arith, p .one-player)) (omega (arith, p .as-many
 
 -- a size of two tiles, 2 by 1 or 1 by 2
 module _ (w h : ℕ) (t : Tiny w h) (two : w * h ≡ 2) where
-  pair-board : (x y : ℕ) → x ≤ 6 → y ≤ 6 → Playable 1 (totals (x ∷ y ∷ [])) → IsBoard w h (x ∷ y ∷ [])
+  pair-board : (x y : ℕ) → x ≤ 6 → y ≤ 6 → Playable 1 (totals (x ∷ y ∷ [])) → LegalBoard w h (x ∷ y ∷ [])
   pair-board x y a b p = board w h t (x ∷ y ∷ []) (record { long = sym two; codes = codes; fair = p })
     where
       codes : (i : ℕ) → i < 2 → getD (x ∷ y ∷ []) i 0 ≤ 6
@@ -64,17 +68,17 @@ module _ (w h : ℕ) (t : Tiny w h) (two : w * h ≡ 2) where
       codes (suc zero) m = b
       codes (suc (suc i)) m = absurd (omega (arith, m))
 
-  is-crate-first : IsBoard w h crate-first
+  is-crate-first : LegalBoard w h crate-first
   unfolding totals
   is-crate-first =
       pair-board 2 6 (omega arith) (omega arith) (record { one-player = refl; some-crate = omega arith; as-many = refl; unfinished = omega arith })
 
-  is-player-first : IsBoard w h player-first
+  is-player-first : LegalBoard w h player-first
   unfolding totals
   is-player-first =
       pair-board 6 2 (omega arith) (omega arith) (record { one-player = refl; some-crate = omega arith; as-many = refl; unfinished = omega arith })
 
-  pub two-tiles : (c : List ℕ) → IsBoard w h c → (c ≡ crate-first) ⊎ (c ≡ player-first)
+  pub two-tiles : (c : List ℕ) → LegalBoard w h c → (c ≡ crate-first) ⊎ (c ≡ player-first)
   two-tiles [] l = absurd (omega (arith, l .count, two))
   two-tiles (x ∷ []) l = absurd (omega (arith, l .count, two))
   two-tiles (x ∷ y ∷ z ∷ c) l = absurd (omega (arith, l .count, two))
@@ -90,44 +94,40 @@ module _ (w h : ℕ) (t : Tiny w h) (two : w * h ≡ 2) where
 
   -- ---- their walk
 
-  value : (number crate-first ≡ 20) × (number player-first ≡ 44)
-  unfolding digits
-  value = (refl, refl)
-
-  by-number : (c : List ℕ) → IsBoard w h c → ((number c ≡ 20) × (c ≡ crate-first)) ⊎ ((number c ≡ 44) × (c ≡ player-first))
+  by-number : (c : List ℕ) → LegalBoard w h c → ((number c ≡ 20) × (c ≡ crate-first)) ⊎ ((number c ≡ 44) × (c ≡ player-first))
   by-number c l = go (two-tiles c l)
     where
       go : (c ≡ crate-first) ⊎ (c ≡ player-first) → ((number c ≡ 20) × (c ≡ crate-first)) ⊎ ((number c ≡ 44) × (c ≡ player-first))
-      go (inl e) = inl (ap number e ∙ value .0, e)
-      go (inr e) = inr (ap number e ∙ value .1, e)
+      go (inl e) = inl (ap number e ∙ worked-numbers .0, e)
+      go (inr e) = inr (ap number e ∙ worked-numbers .1, e)
 
   first : IsNext w h start crate-first
   first = record { board = is-crate-first; later = tt; least = λ c l m. go c (by-number c l) }
     where
       go : (c : List ℕ) → ((number c ≡ 20) × (c ≡ crate-first)) ⊎ ((number c ≡ 44) × (c ≡ player-first)) → number crate-first ≤ number c
-      go c (inl e) = omega (arith, e .0, value .0)
-      go c (inr e) = omega (arith, e .0, value .0)
+      go c (inl e) = omega (arith, e .0, worked-numbers .0)
+      go c (inr e) = omega (arith, e .0, worked-numbers .0)
 
   second : IsNext w h (after crate-first) player-first
-  second = record { board = is-player-first; later = omega (arith, value); least = λ c l m. go c m (by-number c l) }
+  second = record { board = is-player-first; later = omega (arith, worked-numbers); least = λ c l m. go c m (by-number c l) }
     where
       go : (c : List ℕ) → number crate-first < number c → ((number c ≡ 20) × (c ≡ crate-first)) ⊎ ((number c ≡ 44) × (c ≡ player-first))
           → number player-first ≤ number c
-      go c m (inl e) = absurd (omega (arith, e .0, value .0, m))
-      go c m (inr e) = omega (arith, e .0, value .1)
+      go c m (inl e) = absurd (omega (arith, e .0, worked-numbers .0, m))
+      go c m (inr e) = omega (arith, e .0, worked-numbers .1)
 
   third : NoneLeft w h (after player-first)
   third c l m = go (by-number c l)
     where
       go : ((number c ≡ 20) × (c ≡ crate-first)) ⊎ ((number c ≡ 44) × (c ≡ player-first)) → ⊥
-      go (inl e) = omega (arith, e .0, value .1, m)
-      go (inr e) = omega (arith, e .0, value .1, m)
+      go (inl e) = omega (arith, e .0, worked-numbers .1, m)
+      go (inr e) = omega (arith, e .0, worked-numbers .1, m)
 
   pub worked : (bs : List (List ℕ)) → WholeWalk w h start bs → bs ≡ crate-first ∷ player-first ∷ []
   worked [] W = absurd (W .promise .none (W .done) (W .none) crate-first is-crate-first tt)
   worked (b ∷ []) W =
       let e = next-fixed w h start b crate-first (gave-next w h start b (W .0)) first in
-      absurd (W .1 .promise .none (W .1 .done) (W .1 .none) player-first is-player-first (omega (arith, ap number e, value)))
+      absurd (W .1 .promise .none (W .1 .done) (W .1 .none) player-first is-player-first (omega (arith, ap number e, worked-numbers)))
   worked (b ∷ c ∷ bs) W = go bs (W .1 .1)
     where
       e : b ≡ crate-first

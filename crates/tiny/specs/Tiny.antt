@@ -21,8 +21,8 @@ pub record Tiny (w h : ℕ) : Type 0 where
   pub few : w * h ≤ tinyMost
 
 -- FORMAT 16.2: a legal board of that size: with par 0 it is a level
-abbrev pub IsBoard : ℕ → ℕ → List ℕ → Type 0
-IsBoard w h b = IsLevel (lent w h 0 b)
+abbrev pub LegalBoard : ℕ → ℕ → List ℕ → Type 0
+LegalBoard w h b = IsLevel (lent w h 0 b)
 
 -- FORMAT 16.3: the first n tiles as one number in base 7, the first of them highest
 unfoldable pub digits : ℕ → List ℕ → ℕ
@@ -46,13 +46,13 @@ Later (after g) b = number g < number b
 
 -- FORMAT 16.5: the next board: of the legal ones that are later, the one with the least number
 pub record IsNext (w h : ℕ) (p : Place) (b : List ℕ) : Type 0 where
-  pub board : IsBoard w h b
+  pub board : LegalBoard w h b
   pub later : Later p b
-  pub least : (c : List ℕ) → IsBoard w h c → Later p c → number b ≤ number c
+  pub least : (c : List ℕ) → LegalBoard w h c → Later p c → number b ≤ number c
 
 -- FORMAT 16.5: there is none
 abbrev pub NoneLeft : ℕ → ℕ → Place → Type 0
-NoneLeft w h p = (c : List ℕ) → IsBoard w h c → Later p c → ⊥
+NoneLeft w h p = (c : List ℕ) → LegalBoard w h c → Later p c → ⊥
 
 -- ---- the entry
 

@@ -38,8 +38,9 @@ uint64_t due_result(const struct board *level, const struct damage *d,
         return packed((struct ref_result){.code = 6,
                                           .lane = (unsigned)d->first_lane});
     return packed((struct ref_result){
-        .width = (unsigned)level->width, .height = (unsigned)level->height,
-        .par = (unsigned)level->par, .mended = mended,
+        .version = (unsigned)level->version, .width = (unsigned)level->width,
+        .height = (unsigned)level->height, .par = (unsigned)level->par,
+        .mended = mended,
         .repainted = (unsigned)(damaged * d->marked),
         .wear = ref_wear(mended, cells)});
 }

@@ -23,13 +23,14 @@ enum {
     ROOM = REF_TEXT_MAX
 };
 
-/* What a level is written as. */
+/* What a level is written as; "for v1" are records again, by the reader for
+   version 1. */
 struct form {
     const char *name;
-    uint64_t (*write)(size_t, size_t, size_t, const uint8_t *, size_t,
+    uint64_t (*write)(size_t, size_t, size_t, size_t, const uint8_t *, size_t,
                       uint8_t *, size_t);
-    struct ref_result (*ref_write)(size_t, size_t, size_t, const uint8_t *,
-                                   size_t, uint8_t *, size_t);
+    struct ref_result (*ref_write)(size_t, size_t, size_t, size_t,
+                                   const uint8_t *, size_t, uint8_t *, size_t);
     uint64_t (*read)(const uint8_t *, size_t, uint8_t *, size_t);
     struct ref_result (*ref_read)(const uint8_t *, size_t, uint8_t *, size_t);
 };
@@ -37,6 +38,7 @@ struct form {
 static const struct form forms[] = {
     {"record", zav_record_write, ref_record_write, zav_record_read,
      ref_record_read},
+    {"for v1", NULL, ref_record_write, zav_record_read_v1, ref_record_read_v1},
     {"text", zav_text_write, ref_text_write, zav_text_read, ref_text_read},
 };
 
@@ -61,8 +63,9 @@ static void fill(void *batch)
         struct board *l = &b->level[i];
 
         draw_level(l, b->width, b->height);
-        b->len[i] = b->form->ref_write(l->width, l->height, l->par, l->tiles,
-                                       l->tiles_len, b->right[i], ROOM).length;
+        b->len[i] = b->form->ref_write(l->version, l->width, l->height, l->par,
+                                       l->tiles, l->tiles_len, b->right[i],
+                                       ROOM).length;
     }
 }
 
@@ -83,8 +86,9 @@ static void our_write(void *batch)
     for (int i = 0; i < LEVELS; i++) {
         const struct board *l = &b->level[i];
 
-        b->result[i] = b->form->write(l->width, l->height, l->par, l->tiles,
-                                      l->tiles_len, b->written[i], ROOM);
+        b->result[i] = b->form->write(l->version, l->width, l->height, l->par,
+                                      l->tiles, l->tiles_len, b->written[i],
+                                      ROOM);
     }
 }
 
@@ -96,7 +100,7 @@ static void ref_write(void *batch)
         const struct board *l = &b->level[i];
 
         b->result[i] = packed(b->form->ref_write(
-            l->width, l->height, l->par, l->tiles, l->tiles_len,
+            l->version, l->width, l->height, l->par, l->tiles, l->tiles_len,
             b->written[i], ROOM));
     }
 }
@@ -137,7 +141,8 @@ static void check_read(void *batch)
 
     for (int i = 0; i < LEVELS; i++) {
         const struct board *l = &b->level[i];
-        const struct ref_result level = {.width = (unsigned)l->width,
+        const struct ref_result level = {.version = (unsigned)l->version,
+                                         .width = (unsigned)l->width,
                                          .height = (unsigned)l->height,
                                          .par = (unsigned)l->par};
 
@@ -168,8 +173,9 @@ static void time_size(const struct form *form, size_t width, size_t height)
     b.form = form;
     b.width = width;
     b.height = height;
-    compare(&b, "write", (struct side){ref_write, check_written},
-            (struct side){our_write, check_written});
+    if (form->write != NULL)
+        compare(&b, "write", (struct side){ref_write, check_written},
+                (struct side){our_write, check_written});
     compare(&b, "read", (struct side){ref_read, check_read},
             (struct side){our_read, check_read});
 }
@@ -177,6 +183,7 @@ static void time_size(const struct form *form, size_t width, size_t height)
 int main(void)
 {
     draw_seed(1);
+    draw_versions(1);
     printf("ns per level\n");
     printf("%7s  %-20s", "tiles", "");
     print_heads("reference");

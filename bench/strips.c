@@ -70,8 +70,8 @@ static void our_write(void *batch)
     for (int i = 0; i < STRIPS; i++) {
         const struct board *l = &b->level[i];
 
-        b->result[i] = zav_strip_write(l->width, l->height, l->par, l->tiles,
-                                       l->tiles_len, b->strip[i],
+        b->result[i] = zav_strip_write(l->version, l->width, l->height, l->par,
+                                       l->tiles, l->tiles_len, b->strip[i],
                                        REF_STRIP_MAX);
     }
 }
@@ -96,6 +96,20 @@ static void our_read(void *batch)
         b->result[i] = zav_strip_read(p->strip, p->strip_len, p->marks,
                                       p->marks_len, b->tiles[i], REF_TILES_MAX,
                                       b->scratch, REF_SCRATCH_MIN);
+    }
+}
+
+static void our_read_v1(void *batch)
+{
+    struct batch *b = batch;
+
+    for (int i = 0; i < STRIPS; i++) {
+        const struct picture *p = &b->damaged[i].picture;
+
+        b->result[i] = zav_strip_read_v1(p->strip, p->strip_len, p->marks,
+                                         p->marks_len, b->tiles[i],
+                                         REF_TILES_MAX, b->scratch,
+                                         REF_SCRATCH_MIN);
     }
 }
 
@@ -166,6 +180,7 @@ static void compare(struct batch *b, const struct damage *d, pass *theirs,
 static void time_size(size_t width, size_t height, size_t cells)
 {
     static const struct damage none = {"write", 0, 0, 0};
+    static const struct damage first = {"read for v1, clean", 0, 0, 0};
     static const struct damage damages[] = {
         {"read, clean", 0, 0, 0},
         {"read, 1 wrong a lane", 0, 1, 0},
@@ -175,6 +190,7 @@ static void time_size(size_t width, size_t height, size_t cells)
     };
     static const struct side write = {our_write, check_strips};
     static const struct side read = {our_read, check_levels};
+    static const struct side read_v1 = {our_read_v1, check_levels};
     static struct batch b;
 
     b.fec = new_fec(cells / REF_LANES);
@@ -184,12 +200,14 @@ static void time_size(size_t width, size_t height, size_t cells)
     compare(&b, &none, fec_write, write);
     for (size_t k = 0; k < COUNT(damages); k++)
         compare(&b, &damages[k], fec_read, read);
+    compare(&b, &first, fec_read, read_v1);
     free_rs_char(b.fec);
 }
 
 int main(void)
 {
     draw_seed(1);
+    draw_versions(1);
     printf("ns per strip, and for libfec per four lanes\n");
     printf("%5s  %-26s", "cells", "");
     print_heads("libfec");

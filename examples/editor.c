@@ -53,8 +53,9 @@ static bool redraw(const struct picture *p, uint8_t drawn[ZAV_STRIP_MAX],
 
     const size_t width = zav_width(*answer), height = zav_height(*answer);
 
-    zav_strip_write(width, height, zav_par(*answer), level, width * height,
-                    drawn, ZAV_STRIP_MAX);
+    zav_strip_write(zav_level_version(*answer), width, height,
+                    zav_par(*answer), level, width * height, drawn,
+                    ZAV_STRIP_MAX);
     return true;
 }
 
@@ -84,8 +85,9 @@ int main(void)
     uint8_t drawn[ZAV_STRIP_MAX];
     uint64_t answer;
 
-    p.len = zav_length(zav_strip_write(WIDTH, HEIGHT, PAR, tiles, sizeof tiles,
-                                       p.cells, sizeof p.cells));
+    p.len = zav_length(zav_strip_write(ZAV_LEVEL_V1, WIDTH, HEIGHT, PAR, tiles,
+                                       sizeof tiles, p.cells,
+                                       sizeof p.cells));
     damage(&p);
     if (!redraw(&p, drawn, &answer)) {
         printf("refused %u: %s\n", zav_code(answer),

@@ -11,9 +11,10 @@
 
 enum { WIDTH = 6, HEIGHT = 4, PAR = 12 };
 
-/* By tile code: floor, wall, crate, goal, crate on goal, player, and player
- * on goal. */
-static const char letters[] = "-#$.*@+";
+/* By tile code: floor, wall, crate, goal, crate on goal, player, player on
+ * goal, and pit. The level has no pit, so that version 1 is enough for it; one
+ * that is read may be of version 2. */
+static const char letters[] = "-#$.*@+^";
 
 static const char *const drawn[HEIGHT] = {
     "######",
@@ -74,8 +75,8 @@ int main(void)
 
     type_level(tiles);
 
-    const uint64_t written = zav_strip_write(WIDTH, HEIGHT, PAR, tiles,
-                                             sizeof tiles, strip,
+    const uint64_t written = zav_strip_write(ZAV_LEVEL_V1, WIDTH, HEIGHT, PAR,
+                                             tiles, sizeof tiles, strip,
                                              sizeof strip);
 
     if (zav_code(written) != ZAV_DONE) {

@@ -24,7 +24,8 @@ static const uint8_t level[WIDTH * HEIGHT] = {
 
 static bool is_level(uint64_t result, const uint8_t *tiles)
 {
-    return zav_width(result) == WIDTH && zav_height(result) == HEIGHT &&
+    return zav_level_version(result) == ZAV_LEVEL_V1 &&
+           zav_width(result) == WIDTH && zav_height(result) == HEIGHT &&
            zav_par(result) == PAR && memcmp(tiles, level, sizeof level) == 0;
 }
 
@@ -64,8 +65,8 @@ static void print_tries(const uint8_t *strip, size_t len, size_t cells,
 int main(void)
 {
     uint8_t strip[ZAV_STRIP_MAX];
-    const uint64_t written = zav_strip_write(WIDTH, HEIGHT, PAR, level,
-                                             sizeof level, strip,
+    const uint64_t written = zav_strip_write(ZAV_LEVEL_V1, WIDTH, HEIGHT, PAR,
+                                             level, sizeof level, strip,
                                              sizeof strip);
 
     if (zav_code(written) != ZAV_DONE) {

@@ -48,22 +48,24 @@ static inline unsigned zav_wear(uint64_t result)
 
 /*
  * Write the level's strip to the front of the buffer, and return the length
- * written; what is past it keeps its value. tiles_len must be width times
- * height, and strip_len at least ZAV_STRIP_MAX. Nothing is written when
- * refused, and the tiles never are. Tiles and strip must not overlap.
+ * written; what is past it keeps its value. The version is ZAV_LEVEL_V1 or
+ * ZAV_LEVEL_V2; any other number is refused with ZAV_OUT_OF_RANGE. tiles_len
+ * must be width times height, and strip_len at least ZAV_STRIP_MAX. Nothing is
+ * written when refused, and the tiles never are. Tiles and strip must not
+ * overlap.
  */
-uint64_t zav_strip_write(size_t width, size_t height, size_t par,
-                         const uint8_t *tiles, size_t tiles_len,
+uint64_t zav_strip_write(size_t version, size_t width, size_t height,
+                         size_t par, const uint8_t *tiles, size_t tiles_len,
                          uint8_t *strip, size_t strip_len);
 
 /*
  * Read the level whose strip is within reach: its tiles, one byte each, are
- * put in front of the tile buffer, and width, height, par, mended (unmarked
- * cells that were wrong, over all lanes: 0 to 8), repainted (marked cells whose
- * byte was wrong: 0 to 20) and wear are returned; tile bytes past the level
- * keep their value. There is one mark for each cell: 0 if it was read, 1 if it
- * was not; the byte under a mark has influence on repainted, and on nothing
- * else.
+ * put in front of the tile buffer, and version, width, height, par, mended
+ * (unmarked cells that were wrong, over all lanes: 0 to 8), repainted (marked
+ * cells whose byte was wrong: 0 to 20) and wear are returned; tile bytes past
+ * the level keep their value. There is one mark for each cell: 0 if it was
+ * read, 1 if it was not; the byte under a mark has influence on repainted, and
+ * on nothing else.
  *
  * The strip within reach is the one that zav_strip_write writes for the level
  * returned: it differs from the strip read in mended unmarked and repainted
@@ -83,6 +85,16 @@ uint64_t zav_strip_read(const uint8_t *strip, size_t strip_len,
                         const uint8_t *marks, size_t marks_len,
                         uint8_t *tiles, size_t tiles_len,
                         uint8_t *scratch, size_t scratch_len);
+
+/*
+ * The same for version 1 only, for an engine that has no pits: where the strip
+ * is mended to a record of version 2, it is refused with ZAV_OUT_OF_RANGE, as
+ * every other version is, before its size and its tiles are looked at.
+ */
+uint64_t zav_strip_read_v1(const uint8_t *strip, size_t strip_len,
+                           const uint8_t *marks, size_t marks_len,
+                           uint8_t *tiles, size_t tiles_len,
+                           uint8_t *scratch, size_t scratch_len);
 
 #ifdef __cplusplus
 }

@@ -3,8 +3,8 @@
  * calls them.
  *
  * A size is tiny if the board has at most six tiles. Its legal boards are those
- * that are levels with par 0. They are ordered by their tile codes, row by row,
- * read as one number in base 7, the smallest first.
+ * that are levels of version 1 with par 0. They are ordered by their tile
+ * codes, row by row, read as one number in base 7, the smallest first.
  *
  * Buffers, packed results and refusals are those of zavullimen_words.h, levels
  * those of zavullimen_records.h.

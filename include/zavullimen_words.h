@@ -67,14 +67,15 @@ static inline const char *zav_refusal_text(unsigned code)
     case ZAV_BEYOND_REACH:
         return "too many cells are wrong or marked";
     case ZAV_OUT_OF_RANGE:
-        return "the version, width, height or par is out of range";
+        return "the version is not one that is taken here, or the width, "
+               "height or par is out of range";
     case ZAV_BAD_SIZE:
         return "the length does not fit the size, or the filling is not zero";
     case ZAV_BAD_TILE:
-        return "there is no such tile code";
+        return "a tile code is none of this version";
     case ZAV_NOT_PLAYABLE:
-        return "not one player, crates and goals unequal, or no crate off "
-               "its goal";
+        return "not one player, fewer crates than goals (in version 1 also "
+               "more), or no crate off its goal";
     case ZAV_BAD_TEXT:
         return "the first line says no par from 0 to 1023, a letter is no "
                "tile, or the last line feed is missing";

@@ -6,7 +6,7 @@
 #include <string.h>
 #include <unistd.h>
 
-const char letters[] = " #$.*@+";
+const char letters[] = " #$.*@+^";
 
 bool wants_help(int argc, char **argv)
 {
@@ -46,12 +46,12 @@ uint64_t read_cells(const struct cells *c, uint8_t tiles[ZAV_TILES_MAX])
                           ZAV_TILES_MAX, scratch, sizeof scratch);
 }
 
-uint64_t put_cells(FILE *out, size_t width, size_t height, size_t par,
-                   const uint8_t *tiles)
+uint64_t put_cells(FILE *out, size_t version, size_t width, size_t height,
+                   size_t par, const uint8_t *tiles)
 {
     uint8_t strip[ZAV_STRIP_MAX];
     static const uint8_t marks[ZAV_STRIP_MAX];
-    const uint64_t result = zav_strip_write(width, height, par, tiles,
+    const uint64_t result = zav_strip_write(version, width, height, par, tiles,
                                             width * height, strip,
                                             sizeof strip);
 

@@ -16,9 +16,10 @@ enum { FINE = 0, REFUSED = 1, NOT_RUN = 2 };
 bool wants_help(int argc, char **argv);
 
 /* By tile code, as they are shown: floor, wall, crate, goal, crate on goal,
- * player, and player on goal. In a text - is floor too. */
+ * player, player on goal, and pit. A text has the first seven, not the pit, and
+ * in it - is floor too. */
 extern const char letters[];
-enum { TILE_CODES = 7 };
+enum { TEXT_CODES = 7 };
 
 /* A strip followed by as many marks. One byte more than the longest is kept,
  * to see that there was more. */
@@ -41,8 +42,8 @@ uint64_t read_cells(const struct cells *c, uint8_t tiles[ZAV_TILES_MAX]);
 
 /* Write the strip of a level, followed by as many zero marks; the strip
  * writer's packed answer. Nothing is written when refused. */
-uint64_t put_cells(FILE *out, size_t width, size_t height, size_t par,
-                   const uint8_t *tiles);
+uint64_t put_cells(FILE *out, size_t version, size_t width, size_t height,
+                   size_t par, const uint8_t *tiles);
 
 /* A refusal in words that fit cells and marks in a file. */
 const char *refusal_words(unsigned code);

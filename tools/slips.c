@@ -136,7 +136,17 @@ static bool says_first_line(FILE *out, const struct line *l)
 
 static bool is_letter(uint8_t byte)
 {
-    return byte == '-' || memchr(letters, byte, TILE_CODES) != NULL;
+    return byte == '-' || memchr(letters, byte, TEXT_CODES) != NULL;
+}
+
+/* Whoever types what zavshow drew may type this; true if it was that. */
+static bool says_pit(FILE *out, uint8_t byte)
+{
+    if (byte != '^')
+        return false;
+    fputs("'^' is a pit, which cannot be typed: texts are levels of version 1, "
+          "and those have no pits\n", out);
+    return true;
 }
 
 static bool says_row(FILE *out, const struct line *l)
@@ -148,7 +158,7 @@ static bool says_row(FILE *out, const struct line *l)
     if (place == l->len)
         return false;
     print_place(out, l, place);
-    if (says_other_system(out, l, place))
+    if (says_other_system(out, l, place) || says_pit(out, l->at[place]))
         return true;
     print_byte(out, l->at[place]);
     fputs(" is no tile; the letters are # $ . * @ + and - or space for floor\n",

@@ -26,7 +26,8 @@ static const char help[] =
     "goal\n"
     "  - or space for floor; short rows are filled up with it\n"
     "A level has one player, as many crates as goals, and a crate off its "
-    "goal.\n"
+    "goal. Texts are\n"
+    "levels of version 1: a pit cannot be typed.\n"
     "Exit status: 0 a strip was written; 1 the text is no level; 2 the input "
     "could not be\n"
     "read, the output not be written, or the command makes no sense.\n";
@@ -86,9 +87,10 @@ static bool take_text_of(struct text *t, const char *path)
 
 /* ---- the strip ---- */
 
+/* Texts are levels of version 1. */
 static int write_strip(uint64_t level, const uint8_t *tiles)
 {
-    const uint64_t result = put_cells(stdout, zav_width(level),
+    const uint64_t result = put_cells(stdout, ZAV_LEVEL_V1, zav_width(level),
                                       zav_height(level), zav_par(level), tiles);
 
     if (zav_code(result) != ZAV_DONE) {

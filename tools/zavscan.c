@@ -144,7 +144,7 @@ static void add_path(struct names *n, const char *path)
 enum { CODES = 32 }; /* as many as the code's bits can say */
 
 struct counts {
-    size_t files, read, mended, unreadable, passed_over;
+    size_t files, read, mended, of_version_2, unreadable, passed_over;
     size_t refused, refused_by[CODES];
 };
 
@@ -179,6 +179,7 @@ static void judge(const char *path, const struct cells *c, bool quiet,
     if (zav_code(result) == ZAV_DONE) {
         to->read++;
         to->mended += zav_mended(result) > 0;
+        to->of_version_2 += zav_level_version(result) == ZAV_LEVEL_V2;
         return;
     }
     to->refused++;
@@ -246,7 +247,8 @@ static void scan(struct names *n, bool quiet, struct counts *to)
 static void print_summary(const struct counts *of)
 {
     printf("files %zu\n", of->files);
-    printf("read %zu, of them mended %zu\n", of->read, of->mended);
+    printf("read %zu, of them mended %zu, of version 2 %zu\n", of->read,
+           of->mended, of->of_version_2);
     printf("refused %zu\n", of->refused);
     for (unsigned code = 1; code < CODES; code++)
         if (of->refused_by[code] > 0)

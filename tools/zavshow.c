@@ -4,10 +4,10 @@
  *
  * zavshow [--text | --strip] [FILE] reads a strip followed by as many marks,
  * raw bytes, from the file or from standard input. With --text the level is
- * printed as the text that zavmake reads, and nothing else; with --strip the
- * strip's cells are, as they ought to be, with a sign at those that were not.
- * A refusal is given with its number, lane and meaning. The help below says
- * how it ends.
+ * printed as the text that zavmake reads, and nothing else, and refused if it
+ * is of version 2; with --strip the strip's cells are, as they ought to be,
+ * with a sign at those that were not. A refusal is given with its number, lane
+ * and meaning. The help below says how it ends.
  */
 #include <errno.h>
 #include <string.h>
@@ -28,9 +28,14 @@ static const char help[] =
     "mended, + before\n"
     "one that was marked and wrong and is repainted, = before one that was "
     "marked and right.\n"
-    "Exit status: 0 a level was shown; 1 the strip was refused; 2 the input "
-    "could not be\n"
-    "read, the output not be written, or the command makes no sense.\n";
+    "The last line of a drawing begins with the level's version. One of "
+    "version 2 may have\n"
+    "pits, drawn as ^, and has no text.\n"
+    "Exit status: 0 a level was shown; 1 the strip was refused, or with --text "
+    "the level is\n"
+    "of version 2; 2 the input could not be read, the output not be written, "
+    "or the command\n"
+    "makes no sense.\n";
 
 static void print_level(uint64_t result, const uint8_t *tiles)
 {
@@ -39,20 +44,30 @@ static void print_level(uint64_t result, const uint8_t *tiles)
             putchar(letters[*tiles++]);
         putchar('\n');
     }
-    printf("width %u, height %u, par %u, mended %u, repainted %u, wear %u\n",
-           zav_width(result), zav_height(result), zav_par(result),
-           zav_mended(result), zav_repainted(result), zav_wear(result));
+    printf("version %u, width %u, height %u, par %u, mended %u, repainted %u, "
+           "wear %u\n", zav_level_version(result), zav_width(result),
+           zav_height(result), zav_par(result), zav_mended(result),
+           zav_repainted(result), zav_wear(result));
 }
 
-static void print_text(uint64_t result, const uint8_t *tiles)
+/* The level was read, so its version is all that the text writer refuses. */
+static int print_text(uint64_t result, const uint8_t *tiles)
 {
+    const size_t version = zav_level_version(result);
     const size_t width = zav_width(result), height = zav_height(result);
     uint8_t text[ZAV_TEXT_MAX];
     const uint64_t written =
-        zav_text_write(width, height, zav_par(result), tiles, width * height,
-                       text, sizeof text);
+        zav_text_write(version, width, height, zav_par(result), tiles,
+                       width * height, text, sizeof text);
 
+    if (zav_code(written) != ZAV_DONE) {
+        fprintf(stderr, "%s: refused %u lane 0: the level is of version %zu, "
+                "and texts are for version 1, where there are no pits; zavshow "
+                "without --text draws it\n", tool, zav_code(written), version);
+        return REFUSED;
+    }
     fwrite(text, 1, zav_length(written), stdout);
+    return FINE;
 }
 
 /* ---- the mended strip ---- */
@@ -102,8 +117,8 @@ static void print_strip(const struct cells *c, uint64_t result,
                         .len = c->len / 2};
     size_t marked_right = 0;
 
-    zav_strip_write(width, height, zav_par(result), tiles, width * height,
-                    d.mended, sizeof d.mended);
+    zav_strip_write(zav_level_version(result), width, height, zav_par(result),
+                    tiles, width * height, d.mended, sizeof d.mended);
     for (size_t from = 0; from < d.len; from += BLOCK)
         print_block(&d, from);
     for (size_t cell = 0; cell < d.len; cell++)
@@ -132,10 +147,12 @@ static int show(const struct cells *c, enum form form)
 
     if (zav_code(result) != ZAV_DONE)
         return refuse(result, form);
+    if (form == AS_TEXT)
+        return print_text(result, tiles);
     if (form == AS_STRIP)
         print_strip(c, result, tiles);
     else
-        (form == AS_TEXT ? print_text : print_level)(result, tiles);
+        print_level(result, tiles);
     return FINE;
 }
 

@@ -23,12 +23,13 @@ static const char help[] =
     "usage: zavtiny WIDTH HEIGHT [FOLDER]\n"
     "All legal boards of a size of at most 6 tiles, in the order of their tile "
     "codes. They are\n"
-    "printed as texts with par 0, each starting with its line 'par 0'. With "
-    "FOLDER, which is\n"
-    "made if it is not there, each is written as a strip followed by as many "
-    "zero marks: the\n"
-    "third of 4 by 1 to 4x1-0003.cells. Files that are there are not written "
-    "over.\n"
+    "levels of version 1, and printed as texts with par 0, each starting with "
+    "its line 'par 0'.\n"
+    "With FOLDER, which is made if it is not there, each is written as a strip "
+    "followed by as\n"
+    "many zero marks: the third of 4 by 1 to 4x1-0003.cells. Files that are "
+    "there are not\n"
+    "written over.\n"
     "The number of boards is said on standard error.\n"
     "Exit status: 0 all boards were written; 1 there is no such size; 2 the "
     "output could not\n"
@@ -83,8 +84,8 @@ static int print_texts(size_t width, size_t height)
 
     while (zav_length(step(&w)) != 0 && !ferror(stdout)) {
         const uint64_t result =
-            zav_text_write(width, height, 0, w.tiles, width * height, text,
-                           sizeof text);
+            zav_text_write(ZAV_LEVEL_V1, width, height, 0, w.tiles,
+                           width * height, text, sizeof text);
 
         show_progress(w.count - 1);
         fwrite(text, 1, zav_length(result), stdout);
@@ -132,7 +133,7 @@ static bool write_board(const char *path, const struct walk *w)
 
     if (file == NULL)
         return false;
-    put_cells(file, w->width, w->height, 0, w->tiles);
+    put_cells(file, ZAV_LEVEL_V1, w->width, w->height, 0, w->tiles);
 
     bool written = fflush(file) == 0;
     int why = errno;

@@ -66,9 +66,10 @@ static size_t draw_halves(uint8_t *body)
 
 size_t draw_input(size_t number, uint8_t input[INPUT_ROOM])
 {
-    const uint8_t flags = (uint8_t)(number % 8);
-
     draw_seed(number);
+
+    const uint8_t flags = (uint8_t)(number % 8 + VERSION * draw_below(8));
+
     draw_head(input, flags);
 
     const size_t len = HEAD + (flags & LAID ? draw_laid(input + HEAD)

@@ -9,6 +9,7 @@ static void draw_rows(struct typed *t)
 {
     struct board b;
 
+    draw_versions(1);
     draw_any_board(&b);
     if (draw_below(4))
         type_ragged_rows(t, &b);

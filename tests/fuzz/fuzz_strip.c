@@ -95,7 +95,9 @@ static void try_strip(const struct input *in)
                         STRIP_ROOM);
     p.tiles_len = length_near(REF_TILES_MAX, in->head[TILES_AT]);
     p.scratch_len = length_near(REF_SCRATCH_MIN, in->head[SCRATCH_AT]);
-    if (check_picture(&p).code == 0 && !check_redrawn(&p))
+    if (in->head[FLAGS_AT] & FIRST_ONLY)
+        check_picture_v1(&p);
+    else if (check_picture(&p).code == 0 && !check_redrawn(&p))
         group_fail("refused when it was read again");
 }
 
@@ -115,12 +117,13 @@ static void try_record(const struct input *in)
     const size_t len = least(in->len / 2, RECORD_ROOM);
     struct board b;
 
-    check_record(in->body, len,
-                 length_near(REF_TILES_MAX, in->head[TILES_AT]));
+    (in->head[FLAGS_AT] & FIRST_ONLY ? check_record_v1 : check_record)(
+        in->body, len, length_near(REF_TILES_MAX, in->head[TILES_AT]));
 
     const struct ref_result r =
         ref_record_read(in->body, len, b.tiles, sizeof b.tiles);
 
+    b.version = r.version;
     b.width = r.width;
     b.height = r.height;
     b.par = r.par;
@@ -131,7 +134,8 @@ static void try_record(const struct input *in)
 
 static void try_writers(const struct input *in)
 {
-    struct board b = {.width = in->head[WIDTH_AT],
+    struct board b = {.version = 1 + in->head[FLAGS_AT] / VERSION % 4,
+                      .width = in->head[WIDTH_AT],
                       .height = in->head[HEIGHT_AT],
                       .par = in->head[PAR_AT] |
                              (size_t)in->head[PAR_AT + 1] << 8};

@@ -15,7 +15,9 @@ enum {
     RAW_MARKS = 1, /* marks are whole bytes, not their lowest bits */
     LAID = 2,      /* the first half is data for clean lanes, the second says
                       what to damage */
-    RAW_TILES = 4  /* the writers are lent the whole body, whatever the size */
+    RAW_TILES = 4, /* the writers are lent the whole body, whatever the size */
+    VERSION = 8,   /* and 16: what the writers' version is more than 1 */
+    FIRST_ONLY = 32 /* the readers are those for version 1 */
 };
 
 #endif

@@ -24,13 +24,14 @@ static void rewrite(const struct board *b)
 
     check_writing(writer, b, REF_TEXT_MAX);
 
-    const uint64_t written = zav_text_write(b->width, b->height, b->par,
-                                            b->tiles, b->tiles_len, text,
-                                            sizeof text);
+    const uint64_t written = zav_text_write(b->version, b->width, b->height,
+                                            b->par, b->tiles, b->tiles_len,
+                                            text, sizeof text);
     const uint64_t level =
         zav_text_read(text, zav_length(written), tiles, sizeof tiles);
 
     check_number(zav_code(level), ZAV_DONE, "rewritten, code");
+    check_number(zav_level_version(level), b->version, "rewritten, version");
     check_number(zav_width(level), b->width, "rewritten, width");
     check_number(zav_height(level), b->height, "rewritten, height");
     check_number(zav_par(level), b->par, "rewritten, par");
@@ -51,6 +52,7 @@ void try_input(const uint8_t *data, size_t size)
     const struct ref_result r =
         ref_text_read(text, len, b.tiles, sizeof b.tiles);
 
+    b.version = r.version;
     b.width = r.width;
     b.height = r.height;
     b.par = r.par;

@@ -5,12 +5,20 @@
 
 #include "draw.h"
 
-enum { FLOOR, WALL, CRATE, GOAL, CRATE_ON_GOAL, PLAYER, PLAYER_ON_GOAL };
+enum { FLOOR, WALL, CRATE, GOAL, CRATE_ON_GOAL, PLAYER, PLAYER_ON_GOAL, PIT };
+
+static size_t newest = REF_NEWEST;
+
+void draw_versions(size_t most)
+{
+    newest = most;
+}
 
 /* ---- tiles added one after the other ---- */
 
 static void begin(struct board *b, size_t width, size_t height)
 {
+    b->version = draw_between(1, newest);
     b->width = width;
     b->height = height;
     b->par = draw_below(REF_PAR_MAX + 1);
@@ -43,9 +51,15 @@ static size_t draw_some(size_t most)
 
 /* What every level has: a player, a crate off its goal, and a goal for it,
    which is the player's or another. Where there is no room for them, the player
-   alone. */
+   alone. In version 2 the crate may do without a goal. */
 static void add_unfinished(struct board *b)
 {
+    if (b->version == 2 && draw_below(3) == 0) {
+        add_one(b, PLAYER);
+        add_one(b, CRATE);
+        return;
+    }
+
     const bool shared = room(b) == 2 || (room(b) > 2 && draw_below(2));
 
     add_one(b, shared ? PLAYER_ON_GOAL : PLAYER);
@@ -68,9 +82,12 @@ static void shuffle(struct board *b)
         swap(b, draw_below(left), left - 1);
 }
 
-/* Crates on goals, floor and walls for the rest; and all in random order. */
+/* In version 2 pits. Crates on goals, floor and walls for the rest; and all in
+   random order. */
 static void fill_up(struct board *b)
 {
+    if (b->version == 2)
+        add(b, PIT, draw_some(room(b)));
     add(b, CRATE_ON_GOAL, draw_some(room(b)));
     while (room(b) > 0)
         add(b, draw_below(2) ? WALL : FLOOR, 1);
@@ -88,6 +105,8 @@ void draw_level(struct board *b, size_t width, size_t height)
 
     add(b, CRATE, pairs);
     add(b, GOAL, pairs);
+    if (b->version == 2)
+        add(b, CRATE, draw_some(room(b)));
     fill_up(b);
 }
 
@@ -169,9 +188,13 @@ bool draw_level_for(struct board *b, size_t len, size_t unit)
 
 /* ---- a board changed, and laid out ---- */
 
-bool settle_crate(struct board *b)
+static bool has(const struct board *b, uint8_t code)
 {
-    const size_t crate = draw_place(b, CRATE, CRATE);
+    return memchr(b->tiles, code, b->tiles_len) != NULL;
+}
+
+static void put_on_goal(struct board *b, size_t crate)
+{
     const size_t goal = draw_place(b, GOAL, PLAYER_ON_GOAL);
     const uint8_t rest = b->tiles[goal] == GOAL ? FLOOR : PLAYER;
 
@@ -179,11 +202,21 @@ bool settle_crate(struct board *b)
     b->tiles[goal] = CRATE_ON_GOAL;
     if (draw_below(2))
         swap(b, crate, goal);
-    return memchr(b->tiles, CRATE, b->tiles_len) != NULL;
+}
+
+bool settle_crate(struct board *b)
+{
+    const size_t crate = draw_place(b, CRATE, CRATE);
+
+    if (has(b, GOAL) || has(b, PLAYER_ON_GOAL))
+        put_on_goal(b, crate);
+    else
+        b->tiles[crate] = FLOOR;
+    return has(b, CRATE);
 }
 
 size_t record_of(const struct board *b, uint8_t record[REF_RECORD_MAX])
 {
-    return ref_lay_record(b->width, b->height, b->par, b->tiles, b->tiles_len,
-                          record);
+    return ref_lay_record(b->version, b->width, b->height, b->par, b->tiles,
+                          b->tiles_len, record);
 }

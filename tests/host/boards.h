@@ -11,14 +11,20 @@
 enum { TILES_ROOM = REF_TILES_MAX + 64 };
 
 struct board {
+    size_t version;
     size_t width, height, par;
     uint8_t tiles[TILES_ROOM];
     size_t tiles_len;
 };
 
 /* How many boards of one to four tiles in a row are levels: of two tiles 2, of
-   three 24, of four 192. */
-enum { SMALL_LEVELS = 2 + 24 + 192 };
+   three 24, of four 192; in version 2 of two tiles 4, of three 60, of four
+   608. */
+enum { SMALL_LEVELS = 2 + 24 + 192, SMALL_LEVELS_V2 = 4 + 60 + 608 };
+
+/* From here on boards are drawn of the versions 1 to this one; at first of 1
+   and 2. */
+void draw_versions(size_t newest);
 
 /* A level of this size; of less than two tiles there is none, and the board
    has the player alone. */
@@ -50,8 +56,9 @@ bool draw_level_for(struct board *b, size_t len, size_t unit);
 
 /*
  * Put a crate of a level that is off its goal on a goal that is free or the
- * player's, or that goal under the crate. True if another crate is off its
- * goal, so that it is still a level; otherwise the board is finished.
+ * player's, or that goal under the crate; in version 2, where no such goal is
+ * left, the crate is gone. True if another crate is off its goal, so that it is
+ * still a level; otherwise the board is finished.
  */
 bool settle_crate(struct board *b);
 

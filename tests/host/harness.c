@@ -211,10 +211,10 @@ void unmap_long(uint8_t *bytes, size_t len)
 uint64_t packed(struct ref_result r)
 {
     return (uint64_t)r.code | (uint64_t)r.lane << 5 |
-           (uint64_t)r.width << 11 | (uint64_t)r.height << 16 |
-           (uint64_t)r.par << 21 | (uint64_t)r.mended << 31 |
-           (uint64_t)r.repainted << 37 | (uint64_t)r.wear << 44 |
-           (uint64_t)r.length << 48;
+           (uint64_t)r.version << 9 | (uint64_t)r.width << 11 |
+           (uint64_t)r.height << 16 | (uint64_t)r.par << 21 |
+           (uint64_t)r.mended << 31 | (uint64_t)r.repainted << 37 |
+           (uint64_t)r.wear << 44 | (uint64_t)r.length << 48;
 }
 
 const char *hex(char text[HEX_TEXT], const uint8_t *bytes, size_t len)

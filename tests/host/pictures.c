@@ -34,7 +34,7 @@ bool picture_length(struct picture *p, size_t k)
         return true;
     }
     draw_bytes(data, REF_LANES * k);
-    data[0] = (uint8_t)(0x10 | draw_below(16));
+    data[0] = (uint8_t)(draw_between(1, 2) << 4 | draw_below(16));
     picture_data(p, data, k);
     return false;
 }
@@ -47,11 +47,11 @@ void picture_any_level(struct picture *p, struct board *b)
 
 void picture_worked(struct picture *p, const struct worked *w)
 {
-    *p = (struct picture){.strip_len = sizeof w->strip,
-                          .marks_len = sizeof w->strip,
+    *p = (struct picture){.strip_len = w->strip_len,
+                          .marks_len = w->strip_len,
                           .tiles_len = REF_TILES_MAX,
                           .scratch_len = REF_SCRATCH_MIN};
-    memcpy(p->strip, w->strip, sizeof w->strip);
+    memcpy(p->strip, w->strip, w->strip_len);
 }
 
 size_t lane_len(const struct picture *p)
@@ -147,9 +147,25 @@ static void describe(char *what, const struct picture *p)
             hex(marks, p->marks, p->marks_len), p->tiles_len, p->scratch_len);
 }
 
+/* A strip reader of the library, and its second implementation. */
+struct strip_reader {
+    uint64_t (*read)(const uint8_t *strip, size_t strip_len,
+                     const uint8_t *marks, size_t marks_len, uint8_t *tiles,
+                     size_t tiles_len, uint8_t *scratch, size_t scratch_len);
+    struct ref_result (*ref_read)(const uint8_t *strip, size_t strip_len,
+                                  const uint8_t *marks, size_t marks_len,
+                                  uint8_t *tiles, size_t tiles_len,
+                                  size_t scratch_len);
+};
+
+static const struct strip_reader both = {zav_strip_read, ref_strip_read};
+static const struct strip_reader first = {zav_strip_read_v1,
+                                          ref_strip_read_v1};
+
 /* What the call leaves must be as expected; `level` is what the tiles hold.
    Once cells are looked at, the first lane of the scratch is free. */
-static void check_read(const struct picture *p, struct ref_result r,
+static void check_read(const struct strip_reader *entry,
+                       const struct picture *p, struct ref_result r,
                        const uint8_t *level)
 {
     struct expected e;
@@ -159,9 +175,9 @@ static void check_read(const struct picture *p, struct ref_result r,
     lend_picture(p, r, &e);
 
     const uint64_t got =
-        zav_strip_read(lent.strip.bytes, p->strip_len, lent.marks.bytes,
-                       p->marks_len, lent.tiles.bytes, p->tiles_len,
-                       lent.scratch.bytes, p->scratch_len);
+        entry->read(lent.strip.bytes, p->strip_len, lent.marks.bytes,
+                    p->marks_len, lent.tiles.bytes, p->tiles_len,
+                    lent.scratch.bytes, p->scratch_len);
 
     memcpy(e.tiles, level, (size_t)r.width * r.height);
     if (was_judged(r))
@@ -176,28 +192,40 @@ static void check_read(const struct picture *p, struct ref_result r,
     check_buffer(&lent.marks, p->marks, what);
 }
 
-struct ref_result check_picture(const struct picture *p)
+static struct ref_result check_by(const struct strip_reader *entry,
+                                  const struct picture *p)
 {
     uint8_t level[REF_TILES_MAX] = {0};
     const struct ref_result r =
-        ref_strip_read(p->strip, p->strip_len, p->marks, p->marks_len, level,
-                       p->tiles_len, p->scratch_len);
+        entry->ref_read(p->strip, p->strip_len, p->marks, p->marks_len, level,
+                        p->tiles_len, p->scratch_len);
 
-    check_read(p, r, level);
+    check_read(entry, p, r, level);
     return r;
+}
+
+struct ref_result check_picture(const struct picture *p)
+{
+    return check_by(&both, p);
+}
+
+struct ref_result check_picture_v1(const struct picture *p)
+{
+    return check_by(&first, p);
 }
 
 void check_counts(const struct picture *p, const struct board *b,
                   unsigned mended, unsigned repainted)
 {
-    const struct ref_result r = {.width = (unsigned)b->width,
+    const struct ref_result r = {.version = (unsigned)b->version,
+                                 .width = (unsigned)b->width,
                                  .height = (unsigned)b->height,
                                  .par = (unsigned)b->par,
                                  .mended = mended,
                                  .repainted = repainted,
                                  .wear = ref_wear(mended, p->strip_len)};
 
-    check_read(p, r, b->tiles);
+    check_read(&both, p, r, b->tiles);
 }
 
 /* Cells with this mark in which the picture and a strip differ. */
@@ -216,8 +244,8 @@ static unsigned repainted_in(const struct picture *p, const struct board *b)
 {
     uint8_t strip[REF_STRIP_MAX];
 
-    ref_strip_write(b->width, b->height, b->par, b->tiles, b->tiles_len, strip,
-                    sizeof strip);
+    ref_strip_write(b->version, b->width, b->height, b->par, b->tiles,
+                    b->tiles_len, strip, sizeof strip);
     return differing(p, strip, 1);
 }
 
@@ -231,7 +259,8 @@ void check_refused(const struct picture *p, unsigned code, unsigned lane)
 {
     static const uint8_t no_tiles[1];
 
-    check_read(p, (struct ref_result){.code = code, .lane = lane}, no_tiles);
+    check_read(&both, p, (struct ref_result){.code = code, .lane = lane},
+               no_tiles);
 }
 
 /* ---- redrawing ---- */
@@ -252,8 +281,9 @@ bool check_redrawn(const struct picture *p)
         return false;
 
     const size_t width = zav_width(read), height = zav_height(read);
-    const uint64_t written = zav_strip_write(width, height, zav_par(read),
-                                             tiles, width * height, strip,
+    const uint64_t written = zav_strip_write(zav_level_version(read), width,
+                                             height, zav_par(read), tiles,
+                                             width * height, strip,
                                              sizeof strip);
 
     describe(what, p);

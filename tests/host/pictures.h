@@ -58,6 +58,9 @@ void damage_lanes(struct picture *p, size_t most);
  */
 struct ref_result check_picture(const struct picture *p);
 
+/* The same by the readers for version 1. */
+struct ref_result check_picture_v1(const struct picture *p);
+
 /* The same where the test knows what must come out; the second implementation
    is not asked, as it takes long. */
 void check_counts(const struct picture *p, const struct board *b,

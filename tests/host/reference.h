@@ -29,6 +29,7 @@ struct ref_result {
     unsigned repainted;
     unsigned length;
     unsigned lane;
+    unsigned version;
     unsigned width, height, par;
     unsigned wear;
 };

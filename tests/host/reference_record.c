@@ -49,7 +49,8 @@ static bool is_side(size_t n)
 /* What stands on a tile, by the letters that level editors use. */
 static bool stands_on(uint8_t tile, char thing)
 {
-    static const char *const things[] = {"", "", "c", "g", "cg", "p", "pg"};
+    static const char *const things[] = {"",   "",  "c",  "g",
+                                         "cg", "p", "pg", ""};
 
     return strchr(things[tile], thing) != NULL;
 }
@@ -72,30 +73,42 @@ static bool has_crate_off_goal(const uint8_t *tiles, size_t len)
     return false;
 }
 
-/* 9 or 10, or 0 for tiles that make a level. */
-static unsigned refusal_of_tiles(const uint8_t *tiles, size_t len)
+/* Goals that no crate is for, and crates that no goal is for; pits swallow
+   these, and there are pits in version 2. */
+static bool has_right_crates(size_t version, size_t crates, size_t goals)
 {
+    return version == 1 ? crates == goals : crates >= goals;
+}
+
+/* 9 or 10, or 0 for tiles that make a level. */
+static unsigned refusal_of_tiles(size_t version, const uint8_t *tiles,
+                                 size_t len)
+{
+    const uint8_t most = version == 1 ? 6 : 7;
+
     for (size_t i = 0; i < len; i++)
-        if (tiles[i] > 6)
+        if (tiles[i] > most)
             return 9;
     if (count(tiles, len, 'p') != 1 ||
-        count(tiles, len, 'c') != count(tiles, len, 'g') ||
+        !has_right_crates(version, count(tiles, len, 'c'),
+                          count(tiles, len, 'g')) ||
         !has_crate_off_goal(tiles, len))
         return 10;
     return 0;
 }
 
-static unsigned refusal_of(size_t width, size_t height, size_t par,
-                           const uint8_t *tiles, size_t tiles_len,
+static unsigned refusal_of(size_t version, size_t width, size_t height,
+                           size_t par, const uint8_t *tiles, size_t tiles_len,
                            size_t record_len)
 {
     if (record_len < REF_RECORD_MAX)
         return 4;
-    if (!is_side(width) || !is_side(height) || par > REF_PAR_MAX)
+    if ((version != 1 && version != 2) || !is_side(width) ||
+        !is_side(height) || par > REF_PAR_MAX)
         return 7;
     if (tiles_len != width * height)
         return 8;
-    return refusal_of_tiles(tiles, tiles_len);
+    return refusal_of_tiles(version, tiles, tiles_len);
 }
 
 static size_t round_up(size_t n, size_t unit)
@@ -111,12 +124,12 @@ size_t ref_record_len(size_t tiles)
     return round_up(TILES_AT + 3 * tiles, 8) / 8;
 }
 
-size_t ref_lay_record(size_t width, size_t height, size_t par,
+size_t ref_lay_record(size_t version, size_t width, size_t height, size_t par,
                       const uint8_t *tiles, size_t tiles_len, uint8_t *record)
 {
     struct text t = {.len = 0};
 
-    put(&t, 1, 4);
+    put(&t, version, 4);
     put(&t, width, 5);
     put(&t, height, 5);
     put(&t, par, 10);
@@ -128,15 +141,17 @@ size_t ref_lay_record(size_t width, size_t height, size_t par,
     return t.len / 8;
 }
 
-struct ref_result ref_record_write(size_t width, size_t height, size_t par,
-                                   const uint8_t *tiles, size_t tiles_len,
-                                   uint8_t *record, size_t record_len)
+struct ref_result ref_record_write(size_t version, size_t width, size_t height,
+                                   size_t par, const uint8_t *tiles,
+                                   size_t tiles_len, uint8_t *record,
+                                   size_t record_len)
 {
     struct ref_result r = {0};
 
-    r.code = refusal_of(width, height, par, tiles, tiles_len, record_len);
+    r.code = refusal_of(version, width, height, par, tiles, tiles_len,
+                        record_len);
     if (r.code == 0)
-        r.length = (unsigned)ref_lay_record(width, height, par, tiles,
+        r.length = (unsigned)ref_lay_record(version, width, height, par, tiles,
                                             tiles_len, record);
     return r;
 }
@@ -151,20 +166,26 @@ static bool has_filling(const struct text *t, size_t from)
     return false;
 }
 
+static bool is_read(unsigned version, enum ref_versions versions)
+{
+    return version == 1 || (version == 2 && versions == REF_BOTH);
+}
+
 struct ref_result ref_level_of(const uint8_t *bytes, size_t len, size_t unit,
-                               uint8_t *tiles)
+                               enum ref_versions versions, uint8_t *tiles)
 {
     struct text t;
     uint8_t taken[REF_TILES_MAX];
 
     unpack_text(&t, bytes, len);
 
-    const struct ref_result level = {.width = take(&t, WIDTH_AT, 5),
+    const struct ref_result level = {.version = take(&t, VERSION_AT, 4),
+                                     .width = take(&t, WIDTH_AT, 5),
                                      .height = take(&t, HEIGHT_AT, 5),
                                      .par = take(&t, PAR_AT, 10)};
     const size_t tiles_len = (size_t)level.width * level.height;
 
-    if (take(&t, VERSION_AT, 4) != 1 || !is_side(level.width) ||
+    if (!is_read(level.version, versions) || !is_side(level.width) ||
         !is_side(level.height))
         return (struct ref_result){.code = 7};
     if (len != round_up(ref_record_len(tiles_len), unit) ||
@@ -173,7 +194,7 @@ struct ref_result ref_level_of(const uint8_t *bytes, size_t len, size_t unit,
     for (size_t i = 0; i < tiles_len; i++)
         taken[i] = (uint8_t)take(&t, TILES_AT + 3 * i, 3);
 
-    const unsigned code = refusal_of_tiles(taken, tiles_len);
+    const unsigned code = refusal_of_tiles(level.version, taken, tiles_len);
 
     if (code != 0)
         return (struct ref_result){.code = code};
@@ -181,12 +202,25 @@ struct ref_result ref_level_of(const uint8_t *bytes, size_t len, size_t unit,
     return level;
 }
 
-struct ref_result ref_record_read(const uint8_t *record, size_t record_len,
-                                  uint8_t *tiles, size_t tiles_len)
+static struct ref_result read_record(const uint8_t *record, size_t record_len,
+                                     enum ref_versions versions,
+                                     uint8_t *tiles, size_t tiles_len)
 {
     if (record_len < REF_RECORD_MIN || record_len > REF_RECORD_MAX)
         return (struct ref_result){.code = 1};
     if (tiles_len < REF_TILES_MAX)
         return (struct ref_result){.code = 4};
-    return ref_level_of(record, record_len, 1, tiles);
+    return ref_level_of(record, record_len, 1, versions, tiles);
+}
+
+struct ref_result ref_record_read(const uint8_t *record, size_t record_len,
+                                  uint8_t *tiles, size_t tiles_len)
+{
+    return read_record(record, record_len, REF_BOTH, tiles, tiles_len);
+}
+
+struct ref_result ref_record_read_v1(const uint8_t *record, size_t record_len,
+                                     uint8_t *tiles, size_t tiles_len)
+{
+    return read_record(record, record_len, REF_FIRST_ONLY, tiles, tiles_len);
 }

@@ -69,16 +69,17 @@ unsigned ref_wear(unsigned mended, size_t len)
 
 /* ---- entries ---- */
 
-struct ref_result ref_strip_write(size_t width, size_t height, size_t par,
-                                  const uint8_t *tiles, size_t tiles_len,
-                                  uint8_t *strip, size_t strip_len)
+struct ref_result ref_strip_write(size_t version, size_t width, size_t height,
+                                  size_t par, const uint8_t *tiles,
+                                  size_t tiles_len, uint8_t *strip,
+                                  size_t strip_len)
 {
     uint8_t data[REF_RECORD_MAX] = {0};
 
     if (strip_len < REF_STRIP_MAX)
         return (struct ref_result){.code = 4};
 
-    struct ref_result r = ref_record_write(width, height, par, tiles,
+    struct ref_result r = ref_record_write(version, width, height, par, tiles,
                                            tiles_len, data, sizeof data);
 
     if (r.code == 0)
@@ -119,7 +120,7 @@ static unsigned refusal_at_entry(size_t strip_len, const uint8_t *marks,
 
 static struct ref_result read_cells(const uint8_t *strip,
                                     const uint8_t *strip_marks, size_t len,
-                                    uint8_t *tiles)
+                                    enum ref_versions versions, uint8_t *tiles)
 {
     const size_t word_len = len / REF_LANES;
     const size_t record_len = REF_LANES * (word_len - REF_CHECK_BYTES);
@@ -141,7 +142,7 @@ static struct ref_result read_cells(const uint8_t *strip,
     collect(record, record_len, words);
 
     struct ref_result level = ref_level_of(record, record_len, REF_LANES,
-                                           tiles);
+                                           versions, tiles);
 
     if (level.code != 0)
         return level;
@@ -151,15 +152,33 @@ static struct ref_result read_cells(const uint8_t *strip,
     return level;
 }
 
-struct ref_result ref_strip_read(const uint8_t *strip, size_t strip_len,
-                                 const uint8_t *marks, size_t marks_len,
-                                 uint8_t *tiles, size_t tiles_len,
-                                 size_t scratch_len)
+static struct ref_result read_strip(const uint8_t *strip, size_t strip_len,
+                                    const uint8_t *marks, size_t marks_len,
+                                    enum ref_versions versions, uint8_t *tiles,
+                                    size_t tiles_len, size_t scratch_len)
 {
     const unsigned code = refusal_at_entry(strip_len, marks, marks_len,
                                            tiles_len, scratch_len);
 
     if (code != 0)
         return (struct ref_result){.code = code};
-    return read_cells(strip, marks, strip_len, tiles);
+    return read_cells(strip, marks, strip_len, versions, tiles);
+}
+
+struct ref_result ref_strip_read(const uint8_t *strip, size_t strip_len,
+                                 const uint8_t *marks, size_t marks_len,
+                                 uint8_t *tiles, size_t tiles_len,
+                                 size_t scratch_len)
+{
+    return read_strip(strip, strip_len, marks, marks_len, REF_BOTH, tiles,
+                      tiles_len, scratch_len);
+}
+
+struct ref_result ref_strip_read_v1(const uint8_t *strip, size_t strip_len,
+                                    const uint8_t *marks, size_t marks_len,
+                                    uint8_t *tiles, size_t tiles_len,
+                                    size_t scratch_len)
+{
+    return read_strip(strip, strip_len, marks, marks_len, REF_FIRST_ONLY,
+                      tiles, tiles_len, scratch_len);
 }

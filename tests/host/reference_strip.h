@@ -25,9 +25,10 @@ size_t ref_k_of(size_t record_len);
  */
 size_t ref_lay_strip(const uint8_t *data, size_t k, uint8_t *strip);
 
-struct ref_result ref_strip_write(size_t width, size_t height, size_t par,
-                                  const uint8_t *tiles, size_t tiles_len,
-                                  uint8_t *strip, size_t strip_len);
+struct ref_result ref_strip_write(size_t version, size_t width, size_t height,
+                                  size_t par, const uint8_t *tiles,
+                                  size_t tiles_len, uint8_t *strip,
+                                  size_t strip_len);
 
 /* 100 times mended over len to the nearest whole number, a half to the even
    one. */
@@ -38,5 +39,9 @@ struct ref_result ref_strip_read(const uint8_t *strip, size_t strip_len,
                                  const uint8_t *marks, size_t marks_len,
                                  uint8_t *tiles, size_t tiles_len,
                                  size_t scratch_len);
+struct ref_result ref_strip_read_v1(const uint8_t *strip, size_t strip_len,
+                                    const uint8_t *marks, size_t marks_len,
+                                    uint8_t *tiles, size_t tiles_len,
+                                    size_t scratch_len);
 
 #endif

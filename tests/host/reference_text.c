@@ -9,14 +9,17 @@
 /* By tile code; a space is floor too. */
 static const char letters[] = {'-', '#', '$', '.', '*', '@', '+'};
 
+/* Texts have no letter for a pit. */
+enum { TYPED_VERSION = 1 };
+
 /* 7 to 10, or 0: what is no level as a record is none as a text. */
 static unsigned refusal_of(size_t width, size_t height, size_t par,
                            const uint8_t *tiles, size_t tiles_len)
 {
     uint8_t record[REF_RECORD_MAX];
 
-    return ref_record_write(width, height, par, tiles, tiles_len, record,
-                            sizeof record).code;
+    return ref_record_write(TYPED_VERSION, width, height, par, tiles, tiles_len,
+                            record, sizeof record).code;
 }
 
 /* ---- writing ---- */
@@ -36,14 +39,17 @@ static size_t lay_text(size_t width, size_t height, size_t par,
     return len;
 }
 
-struct ref_result ref_text_write(size_t width, size_t height, size_t par,
-                                 const uint8_t *tiles, size_t tiles_len,
-                                 uint8_t *text, size_t text_len)
+struct ref_result ref_text_write(size_t version, size_t width, size_t height,
+                                 size_t par, const uint8_t *tiles,
+                                 size_t tiles_len, uint8_t *text,
+                                 size_t text_len)
 {
     struct ref_result r = {0};
 
     if (text_len < REF_TEXT_MAX)
         return (struct ref_result){.code = 4};
+    if (version != TYPED_VERSION)
+        return (struct ref_result){.code = 7};
     r.code = refusal_of(width, height, par, tiles, tiles_len);
     if (r.code == 0)
         r.length = (unsigned)lay_text(width, height, par, tiles, text);
@@ -172,7 +178,8 @@ struct ref_result ref_text_read(const uint8_t *text, size_t text_len,
     if (code != 0)
         return (struct ref_result){.code = code};
     memcpy(tiles, laid, count);
-    return (struct ref_result){.width = (unsigned)c.longest,
+    return (struct ref_result){.version = TYPED_VERSION,
+                               .width = (unsigned)c.longest,
                                .height = (unsigned)c.rows,
                                .par = (unsigned)c.par};
 }

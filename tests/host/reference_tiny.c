@@ -31,7 +31,7 @@ static bool is_level(size_t width, size_t height, const uint8_t *tiles)
 {
     uint8_t record[REF_RECORD_MAX];
 
-    return ref_record_write(width, height, 0, tiles, width * height, record,
+    return ref_record_write(1, width, height, 0, tiles, width * height, record,
                             sizeof record).code == 0;
 }
 

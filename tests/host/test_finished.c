@@ -9,12 +9,15 @@
 #include "draw.h"
 #include "harness.h"
 
+/* Of a version that is not taken it is refused for that. */
 static void expect(const struct judge *j, const struct board *b, unsigned code)
 {
     char what[80];
 
-    sprintf(what, "%zu by %zu, reference", b->width, b->height);
-    check_number(j->check(j->entry, b).code, code, what);
+    sprintf(what, "version %zu, %zu by %zu, reference", b->version, b->width,
+            b->height);
+    check_number(j->check(j->entry, b).code, b->version > j->newest ? 7 : code,
+                 what);
 }
 
 static void test_every_size(const struct judge *j)
@@ -84,16 +87,21 @@ static void test_played(const struct judge *j)
     group_end();
 }
 
-/* A tile that is none comes first, whatever the others are. */
+/* A tile that is none of the version comes first, whatever the others are. */
 static void test_bad_codes(const struct judge *j)
 {
     struct board b;
 
-    group_begin(j->name, "finished boards with a code above 6");
+    group_begin(j->name, "finished boards with a code that is none");
     for (unsigned k = 0; k < 500; k++) {
         draw_any_finished(&b);
+
+        const unsigned least = b.version == 1 ? 7 : 8;
+
+        if (least > j->code_most)
+            continue;
         b.tiles[draw_below(b.tiles_len)] =
-            (uint8_t)(7 + k % (j->code_most - 6u));
+            (uint8_t)(least + k % (j->code_most - least + 1));
         expect(j, &b, 9);
     }
     group_end();

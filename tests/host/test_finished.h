@@ -11,6 +11,7 @@
 struct judge {
     const char *name;
     uint8_t code_most; /* the largest tile code that can be put to it */
+    size_t newest;     /* the newest version that it takes */
     const void *entry;
 
     /* Put the board to the entry, and compare with the second implementation,

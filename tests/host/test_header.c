@@ -17,7 +17,7 @@
    unpackers leave them out. */
 
 static const struct ref_result reader_set = {
-    .code = 31, .mended = 63, .repainted = 127, .lane = 15,
+    .code = 31, .mended = 63, .repainted = 127, .lane = 15, .version = 3,
     .width = 31, .height = 31, .par = 1023, .wear = 63};
 
 static struct ref_result draw_reader_result(void)
@@ -26,6 +26,7 @@ static struct ref_result draw_reader_result(void)
                                .mended = (unsigned)draw_below(64),
                                .repainted = (unsigned)draw_below(128),
                                .lane = (unsigned)draw_below(16),
+                               .version = (unsigned)draw_below(4),
                                .width = (unsigned)draw_below(32),
                                .height = (unsigned)draw_below(32),
                                .par = (unsigned)draw_below(1024),
@@ -39,6 +40,7 @@ static void check_reader_result(struct ref_result r, uint64_t result)
     check_number(zav_mended(result), r.mended, "mended");
     check_number(zav_repainted(result), r.repainted, "repainted");
     check_number(zav_lane(result), r.lane, "lane");
+    check_number(zav_level_version(result), r.version, "version");
     check_number(zav_width(result), r.width, "width");
     check_number(zav_height(result), r.height, "height");
     check_number(zav_par(result), r.par, "par");
@@ -151,7 +153,7 @@ static void test_version(void)
     group_end();
 }
 
-/* What callers lay out their buffers by. */
+/* What callers lay out their buffers by, and the versions. */
 static void test_sizes(void)
 {
     static const struct {
@@ -172,6 +174,8 @@ static void test_sizes(void)
         {"ZAV_TEXT_MIN", ZAV_TEXT_MIN, REF_TEXT_MIN},
         {"ZAV_TEXT_MAX", ZAV_TEXT_MAX, REF_TEXT_MAX},
         {"ZAV_TINY_MAX", ZAV_TINY_MAX, REF_TINY_MAX},
+        {"ZAV_LEVEL_V1", ZAV_LEVEL_V1, 1},
+        {"ZAV_LEVEL_V2", ZAV_LEVEL_V2, REF_NEWEST},
     };
 
     group_begin("header", "sizes");

@@ -65,11 +65,12 @@ static void check_huge_writer(const struct writer *entry, uint8_t *zeros,
                               uint8_t *more, size_t past)
 {
     group_case();
-    check_number(entry->run(2, 2, 0, zeros, past + 4, more, entry->room),
-                 packed(entry->reference(2, 2, 0, zeros, past + 4, more,
+    check_number(entry->run(1, 2, 2, 0, zeros, past + 4, more, entry->room),
+                 packed(entry->reference(1, 2, 2, 0, zeros, past + 4, more,
                                          entry->room)), "tiles");
-    check_number(entry->run(0, 2, 0, zeros, 4, more, past + 4),
-                 packed(entry->reference(0, 2, 0, zeros, 4, more, past + 4)),
+    check_number(entry->run(1, 0, 2, 0, zeros, 4, more, past + 4),
+                 packed(entry->reference(1, 0, 2, 0, zeros, 4, more,
+                                         past + 4)),
                  "buffer");
 }
 

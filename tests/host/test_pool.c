@@ -365,8 +365,8 @@ static void draw_scene(struct scene *s)
     const struct board *b = &s->board;
 
     picture_any_level(&s->clean, &s->board);
-    check_number(zav_length(zav_strip_write(b->width, b->height, b->par,
-                                            b->tiles, b->tiles_len,
+    check_number(zav_length(zav_strip_write(b->version, b->width, b->height,
+                                            b->par, b->tiles, b->tiles_len,
                                             s->clean.strip,
                                             sizeof s->clean.strip)),
                  s->clean.strip_len, "the length written");

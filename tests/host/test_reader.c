@@ -80,22 +80,25 @@ static struct ref_result check_board(const struct reader *entry,
 /* What is written is read back: here the board itself says what is right. */
 static void check_read_back(const struct reader *entry, const struct board *b)
 {
-    const struct ref_result level = {.width = (unsigned)b->width,
+    const struct ref_result level = {.version = (unsigned)b->version,
+                                     .width = (unsigned)b->width,
                                      .height = (unsigned)b->height,
                                      .par = (unsigned)b->par};
+    const bool taken = b->version <= entry->newest;
     uint8_t written[REF_STRIP_MAX], tiles[REF_TILES_MAX];
     char what[80];
 
     group_case();
-    sprintf(what, "%zu by %zu, par %zu", b->width, b->height, b->par);
+    sprintf(what, "version %zu, %zu by %zu, par %zu", b->version, b->width,
+            b->height, b->par);
 
     const uint64_t result =
-        entry->writer->run(b->width, b->height, b->par, b->tiles, b->tiles_len,
-                           written, sizeof written);
+        entry->writer->run(b->version, b->width, b->height, b->par, b->tiles,
+                           b->tiles_len, written, sizeof written);
 
     check_number(entry->read(written, (size_t)(result >> 48), tiles),
-                 packed(level), what);
-    if (memcmp(tiles, b->tiles, b->tiles_len) != 0)
+                 taken ? packed(level) : 7, what);
+    if (taken && memcmp(tiles, b->tiles, b->tiles_len) != 0)
         group_fail("%s: other tiles were read back", what);
 }
 
@@ -124,7 +127,7 @@ static void test_every_size(const struct reader *entry)
             draw_level(&b, w, h);
             check_board(entry, &b);
             for (size_t i = 0; i < b.tiles_len; i++)
-                b.tiles[i] = (uint8_t)draw_below(7);
+                b.tiles[i] = (uint8_t)draw_below(8);
             check_board(entry, &b);
         }
     group_end();
@@ -144,12 +147,11 @@ static void test_every_par(const struct reader *entry)
 }
 
 /* All boards of up to four tiles, with codes up to 7: most are no levels. */
-static void test_small_boards(const struct reader *entry)
+static size_t count_small(const struct reader *entry, size_t version)
 {
-    struct board b = {.height = 1, .par = 77};
+    struct board b = {.version = version, .height = 1, .par = 77};
     size_t boards = 1, levels = 0;
 
-    group_begin(entry->name, "every board of one to four tiles");
     for (b.width = 1; b.width <= 4; b.width++) {
         b.tiles_len = b.width;
         boards *= 8;
@@ -159,7 +161,16 @@ static void test_small_boards(const struct reader *entry)
             levels += check_board(entry, &b).code == 0;
         }
     }
-    check_number(levels, SMALL_LEVELS, "levels");
+    return levels;
+}
+
+static void test_small_boards(const struct reader *entry)
+{
+    group_begin(entry->name, "every board of one to four tiles");
+    check_number(count_small(entry, 1), SMALL_LEVELS, "levels");
+    check_number(count_small(entry, 2),
+                 entry->newest == 2 ? SMALL_LEVELS_V2 : 0,
+                 "levels of version 2");
     group_end();
 }
 
@@ -280,7 +291,7 @@ static void check_mixture(const struct reader *entry)
     if (draw_below(2))
         b.tiles[draw_below(b.tiles_len)] = 7;
     if (draw_below(2))
-        b.tiles[draw_below(b.tiles_len)] = (uint8_t)draw_below(7);
+        b.tiles[draw_below(b.tiles_len)] = (uint8_t)draw_below(8);
     lay(entry, &b, &d);
     if (draw_below(2) && d.bits < 8 * d.len)
         flip(&d, draw_between(d.bits, 8 * d.len - 1));
@@ -298,7 +309,8 @@ static void test_mixtures(const struct reader *entry)
 }
 
 /* Every length, also those that no level has: random bytes; a front that says
-   version 1; and where there is one, the front of a level of that length. */
+   version 1 or 2; and where there is one, the front of a level of that
+   length. */
 static void check_random(const struct reader *entry, size_t len)
 {
     uint8_t bytes[REF_RECORD_MAX], level[REF_RECORD_MAX];
@@ -306,7 +318,7 @@ static void check_random(const struct reader *entry, size_t len)
 
     draw_bytes(bytes, len);
     entry->check(bytes, len);
-    bytes[0] = (uint8_t)(0x10 | (bytes[0] & 0xF));
+    bytes[0] = (uint8_t)(draw_between(1, 2) << 4 | (bytes[0] & 0xF));
     entry->check(bytes, len);
     if (draw_level_for(&b, len, entry->unit)) {
         record_of(&b, level);
@@ -333,31 +345,46 @@ static struct ref_result check_laid(const void *entry, const struct board *b)
 
 static void test_finished_boards(const struct reader *entry)
 {
-    const struct judge j = {entry->name, 7, entry, check_laid};
+    const struct judge j = {entry->name, 7, entry->newest, entry, check_laid};
 
     test_finished(&j);
 }
 
-/* ---- the examples of FORMAT 9, 12.5 and 12.13 ---- */
+/* ---- the examples of FORMAT 9, 12.5, 12.13, 12.16 and 12.17 ---- */
 
 static void test_worked_records(const struct reader *entry)
 {
     static const struct {
-        uint8_t record[4];
+        uint8_t record[8]; /* filled with zeros */
+        size_t len;
         struct ref_result result;
     } worked[] = {
-        {{0x11, 0x04, 0x05, 0x58}, {.width = 2, .height = 1, .par = 5}},
-        {{0x11, 0x04, 0x05, 0x94}, {.code = 10}},
-        {{0x21, 0x04, 0x05, 0x94}, {.code = 7}},
-        {{0x11, 0x04, 0x05, 0x95}, {.code = 8}},
-        {{0x11, 0x04, 0x05, 0xF4}, {.code = 9}},
-        {{0x11, 0x04, 0x05, 0x24}, {.code = 10}},
+        {{0x11, 0x04, 0x05, 0x58}, 4,
+         {.version = 1, .width = 2, .height = 1, .par = 5}},
+        {{0x21, 0x04, 0x05, 0x58}, 4,
+         {.version = 2, .width = 2, .height = 1, .par = 5}},
+        {{0x21, 0x08, 0x05, 0x59, 0x70}, 5,
+         {.version = 2, .width = 2, .height = 2, .par = 5}},
+        {{0x11, 0x04, 0x05, 0x94}, 4, {.code = 10}},
+        {{0x21, 0x04, 0x05, 0x94}, 4, {.code = 10}},
+        {{0x31, 0x04, 0x05, 0x94}, 4, {.code = 7}},
+        {{0x11, 0x04, 0x05, 0x95}, 4, {.code = 8}},
+        {{0x21, 0x04, 0x05, 0x95}, 4, {.code = 8}},
+        {{0x11, 0x04, 0x05, 0xF4}, 4, {.code = 9}},
+        {{0x21, 0x04, 0x05, 0xF4}, 4, {.code = 10}},
+        {{0x11, 0x08, 0x05, 0x59, 0x70}, 5, {.code = 9}},
+        {{0x11, 0x04, 0x05, 0x24}, 4, {.code = 10}},
     };
 
     group_begin(entry->name, "the records of FORMAT");
-    for (size_t k = 0; k < COUNT(worked); k++)
-        check_number(packed(entry->check(worked[k].record, 4)),
-                     packed(worked[k].result), "reference");
+    for (size_t k = 0; k < COUNT(worked); k++) {
+        const struct ref_result other = {.code = 7};
+        const bool taken = worked[k].record[0] >> 4 <= (int)entry->newest;
+
+        check_number(packed(entry->check(worked[k].record,
+                                         filled_len(entry, worked[k].len))),
+                     packed(taken ? worked[k].result : other), "reference");
+    }
     group_end();
 }
 

@@ -24,7 +24,8 @@ struct ref_result check_bytes(const struct bytes_reader *entry,
 
 struct reader {
     const char *name;
-    size_t unit; /* data comes in multiples of so many bytes */
+    size_t unit;   /* data comes in multiples of so many bytes */
+    size_t newest; /* the newest version that it reads */
     const struct writer *writer;
 
     /* Read this data, for a strip out of clean lanes, and compare with the

@@ -1,4 +1,4 @@
-/* test_record.c - the record reader against the second implementation. */
+/* test_record.c - the record readers against the second implementation. */
 #include "test_record.h"
 
 #include <stdio.h>
@@ -31,7 +31,36 @@ static uint64_t read_written(const uint8_t *written, size_t len, uint8_t *tiles)
 }
 
 static const struct reader reader = {
-    "record reader", 1, &writers[RECORD_WRITER], check_data, read_written};
+    "record reader", 1, 2, &writers[RECORD_WRITER], check_data, read_written};
+
+/* ---- version 1 only ---- */
+
+struct ref_result check_record_v1(const uint8_t *record, size_t len,
+                                  size_t tiles_len)
+{
+    static const struct bytes_reader entry = {zav_record_read_v1,
+                                              ref_record_read_v1};
+
+    return check_bytes(&entry, record, len, tiles_len);
+}
+
+static struct ref_result check_data_v1(const uint8_t *data, size_t len)
+{
+    return check_record_v1(data, len,
+                           draw_below(2) ? REF_TILES_MAX : TILES_ROOM);
+}
+
+static uint64_t read_written_v1(const uint8_t *written, size_t len,
+                                uint8_t *tiles)
+{
+    return zav_record_read_v1(written, len, tiles, REF_TILES_MAX);
+}
+
+static const struct reader reader_v1 = {
+    "record reader, version 1", 1, 1, &writers[RECORD_WRITER], check_data_v1,
+    read_written_v1};
+
+/* ---- lengths and buffers, of both ---- */
 
 /* Random bytes, and the front of a level before them or before zeros. */
 static void test_lengths(void)
@@ -44,11 +73,14 @@ static void test_lengths(void)
         for (size_t k = 0; k < scaled(5); k++) {
             draw_bytes(record, sizeof record);
             check_data(record, len);
+            check_data_v1(record, len);
             draw_any_level(&b);
             record_of(&b, record);
             check_data(record, len);
+            check_data_v1(record, len);
             memset(record + 3, 0, sizeof record - 3);
             check_data(record, len);
+            check_data_v1(record, len);
         }
     group_end();
 }
@@ -62,6 +94,7 @@ static void test_tile_buffers(void)
     for (size_t room = 0; room <= TILES_ROOM; room++) {
         draw_any_level(&b);
         check_record(record, record_of(&b, record), room);
+        check_record_v1(record, record_of(&b, record), room);
     }
     group_end();
 }
@@ -80,8 +113,10 @@ static void test_order(void)
             for (size_t k = 0; k < scaled(20); k++) {
                 draw_bytes(record, sizeof record);
                 if (draw_below(2))
-                    record[0] = (uint8_t)(0x10 | (record[0] & 0xF));
+                    record[0] = (uint8_t)(draw_between(1, 2) << 4 |
+                                          (record[0] & 0xF));
                 check_record(record, lens[a], rooms[b]);
+                check_record_v1(record, lens[a], rooms[b]);
             }
     group_end();
 }
@@ -93,6 +128,9 @@ static void check_null(const uint8_t *record, size_t len, uint8_t *tiles,
     check_number(zav_record_read(record, len, tiles, tiles_len),
                  packed(ref_record_read(record, len, tiles, tiles_len)),
                  "NULL");
+    check_number(zav_record_read_v1(record, len, tiles, tiles_len),
+                 packed(ref_record_read_v1(record, len, tiles, tiles_len)),
+                 "NULL, version 1");
 }
 
 static void test_nulls(void)
@@ -103,13 +141,14 @@ static void test_nulls(void)
     group_begin(reader.name, "NULL with length 0");
     check_null(NULL, 0, NULL, 0);
     check_null(NULL, 0, tiles, sizeof tiles);
-    check_null(record, sizeof worked_level.record, NULL, 0);
+    check_null(record, worked_level.record_len, NULL, 0);
     group_end();
 }
 
 void test_record(void)
 {
     test_reader(&reader);
+    test_reader(&reader_v1);
     test_lengths();
     test_tile_buffers();
     test_order();

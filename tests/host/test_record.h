@@ -12,6 +12,10 @@ enum { RECORD_ROOM = REF_RECORD_MAX + 64 };
 struct ref_result check_record(const uint8_t *record, size_t len,
                                size_t tiles_len);
 
+/* The same by the readers for version 1. */
+struct ref_result check_record_v1(const uint8_t *record, size_t len,
+                                  size_t tiles_len);
+
 void test_record(void);
 
 #endif

@@ -69,7 +69,9 @@ static void draw_tiny(void)
 
 static void draw_text(void)
 {
+    draw_versions(1);
     draw_any_board(&board);
+    draw_versions(REF_NEWEST);
     text.len = 0;
     type_par(&text, board.par);
     type_rows(&text, &board);
@@ -100,8 +102,8 @@ static void draw_lane(void)
 
 static void call_strip_write(void)
 {
-    zav_strip_write(board.width, board.height, board.par, board.tiles,
-                    board.tiles_len, out, sizeof out);
+    zav_strip_write(board.version, board.width, board.height, board.par,
+                    board.tiles, board.tiles_len, out, sizeof out);
 }
 
 static void call_strip_read(void)
@@ -109,6 +111,13 @@ static void call_strip_read(void)
     zav_strip_read(picture.strip, picture.strip_len, picture.marks,
                    picture.marks_len, tiles, sizeof tiles, scratch,
                    sizeof scratch);
+}
+
+static void call_strip_read_v1(void)
+{
+    zav_strip_read_v1(picture.strip, picture.strip_len, picture.marks,
+                      picture.marks_len, tiles, sizeof tiles, scratch,
+                      sizeof scratch);
 }
 
 static void call_strip_pool(void)
@@ -127,8 +136,8 @@ static void call_tiny_next(void)
 
 static void call_record_write(void)
 {
-    zav_record_write(board.width, board.height, board.par, board.tiles,
-                     board.tiles_len, out, sizeof out);
+    zav_record_write(board.version, board.width, board.height, board.par,
+                     board.tiles, board.tiles_len, out, sizeof out);
 }
 
 static void call_record_read(void)
@@ -136,10 +145,15 @@ static void call_record_read(void)
     zav_record_read(record, record_len, tiles, sizeof tiles);
 }
 
+static void call_record_read_v1(void)
+{
+    zav_record_read_v1(record, record_len, tiles, sizeof tiles);
+}
+
 static void call_text_write(void)
 {
-    zav_text_write(board.width, board.height, board.par, board.tiles,
-                   board.tiles_len, out, sizeof out);
+    zav_text_write(board.version, board.width, board.height, board.par,
+                   board.tiles, board.tiles_len, out, sizeof out);
 }
 
 static void call_text_read(void)
@@ -197,10 +211,12 @@ struct entry {
 static const struct entry entries[] = {
     {"zav_strip_write", 600, draw_record, call_strip_write},
     {"zav_strip_read", 3000, draw_picture, call_strip_read},
+    {"zav_strip_read_v1", 3000, draw_picture, call_strip_read_v1},
     {"zav_strip_pool", 300, draw_pictures, call_strip_pool},
     {"zav_tiny_next", 500, draw_tiny, call_tiny_next},
     {"zav_record_write", 300, draw_record, call_record_write},
     {"zav_record_read", 400, draw_record, call_record_read},
+    {"zav_record_read_v1", 400, draw_record, call_record_read_v1},
     {"zav_text_write", 400, draw_record, call_text_write},
     {"zav_text_read", 1300, draw_text, call_text_read},
     {"zav_word_write", 500, draw_any_word, call_word_write},

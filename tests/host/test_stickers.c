@@ -39,8 +39,8 @@ static void scene_board(struct scene *s)
     picture_board(&s->clean, b);
 
     const uint64_t written =
-        zav_strip_write(b->width, b->height, b->par, b->tiles, b->tiles_len,
-                        s->clean.strip, sizeof s->clean.strip);
+        zav_strip_write(b->version, b->width, b->height, b->par, b->tiles,
+                        b->tiles_len, s->clean.strip, sizeof s->clean.strip);
 
     check_number(zav_code(written), ZAV_DONE, "the writer's code");
     check_number(zav_length(written), s->clean.strip_len, "its length");

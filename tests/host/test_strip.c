@@ -26,9 +26,33 @@ static uint64_t read_written(const uint8_t *written, size_t len, uint8_t *tiles)
                           scratch, sizeof scratch);
 }
 
-static const struct reader reader = {"strip reader", REF_LANES,
+static const struct reader reader = {"strip reader", REF_LANES, 2,
                                      &writers[STRIP_WRITER], check_data,
                                      read_written};
+
+/* ---- version 1 only ---- */
+
+static struct ref_result check_data_v1(const uint8_t *data, size_t len)
+{
+    struct picture p;
+
+    picture_data(&p, data, len / REF_LANES);
+    return check_picture_v1(&p);
+}
+
+static uint64_t read_written_v1(const uint8_t *written, size_t len,
+                                uint8_t *tiles)
+{
+    static const uint8_t marks[REF_STRIP_MAX];
+    uint8_t scratch[REF_SCRATCH_MIN];
+
+    return zav_strip_read_v1(written, len, marks, len, tiles, REF_TILES_MAX,
+                             scratch, sizeof scratch);
+}
+
+static const struct reader reader_v1 = {"strip reader, version 1", REF_LANES, 1,
+                                        &writers[STRIP_WRITER], check_data_v1,
+                                        read_written_v1};
 
 /* ---- every legal length ---- */
 
@@ -69,7 +93,7 @@ static void test_lengths_without_levels(void)
     group_end();
 }
 
-/* ---- the strips of FORMAT 12.6 and 12.14 ---- */
+/* ---- the strips of FORMAT 12.6, 12.14, 12.16 and 12.17 ---- */
 
 static void expect(const struct picture *p, struct ref_result result)
 {
@@ -104,19 +128,21 @@ static void expect_beyond(const struct picture *whole)
             }
 }
 
-/* FORMAT 12.5, 12.6, 12.13 and 12.14: the record and the strip of a board,
-   whether or not it is a level, and that the lanes are words. */
+/* FORMAT 12.5, 12.6, 12.13, 12.14, 12.16 and 12.17: the record and the strip
+   of a board, whether or not it is a level, and that the lanes are words. */
 static void check_layout(const struct worked *w)
 {
-    uint8_t record[REF_RECORD_MAX], strip[REF_STRIP_MAX];
+    uint8_t record[REF_RECORD_MAX] = {0}, strip[REF_STRIP_MAX];
     struct picture p;
     struct sample lane;
 
-    check_number(ref_lay_record(2, 1, 5, w->tiles, sizeof w->tiles, record),
-                 sizeof w->record, "record");
-    check_number(ref_lay_strip(record, 1, strip), sizeof w->strip, "strip");
-    if (memcmp(record, w->record, sizeof w->record) != 0 ||
-        memcmp(strip, w->strip, sizeof w->strip) != 0)
+    check_number(ref_lay_record(w->version, 2, w->height, 5, w->tiles,
+                                2 * w->height, record),
+                 w->record_len, "record");
+    check_number(ref_lay_strip(record, ref_k_of(w->record_len), strip),
+                 w->strip_len, "strip");
+    if (memcmp(record, w->record, w->record_len) != 0 ||
+        memcmp(strip, w->strip, w->strip_len) != 0)
         group_fail("the reference lays other bytes");
     picture_worked(&p, w);
     for (size_t i = 0; i < REF_LANES; i++) {
@@ -144,7 +170,8 @@ static void test_finished_strip(void)
 /* Also FORMAT 12.11, and the examples of FORMAT 9 that are strips. */
 static void test_worked_strip(void)
 {
-    const struct ref_result level = {.width = 2, .height = 1, .par = 5};
+    const struct ref_result level = {.version = 1, .width = 2, .height = 1,
+                                     .par = 5};
     struct ref_result mended = level;
     struct picture whole, p;
 
@@ -176,11 +203,45 @@ static void test_worked_strip(void)
     group_end();
 }
 
+/* Its level, by the readers for both versions; the one for version 1 refuses
+   it, however it is damaged. */
+static void check_worked_v2(const struct worked *w)
+{
+    const struct ref_result level = {.version = 2, .width = 2,
+                                     .height = (unsigned)w->height, .par = 5};
+    const struct ref_result other = {.code = 7};
+    struct picture p;
+
+    picture_worked(&p, w);
+    expect(&p, level);
+    check_number(packed(check_picture_v1(&p)), packed(other), "version 1");
+    damage_lanes(&p, REF_REACH);
+    check_number(check_picture(&p).version, 2, "damaged");
+    check_number(packed(check_picture_v1(&p)), packed(other), "damaged");
+}
+
+static void test_worked_v2(void)
+{
+    group_begin(reader.name, "the strips of version 2 of FORMAT");
+    check_layout(&worked_pit);
+    check_layout(&worked_level_v2);
+    for (size_t k = 0; k < scaled(200); k++) {
+        check_worked_v2(&worked_pit);
+        check_worked_v2(&worked_level_v2);
+    }
+    if (memcmp(worked_level.strip, worked_level_v2.strip, 24) == 0 ||
+        memcmp(worked_level.record, worked_level_v2.record, 4) == 0)
+        group_fail("the versions of a board are written alike");
+    group_end();
+}
+
 void test_strip(void)
 {
     test_worked_strip();
+    test_worked_v2();
     test_finished_strip();
     test_reader(&reader);
+    test_reader(&reader_v1);
     test_lengths();
     test_lengths_without_levels();
 }

@@ -242,8 +242,10 @@ static size_t draw_refused(uint8_t data[REF_RECORD_MAX], unsigned code)
     do
         draw_any_level(&b);
     while (3 * b.tiles_len % 8 == 0); /* it has a filling bit */
-    if (code == 9)
+    if (code == 9) {
+        b.version = 1;
         b.tiles[draw_below(b.tiles_len)] = 7;
+    }
     if (code == 10)
         memset(b.tiles, (int)draw_below(2), b.tiles_len);
     memset(data, 0, REF_RECORD_MAX);

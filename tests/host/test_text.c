@@ -71,7 +71,8 @@ static void test_nulls(void)
 static void check_read_back(const struct board *b, const uint8_t *text,
                             size_t len)
 {
-    const struct ref_result level = {.width = (unsigned)b->width,
+    const struct ref_result level = {.version = 1,
+                                     .width = (unsigned)b->width,
                                      .height = (unsigned)b->height,
                                      .par = (unsigned)b->par};
     uint8_t tiles[REF_TILES_MAX];
@@ -88,8 +89,9 @@ static void check_read_back(const struct board *b, const uint8_t *text,
 /* The length of what the library writes. */
 static size_t write_text(const struct board *b, uint8_t text[REF_TEXT_MAX])
 {
-    return (size_t)(zav_text_write(b->width, b->height, b->par, b->tiles,
-                                   b->tiles_len, text, REF_TEXT_MAX) >> 48);
+    return (size_t)(zav_text_write(b->version, b->width, b->height, b->par,
+                                   b->tiles, b->tiles_len, text,
+                                   REF_TEXT_MAX) >> 48);
 }
 
 static void test_read_back(void)
@@ -114,6 +116,7 @@ static size_t rewrite(const struct typed *t, uint8_t text[REF_TEXT_MAX])
     const uint64_t read =
         zav_text_read(t->bytes, t->len, b.tiles, REF_TILES_MAX);
 
+    b.version = zav_level_version(read);
     b.width = zav_width(read);
     b.height = zav_height(read);
     b.par = zav_par(read);
@@ -191,7 +194,7 @@ static struct ref_result check_board(const void *entry, const struct board *b)
 /* No letter stands for a code above 6. */
 static void test_finished_boards(void)
 {
-    const struct judge j = {name, 6, NULL, check_board};
+    const struct judge j = {name, 6, 1, NULL, check_board};
 
     test_finished(&j);
 }
@@ -448,8 +451,10 @@ static void test_past(void)
     unmap_long(text, most);
 }
 
+/* Texts are of version 1, and so are the boards that are typed. */
 void test_text(void)
 {
+    draw_versions(1);
     test_tile_buffers();
     test_nulls();
     test_read_back();
@@ -465,4 +470,5 @@ void test_text(void)
     test_many();
     test_noise();
     test_past();
+    draw_versions(REF_NEWEST);
 }

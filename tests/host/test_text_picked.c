@@ -12,6 +12,7 @@
 static const char name[] = "text reader";
 
 #define EIGHT(s) s s s s s s s s
+#define LEVEL(w, h, p) {.version = 1, .width = w, .height = h, .par = p}
 #define TEXT(s) (const uint8_t *)(s), sizeof(s) - 1
 
 /* A refusal, or what is read and how it is written then. */
@@ -24,45 +25,45 @@ struct picked {
 };
 
 static const struct picked taken[] = {
-    {TEXT("par 5\n$+\n"), {.width = 2, .height = 1, .par = 5}, "26",
+    {TEXT("par 5\n$+\n"), LEVEL(2, 1, 5), "26",
      "par 5\n$+\n"},
-    {TEXT("par 0\n$+\n"), {.width = 2, .height = 1, .par = 0}, "26",
+    {TEXT("par 0\n$+\n"), LEVEL(2, 1, 0), "26",
      "par 0\n$+\n"},
-    {TEXT("par 1023\n$+\n"), {.width = 2, .height = 1, .par = 1023}, "26",
+    {TEXT("par 1023\n$+\n"), LEVEL(2, 1, 1023), "26",
      "par 1023\n$+\n"},
-    {TEXT("par 10\n+\n$\n"), {.width = 1, .height = 2, .par = 10}, "62",
+    {TEXT("par 10\n+\n$\n"), LEVEL(1, 2, 10), "62",
      "par 10\n+\n$\n"},
-    {TEXT("par 5\n$.@#\n"), {.width = 4, .height = 1, .par = 5}, "2351",
+    {TEXT("par 5\n$.@#\n"), LEVEL(4, 1, 5), "2351",
      "par 5\n$.@#\n"},
     /* a crate off its goal beside others that are on theirs */
-    {TEXT("par 5\n*+$\n"), {.width = 3, .height = 1, .par = 5}, "462",
+    {TEXT("par 5\n*+$\n"), LEVEL(3, 1, 5), "462",
      "par 5\n*+$\n"},
-    {TEXT("par 5\n*@*\n$*.\n"), {.width = 3, .height = 2, .par = 5}, "454243",
+    {TEXT("par 5\n*@*\n$*.\n"), LEVEL(3, 2, 5), "454243",
      "par 5\n*@*\n$*.\n"},
     /* spaces at the end of a row widen it */
-    {TEXT("par 5\n$+ \n"), {.width = 3, .height = 1, .par = 5}, "260",
+    {TEXT("par 5\n$+ \n"), LEVEL(3, 1, 5), "260",
      "par 5\n$+-\n"},
-    {TEXT("par 5\n$+\n#\n     \n"), {.width = 5, .height = 3, .par = 5},
+    {TEXT("par 5\n$+\n#\n     \n"), LEVEL(5, 3, 5),
      "260001000000000", "par 5\n$+---\n#----\n-----\n"},
     /* an empty row is a row of floor: first, between and last */
-    {TEXT("par 5\n$+\n\n"), {.width = 2, .height = 2, .par = 5}, "2600",
+    {TEXT("par 5\n$+\n\n"), LEVEL(2, 2, 5), "2600",
      "par 5\n$+\n--\n"},
-    {TEXT("par 5\n\n$+\n"), {.width = 2, .height = 2, .par = 5}, "0026",
+    {TEXT("par 5\n\n$+\n"), LEVEL(2, 2, 5), "0026",
      "par 5\n--\n$+\n"},
-    {TEXT("par 5\n$\n\n+\n"), {.width = 1, .height = 3, .par = 5}, "206",
+    {TEXT("par 5\n$\n\n+\n"), LEVEL(1, 3, 5), "206",
      "par 5\n$\n-\n+\n"},
     /* rows of several lengths, the two floors mixed */
-    {TEXT("par 77\n#\n -+\n$\n- -#\n"), {.width = 4, .height = 4, .par = 77},
+    {TEXT("par 77\n#\n -+\n$\n- -#\n"), LEVEL(4, 4, 77),
      "1000006020000001", "par 77\n#---\n--+-\n$---\n---#\n"},
-    {TEXT("par 0\n$\n -.@\n"), {.width = 4, .height = 2, .par = 0}, "20000035",
+    {TEXT("par 0\n$\n -.@\n"), LEVEL(4, 2, 0), "20000035",
      "par 0\n$---\n--.@\n"},
     /* the widest row and the most rows */
     {TEXT("par 5\n+$" EIGHT("#") EIGHT("#") EIGHT("#") "#####\n"),
-     {.width = 31, .height = 1, .par = 5}, "62" EIGHT("1") EIGHT("1")
+     LEVEL(31, 1, 5), "62" EIGHT("1") EIGHT("1")
      EIGHT("1") "11111",
      "par 5\n+$" EIGHT("#") EIGHT("#") EIGHT("#") "#####\n"},
     {TEXT("par 5\n+$\n" EIGHT("\n") EIGHT("\n") EIGHT("\n") "\n\n\n\n\n\n"),
-     {.width = 2, .height = 31, .par = 5}, "62" EIGHT("00") EIGHT("00")
+     LEVEL(2, 31, 5), "62" EIGHT("00") EIGHT("00")
      EIGHT("00") "000000000000",
      "par 5\n+$\n" EIGHT("--\n") EIGHT("--\n") EIGHT("--\n")
      "--\n--\n--\n--\n--\n--\n"},
@@ -205,7 +206,7 @@ static void check_rewritten(const struct picked *p, const uint8_t *tiles)
     const struct ref_result length = {.length =
                                           (unsigned)strlen(p->rewritten)};
 
-    check_number(zav_text_write(r.width, r.height, r.par, tiles,
+    check_number(zav_text_write(r.version, r.width, r.height, r.par, tiles,
                                 (size_t)r.width * r.height, text, sizeof text),
                  packed(length), p->rewritten);
     if (memcmp(text, p->rewritten, length.length) != 0)

@@ -186,22 +186,23 @@ static void check_written(size_t width, size_t height)
     uint8_t text[REF_TEXT_MAX], strip[REF_STRIP_MAX];
     uint8_t back[REF_TILES_MAX], scratch[ZAV_SCRATCH_MIN];
     static const uint8_t marks[REF_STRIP_MAX];
-    const struct ref_result level = {.width = (unsigned)width,
+    const struct ref_result level = {.version = 1,
+                                     .width = (unsigned)width,
                                      .height = (unsigned)height};
     struct walk w;
 
     for (walk_from_start(&w, width, height); zav_length(w.result) != 0;
          walk_on(&w, ZAV_AFTER)) {
-        size_t len = zav_length(zav_text_write(width, height, 0, w.tiles, n,
-                                               text, sizeof text));
+        size_t len = zav_length(zav_text_write(1, width, height, 0, w.tiles,
+                                               n, text, sizeof text));
 
         group_case();
         check_number(zav_text_read(text, len, back, sizeof back),
                      packed(level), "the text of a board");
         if (memcmp(back, w.tiles, n) != 0)
             group_fail("%zu by %zu: another board is typed", width, height);
-        len = zav_length(zav_strip_write(width, height, 0, w.tiles, n, strip,
-                                         sizeof strip));
+        len = zav_length(zav_strip_write(1, width, height, 0, w.tiles, n,
+                                         strip, sizeof strip));
         check_number(zav_strip_read(strip, len, marks, len, back, sizeof back,
                                     scratch, sizeof scratch),
                      packed(level), "the strip of a board");

@@ -22,6 +22,7 @@
 #include "test_strip.h"
 #include "test_text.h"
 #include "test_tiny.h"
+#include "test_versions.h"
 #include "test_writer.h"
 #include "zavullimen_words.h"
 
@@ -418,6 +419,7 @@ int main(int argc, char **argv)
     test_text_picked();
     test_text();
     test_strip();
+    test_versions();
     test_strip_entry();
     test_strip_damage();
     test_strip_wild();

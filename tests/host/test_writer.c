@@ -19,13 +19,11 @@ static const uint8_t worked_text[] = {'p', 'a', 'r', ' ', '5', '\n',
 
 const struct writer writers[WRITERS] = {
     [RECORD_WRITER] = {"record writer", zav_record_write, ref_record_write,
-                       REF_RECORD_MAX, worked_level.record,
-                       sizeof worked_level.record},
+                       2, REF_RECORD_MAX, worked_level.record, 4},
     [STRIP_WRITER] = {"strip writer", zav_strip_write, ref_strip_write,
-                      REF_STRIP_MAX, worked_level.strip,
-                      sizeof worked_level.strip},
+                      2, REF_STRIP_MAX, worked_level.strip, 24},
     [TEXT_WRITER] = {"text writer", zav_text_write, ref_text_write,
-                     REF_TEXT_MAX, worked_text, sizeof worked_text},
+                     1, REF_TEXT_MAX, worked_text, sizeof worked_text},
 };
 
 struct ref_result check_writing(const struct writer *entry,
@@ -40,18 +38,18 @@ struct ref_result check_writing(const struct writer *entry,
     memcpy(expected, before, sizeof before);
 
     const struct ref_result r =
-        entry->reference(b->width, b->height, b->par, b->tiles, b->tiles_len,
-                         expected, room);
+        entry->reference(b->version, b->width, b->height, b->par, b->tiles,
+                         b->tiles_len, expected, room);
 
     lend(&tiles, b->tiles, b->tiles_len);
     lend(&buffer, before, room);
     seal(&tiles);
     if (r.code != 0)
         seal(&buffer);
-    sprintf(what, "%zu by %zu, par %zu, %zu tiles, buffer %zu", b->width,
-            b->height, b->par, b->tiles_len, room);
-    check_number(entry->run(b->width, b->height, b->par, tiles.bytes,
-                            b->tiles_len, buffer.bytes, room),
+    sprintf(what, "version %zu, %zu by %zu, par %zu, %zu tiles, buffer %zu",
+            b->version, b->width, b->height, b->par, b->tiles_len, room);
+    check_number(entry->run(b->version, b->width, b->height, b->par,
+                            tiles.bytes, b->tiles_len, buffer.bytes, room),
                  packed(r), what);
     check_buffer(&buffer, expected, what);
     check_buffer(&tiles, b->tiles, what);
@@ -90,12 +88,11 @@ static void test_every_par(const struct writer *entry)
 }
 
 /* All boards of up to four tiles, with codes up to 7: most are no levels. */
-static void test_small_boards(const struct writer *entry)
+static size_t count_small(const struct writer *entry, size_t version)
 {
-    struct board b = {.height = 1, .par = 3};
+    struct board b = {.version = version, .height = 1, .par = 3};
     size_t boards = 1, levels = 0;
 
-    group_begin(entry->name, "every board of one to four tiles");
     for (size_t n = 1; n <= 4; n++) {
         b.width = b.tiles_len = n;
         boards *= 8;
@@ -105,7 +102,16 @@ static void test_small_boards(const struct writer *entry)
             levels += check_writing(entry, &b, entry->room).code == 0;
         }
     }
-    check_number(levels, SMALL_LEVELS, "levels");
+    return levels;
+}
+
+static void test_small_boards(const struct writer *entry)
+{
+    group_begin(entry->name, "every board of one to four tiles");
+    check_number(count_small(entry, 1), SMALL_LEVELS, "levels");
+    check_number(count_small(entry, 2),
+                 entry->newest == 2 ? SMALL_LEVELS_V2 : 0,
+                 "levels of version 2");
     group_end();
 }
 
@@ -121,7 +127,11 @@ static void spoil_numbers(struct board *b)
                                    ((size_t)1 << 32) + 2, SIZE_MAX};
     static const size_t pars[] = {0, 1023, 1024, 66000,
                                   ((size_t)1 << 32) + 2, SIZE_MAX};
+    static const size_t versions[] = {0, 3, 15, 17, 257,
+                                      ((size_t)1 << 32) + 1, SIZE_MAX};
 
+    if (spoil())
+        b->version = versions[draw_below(COUNT(versions))];
     if (spoil())
         b->width = sides[draw_below(COUNT(sides))];
     if (spoil())
@@ -135,7 +145,7 @@ static void spoil_tiles(struct board *b)
     if (spoil())
         b->tiles[draw_below(b->tiles_len)] = draw_byte();
     if (spoil())
-        b->tiles[draw_below(b->tiles_len)] = (uint8_t)draw_below(7);
+        b->tiles[draw_below(b->tiles_len)] = (uint8_t)draw_below(8);
     if (spoil())
         b->tiles_len += draw_below(3) - 1;
 }
@@ -166,6 +176,9 @@ static void check_wide(const struct writer *entry, const struct board *level,
 {
     struct board b = *level;
 
+    b.version += past;
+    check_written(entry, &b);
+    b = *level;
     b.width += past;
     check_written(entry, &b);
     b = *level;
@@ -180,7 +193,7 @@ static void test_wide_numbers(const struct writer *entry)
 {
     struct board b;
 
-    group_begin(entry->name, "width, height or par past 2^5 up to 2^63");
+    group_begin(entry->name, "a number past 2^5 up to 2^63");
     for (int bit = 5; bit < 64; bit++) {
         draw_level(&b, 2, 2);
         b.par = 2;
@@ -192,15 +205,16 @@ static void test_wide_numbers(const struct writer *entry)
 /* No size at all, with no tiles at all: the numbers are judged first. */
 static void test_nothing(const struct writer *entry)
 {
-    struct board b = {.par = 5};
+    struct board b = {.version = 1, .par = 5};
 
     group_begin(entry->name, "no tiles, and sides of 0 and 1");
     for (b.width = 0; b.width < 2; b.width++)
         for (b.height = 0; b.height < 2; b.height++)
             check_written(entry, &b);
     group_case();
-    check_number(entry->run(0, 0, 0, NULL, 0, NULL, 0),
-                 packed(entry->reference(0, 0, 0, NULL, 0, NULL, 0)), "NULL");
+    check_number(entry->run(0, 0, 0, 0, NULL, 0, NULL, 0),
+                 packed(entry->reference(0, 0, 0, 0, NULL, 0, NULL, 0)),
+                 "NULL");
     group_end();
 }
 
@@ -244,10 +258,10 @@ static void test_rooms(const struct writer *entry)
 static struct ref_result check_worked(const struct writer *entry,
                                       const struct worked *w)
 {
-    struct board b = {.width = 2, .height = 1, .par = 5,
-                      .tiles_len = sizeof w->tiles};
+    struct board b = {.version = w->version, .width = 2, .height = w->height,
+                      .par = 5, .tiles_len = 2 * w->height};
 
-    memcpy(b.tiles, w->tiles, sizeof w->tiles);
+    memcpy(b.tiles, w->tiles, b.tiles_len);
     return check_written(entry, &b);
 }
 
@@ -263,7 +277,7 @@ static void test_worked(const struct writer *entry)
                  "reference");
     check_number(packed(check_worked(entry, &worked_finished)),
                  packed(refused), "reference, finished");
-    entry->run(2, 1, 5, tiles, sizeof worked_level.tiles, got, sizeof got);
+    entry->run(1, 2, 1, 5, tiles, 2, got, sizeof got);
     if (memcmp(got, entry->worked, entry->worked_len) != 0)
         group_fail("other bytes are written");
     group_end();
@@ -276,7 +290,8 @@ static struct ref_result check_lent(const void *entry, const struct board *b)
 
 static void test_finished_boards(const struct writer *entry)
 {
-    const struct judge j = {entry->name, 255, entry, check_lent};
+    const struct judge j = {entry->name, 255, entry->newest, entry,
+                            check_lent};
 
     test_finished(&j);
 }

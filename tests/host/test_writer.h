@@ -11,10 +11,11 @@
 /* The writers differ in what they write, and in the room for it. */
 struct writer {
     const char *name;
-    uint64_t (*run)(size_t, size_t, size_t, const uint8_t *, size_t, uint8_t *,
-                    size_t);
-    struct ref_result (*reference)(size_t, size_t, size_t, const uint8_t *,
-                                   size_t, uint8_t *, size_t);
+    uint64_t (*run)(size_t, size_t, size_t, size_t, const uint8_t *, size_t,
+                    uint8_t *, size_t);
+    struct ref_result (*reference)(size_t, size_t, size_t, size_t,
+                                   const uint8_t *, size_t, uint8_t *, size_t);
+    size_t newest;         /* the newest version that it writes */
     size_t room;           /* the least that the buffer must hold */
     const uint8_t *worked; /* what it writes for the level of FORMAT 12.13 */
     size_t worked_len;

@@ -1,20 +1,27 @@
 /*
- * worked.h - the two boards that FORMAT works out, both of width 2, height 1
- * and par 5.
+ * worked.h - the boards that FORMAT works out, all of width 2 and par 5.
  */
 #ifndef WORKED_H
 #define WORKED_H
 
+#include <stddef.h>
 #include <stdint.h>
 
 struct worked {
-    uint8_t tiles[2];
-    uint8_t record[4];
-    uint8_t strip[24];
+    size_t version, height;
+    uint8_t tiles[4];
+    uint8_t record[5];
+    size_t record_len;
+    uint8_t strip[28];
+    size_t strip_len;
 };
 
-/* FORMAT 12.13 and 12.14. */
+/* FORMAT 12.13 and 12.14, and 12.17: the same tiles in version 2. */
 extern const struct worked worked_level;
+extern const struct worked worked_level_v2;
+
+/* FORMAT 12.16: a pit and a spare crate. */
+extern const struct worked worked_pit;
 
 /* FORMAT 12.5 and 12.6: no level, as its only crate is on its goal. */
 extern const struct worked worked_finished;

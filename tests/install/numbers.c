@@ -38,6 +38,26 @@ static void print_read(const uint8_t *strip, size_t len, const size_t *wrong,
                          scratch, sizeof scratch));
 }
 
+/* FORMAT 12.16, and what refuses it. */
+static void print_versions(void)
+{
+    static const uint8_t pit[] = {2, 6, 2, 7};
+    static const uint8_t none[ZAV_STRIP_MAX];
+    static uint8_t tiles[ZAV_TILES_MAX], scratch[ZAV_SCRATCH_MIN];
+    uint8_t bytes[ZAV_TEXT_MAX];
+    const uint64_t written = zav_strip_write(2, 2, 2, 5, pit, 4, bytes,
+                                             sizeof bytes);
+    const size_t len = zav_length(written);
+
+    print(written);
+    print(zav_strip_read(bytes, len, none, len, tiles, sizeof tiles, scratch,
+                         sizeof scratch));
+    print(zav_strip_read_v1(bytes, len, none, len, tiles, sizeof tiles,
+                            scratch, sizeof scratch));
+    print(zav_strip_write(1, 2, 2, 5, pit, 4, bytes, sizeof bytes));
+    print(zav_text_write(2, 2, 2, 5, pit, 4, bytes, sizeof bytes));
+}
+
 /* FORMAT 15.10; and the same, with a mark buffer or a second strip of another
  * length. */
 static void print_pools(const uint8_t *strip)
@@ -85,11 +105,12 @@ int main(void)
     uint64_t written;
 
     print_repairs();
-    print(written = zav_record_write(2, 1, 5, level, 2, bytes, sizeof bytes));
+    print(written = zav_record_write(1, 2, 1, 5, level, 2, bytes,
+                                     sizeof bytes));
     print(zav_record_read(bytes, zav_length(written), tiles, sizeof tiles));
-    print(written = zav_text_write(2, 1, 5, level, 2, bytes, sizeof bytes));
+    print(written = zav_text_write(1, 2, 1, 5, level, 2, bytes, sizeof bytes));
     print(zav_text_read(bytes, zav_length(written), tiles, sizeof tiles));
-    print(written = zav_strip_write(2, 1, 5, level, 2, bytes, sizeof bytes));
+    print(written = zav_strip_write(1, 2, 1, 5, level, 2, bytes, sizeof bytes));
 
     const size_t len = zav_length(written);
 
@@ -98,9 +119,10 @@ int main(void)
     print_read(bytes, len, front, 2, two, len);
     print_read(bytes, len, three, 3, none, len);
     print_read(bytes, len, front, 0, none, len - 1);
-    print(zav_strip_write(2, 1, 5, finished, 2, bytes, sizeof bytes));
+    print(zav_strip_write(1, 2, 1, 5, finished, 2, bytes, sizeof bytes));
     print_read(finished_strip, sizeof finished_strip, front, 0, none,
                sizeof finished_strip);
+    print_versions();
     print_pools(bytes);
     print_walk(tiles);
     return 0;

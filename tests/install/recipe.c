@@ -134,7 +134,8 @@ int main(void)
 {
     static const uint8_t level[] = {2, 6};
 
-    zav_strip_write(2, 1, 5, level, sizeof level, written, sizeof written);
+    zav_strip_write(ZAV_LEVEL_V1, 2, 1, 5, level, sizeof level, written,
+                    sizeof written);
     memcpy(strip, written, LEN);
     if (!draws()) {
         puts("the mended strip or its counts are not as they ought to be");

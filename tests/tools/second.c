@@ -2,8 +2,9 @@
  * second.c - what the tools must say, from the second implementation.
  *
  * second show FILE prints what zavshow must print, and ends as it must; second
- * text FILE the same for zavshow --text, second strip FILE for zavshow --strip,
- * and second make FILE for zavmake.
+ * text FILE the same for zavshow --text, with what must be said on standard
+ * error, second strip FILE for zavshow --strip, and second make FILE for
+ * zavmake.
  * second pool FILE FILE... writes what zavpool must write, and says the counts
  * on standard error.
  * second list WIDTH HEIGHT prints what zavtiny must print, and with FOLDER puts
@@ -68,16 +69,17 @@ static const char *const words[] = {
           "many marks",
     [3] = "a mark is neither 0 nor 1",
     [6] = "too many cells are wrong or marked",
-    [7] = "the version, width, height or par is out of range",
+    [7] = "the version is not one that is taken here, or the width, height or "
+          "par is out of range",
     [8] = "the length does not fit the size, or the filling is not zero",
-    [9] = "there is no such tile code",
-    [10] = "not one player, crates and goals unequal, or no crate off its "
-           "goal",
+    [9] = "a tile code is none of this version",
+    [10] = "not one player, fewer crates than goals (in version 1 also more), "
+           "or no crate off its goal",
 };
 
 static char letter_of(uint8_t tile)
 {
-    static const char pairs[] = "0 1#2$3.4*5@6+";
+    static const char pairs[] = "0 1#2$3.4*5@6+7^";
 
     return *(strchr(pairs, '0' + tile) + 1);
 }
@@ -90,9 +92,9 @@ static struct ref_result judge(const uint8_t *bytes, size_t len, uint8_t *tiles)
                           REF_TILES_MAX, REF_SCRATCH_MIN);
 }
 
-static int refuse(struct ref_result r)
+static int refuse(FILE *out, struct ref_result r)
 {
-    printf("refused %u lane %u: %s\n", r.code, r.lane, words[r.code]);
+    fprintf(out, "refused %u lane %u: %s\n", r.code, r.lane, words[r.code]);
     return 1;
 }
 
@@ -103,12 +105,13 @@ static int show(const char *path)
     const struct ref_result r = judge(bytes, len, tiles);
 
     if (r.code != 0)
-        return refuse(r);
+        return refuse(stdout, r);
     for (size_t i = 0; i < (size_t)r.width * r.height; i++)
         printf("%c%s", letter_of(tiles[i]),
                (i + 1) % r.width == 0 ? "\n" : "");
-    printf("width %u, height %u, par %u, mended %u, repainted %u, wear %u\n",
-           r.width, r.height, r.par, r.mended, r.repainted, r.wear);
+    printf("version %u, width %u, height %u, par %u, mended %u, repainted %u, "
+           "wear %u\n", r.version, r.width, r.height, r.par, r.mended,
+           r.repainted, r.wear);
     return 0;
 }
 
@@ -127,8 +130,8 @@ static int show_strip(const char *path)
     size_t counts[2][2] = {{0}};
 
     if (r.code != 0)
-        return refuse(r);
-    ref_strip_write(r.width, r.height, r.par, tiles,
+        return refuse(stdout, r);
+    ref_strip_write(r.version, r.width, r.height, r.par, tiles,
                     (size_t)r.width * r.height, strip, sizeof strip);
     for (size_t p = 0; p < cells; p++) {
         const size_t marked = bytes[cells + p], wrong = strip[p] != bytes[p];
@@ -148,17 +151,33 @@ static int show_strip(const char *path)
     return 0;
 }
 
+/* A level of version 2 has no text. */
+static int refuse_text(unsigned code)
+{
+    fprintf(stderr, "zavshow: refused %u lane 0: the level is of version 2, "
+            "and texts are for version 1, where there are no pits; zavshow "
+            "without --text draws it\n", code);
+    return 1;
+}
+
 static int show_text(const char *path)
 {
     uint8_t bytes[BYTES_ROOM], tiles[REF_TILES_MAX], text[REF_TEXT_MAX];
     const size_t len = take(path, bytes, sizeof bytes);
     const struct ref_result r = judge(bytes, len, tiles);
 
-    if (r.code != 0)
-        return 1;
-    fwrite(text, 1, ref_text_write(r.width, r.height, r.par, tiles,
-                                   (size_t)r.width * r.height, text,
-                                   sizeof text).length, stdout);
+    if (r.code != 0) {
+        fputs("zavshow: ", stderr);
+        return refuse(stderr, r);
+    }
+
+    const struct ref_result written =
+        ref_text_write(r.version, r.width, r.height, r.par, tiles,
+                       (size_t)r.width * r.height, text, sizeof text);
+
+    if (written.code != 0)
+        return refuse_text(written.code);
+    fwrite(text, 1, written.length, stdout);
     return 0;
 }
 
@@ -176,19 +195,22 @@ static int make(const char *path)
 
     if (r.code != 0)
         return 1;
-    fwrite(strip, 1, 2 * ref_strip_write(r.width, r.height, r.par, tiles,
-                                         (size_t)r.width * r.height, strip,
-                                         REF_STRIP_MAX).length, stdout);
+    fwrite(strip, 1, 2 * ref_strip_write(r.version, r.width, r.height, r.par,
+                                         tiles, (size_t)r.width * r.height,
+                                         strip, REF_STRIP_MAX).length, stdout);
     return 0;
 }
 
-/* Half of them without a slip, the others with one or two. */
+/* Pits cannot be typed, so it is one of version 1. Half of them without a slip,
+   the others with one or two. */
 static int type_file(const char *folder, size_t number)
 {
     struct typed t = {.len = 0};
     struct board b;
 
-    draw_any_board(&b);
+    do {
+        draw_any_board(&b);
+    } while (b.version != 1);
     type_par(&t, b.par);
     type_ragged_rows(&t, &b);
     for (size_t slips = number % 2 * draw_between(1, 2); slips > 0; slips--)
@@ -341,7 +363,7 @@ static void list_text(size_t width, size_t height, const uint8_t *tiles)
 {
     uint8_t text[REF_TEXT_MAX];
 
-    fwrite(text, 1, ref_text_write(width, height, 0, tiles, width * height,
+    fwrite(text, 1, ref_text_write(1, width, height, 0, tiles, width * height,
                                    text, sizeof text).length, stdout);
 }
 
@@ -350,8 +372,9 @@ static void list_strip(size_t width, size_t height, const uint8_t *tiles,
 {
     uint8_t cells[BYTES_ROOM] = {0};
     char path[4096];
-    const size_t len = ref_strip_write(width, height, 0, tiles, width * height,
-                                       cells, REF_STRIP_MAX).length;
+    const size_t len = ref_strip_write(1, width, height, 0, tiles,
+                                       width * height, cells,
+                                       REF_STRIP_MAX).length;
 
     snprintf(path, sizeof path, "%s/%zux%zu-%04zu.cells", folder, width,
              height, number);

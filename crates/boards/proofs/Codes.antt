@@ -16,7 +16,7 @@ use Rattle.account.specs.Lists.{sumOf}
 use Rattle.tiles.specs.Sum.{weighed, weight}
 use Rattle.boards.specs.Codes.{same}
 use Rattle.tiles.specs.Rows.{Packs}
-use Rattle.tiles.proofs.Rows.{weighed-in, weighed-small}
+use Rattle.tiles.proofs.Rows.{weighed-small}
 
 -- ---- a tile and a code
 
@@ -53,17 +53,17 @@ step c t = go (lt-or-ge t c) (lt-or-ge c t)
       few = rw (le-ltb t c a, le-ltb c t b) (omega arith);
     }
 
-last : (t : ℕ) → below 7 t + 281474976710656 * since 7 t ≡ weighed t
-last t = go (lt-or-ge t 7)
+last : (t : ℕ) → below 8 t + 1125899906842624 * since 8 t ≡ weighed t
+last t = go (lt-or-ge t 8)
   where
-    go : (t < 7) ⊎ (7 ≤ t) → below 7 t + 281474976710656 * since 7 t ≡ weighed t
-    go (inl h) = rw (lt-ltb t 7 h) (omega arith)
-    go (inr h) = rw (le-ltb t 7 h) (omega arith)
+    go : (t < 8) ⊎ (8 ≤ t) → below 8 t + 1125899906842624 * since 8 t ≡ weighed t
+    go (inl h) = rw (lt-ltb t 8 h) (omega arith)
+    go (inr h) = let k : 7 ≤ t = omega arith in rw (le-ltb t 7 k, le-ltb t 8 h) (omega arith)
 
-below-small : (c t : ℕ) → below c t ≤ 281474976710656
+below-small : (c t : ℕ) → below c t ≤ 1125899906842624
 below-small c t = go (lt-or-ge t c)
   where
-    go : (t < c) ⊎ (c ≤ t) → below c t ≤ 281474976710656
+    go : (t < c) ⊎ (c ≤ t) → below c t ≤ 1125899906842624
     go (inl h) = rw (lt-ltb t c h) (weighed-small t)
     go (inr h) = rw (le-ltb t c h) (omega arith)
 
@@ -125,27 +125,27 @@ module _ (t : ℕ → ℕ) where
   added-none zero = refl
   added-none (suc n) = rw (le-ltb (t n) 0 (omega arith)) (omega (arith, added-none n))
 
-  added-all : (n : ℕ) → addedBy n 7 + 281474976710656 * leftOf n 7 ≡ sumOf n (λ i. weighed (t i))
+  added-all : (n : ℕ) → addedBy n 8 + 1125899906842624 * leftOf n 8 ≡ sumOf n (λ i. weighed (t i))
   unfolding sumOf
   added-all zero = refl
   added-all (suc n) = omega (arith, added-all n, last (t n))
 
-  pub added-small : (n c : ℕ) → addedBy n c ≤ 281474976710656 * n
+  pub added-small : (n c : ℕ) → addedBy n c ≤ 1125899906842624 * n
   unfolding sumOf
   added-small zero c = omega arith
   added-small (suc n) c = omega (arith, added-small n c, below-small c (t n))
 
-  pub sum-small : (n : ℕ) → sumOf n (λ i. weighed (t i)) ≤ 281474976710656 * n
+  pub sum-small : (n : ℕ) → sumOf n (λ i. weighed (t i)) ≤ 1125899906842624 * n
   unfolding sumOf
   sum-small zero = omega arith
   sum-small (suc n) = omega (arith, sum-small n, weighed-small (t n))
 
   -- one code more, and what has none, by the rows
   module _ (rows : List ℕ) (p : Packs rows) (n x m : ℕ) where
-    pub row-next : (c : ℕ) → c < 7 → x ≡ addedBy n c → m ≡ countOf n c → x + getD rows c 0 * m ≡ addedBy n (c + 1)
-    row-next c h ex em = ap₂ (λ (a b : ℕ). a + b) ex (ap₂ (λ (a b : ℕ). a * b) (p .row-at c h ∙ sym (weighed-in c h)) em) ∙ sym (added-next n c)
+    pub row-next : (c : ℕ) → c < 8 → x ≡ addedBy n c → m ≡ countOf n c → x + getD rows c 0 * m ≡ addedBy n (c + 1)
+    row-next c h ex em = ap₂ (λ (a b : ℕ). a + b) ex (ap₂ (λ (a b : ℕ). a * b) (p .row-at c h) em) ∙ sym (added-next n c)
 
-    pub row-last : x ≡ addedBy n 7 → m ≡ leftOf n 7 → x + getD rows 7 0 * m ≡ sumOf n (λ i. weighed (t i))
+    pub row-last : x ≡ addedBy n 8 → m ≡ leftOf n 8 → x + getD rows 8 0 * m ≡ sumOf n (λ i. weighed (t i))
     row-last ex em = ap₂ (λ (a b : ℕ). a + b) ex (ap₂ (λ (a b : ℕ). a * b) (p .other) em) ∙ added-all n
 
 -- ---- the tiles of a board

@@ -34,26 +34,26 @@ fn count(tiles: &[u8], k: usize, c: u8) -> u8
 }
 
 // What the 64 tiles from k on add: for each code its row as often as it is there, and the last row for the others.
-fn block(rows: &[u64; 8], tiles: &[u8], k: usize) -> u64
+fn block(rows: &[u64; 9], tiles: &[u8], k: usize) -> u64
     requires { ⌜ Packs (now rows) × (k + 64 ≤ length (now tiles)) ⌝ }
     ensures { λ r. ⌜ r ≡ sumOf 64 (λ i. weighed (getD (now (tiles .entry)) (k + i) 0)) ⌝ }
 {
     let mut x: u64 = 0;
     let mut others: u64 = 64;
     let mut c: u8 = 0;
-    while c < 7 {
+    while c < 8 {
         let n = wide(count(tiles, k, c));
         x += rows[c as usize] * n;
         others -= n;
         c += 1;
     }
-    x + rows[7] * others
+    x + rows[8] * others
 }
 
 // What the tiles from k on add, one after the other.
-fn rest(rows: &[u64; 8], tiles: &[u8], k: usize) -> u64
+fn rest(rows: &[u64; 9], tiles: &[u8], k: usize) -> u64
     requires { ⌜ Packs (now rows) × (k ≤ length (now tiles)) × (length (now tiles) ≤ tilesMost) ⌝ }
-    ensures { λ r. ⌜ (r ≡ weight (drop k (now (tiles .entry)))) × (r ≤ 281474976710656 * tilesMost) ⌝ }
+    ensures { λ r. ⌜ (r ≡ weight (drop k (now (tiles .entry)))) × (r ≤ 1125899906842624 * tilesMost) ⌝ }
 {
     let mut x: u64 = 0;
     let mut i = k;

@@ -8,7 +8,7 @@ use native.Mathlib.Omega.{arith}
 use lib.ListN.{length}
 use Rattle.rules.specs.Refusal.{First, asked}
 use Rattle.rules.proofs.Laws.{stops}
-use Rattle.level.specs.Level.{Ranged}
+use Rattle.level.specs.Level.{Known, Taken}
 use Rattle.level.specs.Record.{fieldAt, recordLength}
 use Rattle.level.specs.Reading.{tilesOf, levelOf, Shaped, judging}
 use Rattle.level.proofs.Dealing.{within}
@@ -24,18 +24,18 @@ use Rattle.fields.specs.Judged.{without, AnswersAs, JudgedAs}
 use Rattle.fields.proofs.Tiles.{area-small}
 use Rattle.fields.proofs.Reading.{field-5}
 
-module _ (R : ℕ) (bs : List ℕ) where
-  refusal : (code : ℕ) → (code ≡ 0 → ⊥) → First (asked (λ ask. ask bs) (judging R)) code → JudgedAs R bs (without code)
+module _ (upto R : ℕ) (bs : List ℕ) where
+  refusal : (code : ℕ) → (code ≡ 0 → ⊥) → First (asked (λ ask. ask bs) (judging upto R)) code → JudgedAs upto R bs (without code)
   refusal code n f = record { first = f; spells = λ z. absurd (n z); none = λ _. refl }
 
-  judged-none : (r : Judged) (code : ℕ) → r ≡ without code → (code ≡ 0 → ⊥) → First (asked (λ ask. ask bs) (judging R)) code → JudgedAs R bs r
-  judged-none r code e n f = subst (JudgedAs R bs) (sym e) (refusal code n f)
+  judged-none : (r : Judged) (code : ℕ) → r ≡ without code → (code ≡ 0 → ⊥) → First (asked (λ ask. ask bs) (judging upto R)) code → JudgedAs upto R bs r
+  judged-none r code e n f = subst (JudgedAs upto R bs) (sym e) (refusal code n f)
 
-  pub judged-7 : (r : Judged) → r ≡ without 7 → (Ranged (levelOf bs) → ⊥) → JudgedAs R bs r
-  judged-7 r e n = judged-none r 7 e (λ z. omega arith) (stops 0 (asked (λ ask. ask bs) (judging R)) 7 (n, refl))
+  pub judged-7 : (r : Judged) → r ≡ without 7 → (Taken upto (levelOf bs) → ⊥) → JudgedAs upto R bs r
+  judged-7 r e n = judged-none r 7 e (λ z. omega arith) (stops 0 (asked (λ ask. ask bs) (judging upto R)) 7 (n, refl))
 
-  pub judged-8 : (r : Judged) → r ≡ without 8 → Ranged (levelOf bs) → (Shaped R bs → ⊥) → JudgedAs R bs r
-  judged-8 r e h n = judged-none r 8 e (λ z. omega arith) (stops 1 (asked (λ ask. ask bs) (judging R)) 8 (h, (n, refl)))
+  pub judged-8 : (r : Judged) → r ≡ without 8 → Taken upto (levelOf bs) → (Shaped R bs → ⊥) → JudgedAs upto R bs r
+  judged-8 r e h n = judged-none r 8 e (λ z. omega arith) (stops 1 (asked (λ ask. ask bs) (judging upto R)) 8 (h, (n, refl)))
 
 -- the bytes have room for the tiles, and so has their part from byte 3
 module _ (R : ℕ) (bs : List ℕ) (some : 0 < R) (s : Shaped R bs) where
@@ -52,8 +52,8 @@ module _ (R : ℕ) (bs : List ℕ) (some : 0 < R) (s : Shaped R bs) where
       ∙ ap weight (tilesFrom-part bs (fieldAt bs 4 5 * fieldAt bs 9 5))
 
 -- the head is one that a level has
-abbrev pub Opens : Head → Type 0
-Opens f = HeadRanged (f .version) (f .width) (f .height)
+abbrev pub Opens : ℕ → Head → Type 0
+Opens upto f = HeadRanged upto (f .version) (f .width) (f .height)
 
 module _ (bs : List ℕ) (f : Head) (hd : Heads bs f) where
   pub area-is : f .width * f .height ≡ fieldAt bs 4 5 * fieldAt bs 9 5
@@ -62,47 +62,50 @@ module _ (bs : List ℕ) (f : Head) (hd : Heads bs f) where
   pub area-few : f .width * f .height ≤ 961
   area-few = area-small (f .width) (f .height) (omega (arith, hd .width, field-5 bs 4)) (omega (arith, hd .height, field-5 bs 9))
 
-  pub headed : Opens f → Ranged (levelOf bs)
-  headed k = record {
-    known = omega (arith, hd .version, k .known);
-    sized = record {
-      wide = omega (arith, hd .width, k .wide);
-      not-wider = field-5 bs 4;
-      high = omega (arith, hd .height, k .high);
-      not-higher = field-5 bs 9;
+  pub headed : (upto : ℕ) → Opens upto f → Taken upto (levelOf bs)
+  headed upto k = record {
+    ranged = record {
+      known = subst Known (hd .version) (k .version-taken .known);
+      sized = record {
+        wide = omega (arith, hd .width, k .wide);
+        not-wider = field-5 bs 4;
+        high = omega (arith, hd .height, k .high);
+        not-higher = field-5 bs 9;
+      };
+      par-small = omega (arith, field-below bs 14 10);
     };
-    par-small = omega (arith, field-below bs 14 10);
+    in-time = omega (arith, hd .version, k .version-taken .in-time);
   }
 
-  pub head-of-level : Ranged (levelOf bs) → Opens f
-  head-of-level r = record {
-    known = omega (arith, hd .version, r .known);
-    wide = omega (arith, hd .width, r .sized .wide);
-    high = omega (arith, hd .height, r .sized .high);
+  pub head-of-level : (upto : ℕ) → Taken upto (levelOf bs) → Opens upto f
+  head-of-level upto t = record {
+    version-taken = record { known = subst Known (sym (hd .version)) (t .ranged .known); in-time = omega (arith, hd .version, t .in-time) };
+    wide = omega (arith, hd .width, t .ranged .sized .wide);
+    high = omega (arith, hd .height, t .ranged .sized .high);
   }
 
   -- what the tiles add tells their refusal
-  boarded : f .version ≡ 1 → (R x code : ℕ) → 0 < R → Shaped R bs → PartSummed (partOf bs) x → SumCode 1 x code
+  boarded : (R x code : ℕ) → 0 < R → Shaped R bs → PartSummed (partOf bs) x → SumCode (f .version) x code
       → BoardCode (fieldAt bs 0 4) (tilesOf bs) code
-  boarded v R x code some s t j =
-      subst (λ (y : ℕ). BoardCode y (tilesOf bs) code) (sym v ∙ hd .version)
+  boarded R x code some s t j =
+      subst (λ (y : ℕ). BoardCode y (tilesOf bs) code) (hd .version)
       (j .code-of (tilesOf bs) (omega (arith, length-tiles bs (fieldAt bs 4 5 * fieldAt bs 9 5), area-is, area-few)) (summed-tiles R bs some s x t))
 
   -- where head and shape hold, the tiles decide
-  pub judged-by-tiles : (R x code : ℕ) → 0 < R → Opens f → Shaped R bs → PartSummed (partOf bs) x → SumCode 1 x code
-      → First (asked (λ ask. ask bs) (judging R)) code
-  judged-by-tiles R x code some k s t j = inr (headed k, inr (s, boarded (k .known) R x code some s t j))
+  pub judged-by-tiles : (upto R x code : ℕ) → 0 < R → Opens upto f → Shaped R bs → PartSummed (partOf bs) x → SumCode (f .version) x code
+      → First (asked (λ ask. ask bs) (judging upto R)) code
+  judged-by-tiles upto R x code some k s t j = inr (headed upto k, inr (s, boarded R x code some s t j))
 
-  judged-0 : (R : ℕ) → First (asked (λ ask. ask bs) (judging R)) 0 → JudgedAs R bs (record { code = 0; width = f .width; height = f .height; par = f .par })
-  judged-0 R k = record {
+  judged-0 : (upto R : ℕ) → First (asked (λ ask. ask bs) (judging upto R)) 0 → JudgedAs upto R bs (record { code = 0; version = f .version; width = f .width; height = f .height; par = f .par })
+  judged-0 upto R k = record {
     first = k;
-    spells = λ _. record { width = hd .width; height = hd .height; par = hd .par; few = area-few };
+    spells = λ _. record { version = hd .version; width = hd .width; height = hd .height; par = hd .par; few = area-few };
     none = λ n. absurd (n refl);
   }
 
-  pub judged-answer : (R code : ℕ) (r : Judged) → AnswersAs f code r → First (asked (λ ask. ask bs) (judging R)) code → JudgedAs R bs r
-  judged-answer R code r A k = go (ℕ-discrete code 0)
+  pub judged-answer : (upto R code : ℕ) (r : Judged) → AnswersAs f code r → First (asked (λ ask. ask bs) (judging upto R)) code → JudgedAs upto R bs r
+  judged-answer upto R code r A k = go (ℕ-discrete code 0)
     where
-      go : Dec (code ≡ 0) → JudgedAs R bs r
-      go (yes z) = subst (JudgedAs R bs) (sym (A .some z)) (judged-0 R (subst (First (asked (λ ask. ask bs) (judging R))) z k))
-      go (no n) = judged-none R bs r code (A .none n) n k
+      go : Dec (code ≡ 0) → JudgedAs upto R bs r
+      go (yes z) = subst (JudgedAs upto R bs) (sym (A .some z)) (judged-0 upto R (subst (First (asked (λ ask. ask bs) (judging upto R))) z k))
+      go (no n) = judged-none upto R bs r code (A .none n) n k

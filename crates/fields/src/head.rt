@@ -2,7 +2,8 @@
 ghost use Prim.Native.Nat.{_≤_};
 ghost use lib.ListN.{length};
 ghost use Rattle.rules.specs.Says.{Says};
-ghost use Rattle.fields.specs.Head.{Heads, HeadRanged};
+ghost use Rattle.fields.specs.Head.{Heads, VersionTaken, HeadRanged};
+use level::NEWEST;
 
 // The fields in front of the tiles.
 pub struct Head {
@@ -27,11 +28,27 @@ pub fn head_of(bs: &[u8]) -> Head
     }
 }
 
-// The fields are in their ranges; the bits of each leave no room above.
-pub fn head_ranged(version: usize, width: usize, height: usize) -> bool
-    ensures { λ r. ⌜ Says r (HeadRanged version width height) ⌝ }
+// A version that there is, and that is taken.
+pub fn version_taken(upto: usize, version: usize) -> bool
+    ensures { λ r. ⌜ Says r (VersionTaken upto version) ⌝ }
 {
-    if version != 1 {
+    if version < 1 {
+        return false;
+    }
+    if NEWEST < version {
+        return false;
+    }
+    if upto < version {
+        return false;
+    }
+    true
+}
+
+// The fields are in their ranges; the bits of width, height and par leave no room above.
+pub fn head_ranged(upto: usize, version: usize, width: usize, height: usize) -> bool
+    ensures { λ r. ⌜ Says r (HeadRanged upto version width height) ⌝ }
+{
+    if !version_taken(upto, version) {
         return false;
     }
     if width < 1 {

@@ -6,6 +6,7 @@ use super::head::Head;
 // What judging a record brings: a refusal's number, and what it spells where that is 0.
 pub struct Judged {
     pub code: u8,
+    pub version: usize,
     pub width: usize,
     pub height: usize,
     pub par: usize,
@@ -16,6 +17,7 @@ pub fn refused(code: u8) -> Judged
 {
     Judged {
         code: code,
+        version: 0,
         width: 0,
         height: 0,
         par: 0,
@@ -31,6 +33,7 @@ pub fn answer(f: Head, code: u8) -> Judged
     }
     Judged {
         code: 0,
+        version: f.version,
         width: f.width,
         height: f.height,
         par: f.par,

@@ -20,7 +20,7 @@ use Rattle.code.proofs.Theorems.{repainted-few}
 use Rattle.level.specs.Sizes.{stripMost}
 use Rattle.level.specs.Level.{Level, IsLevel}
 use Rattle.level.specs.Reading.{ReadNumbers, readingRecord, entering, mending, returned}
-use Rattle.level.specs.Writing.{writingLevel}
+use Rattle.level.specs.Writing.{writingUpto, writingLevel}
 use Rattle.record.specs.Reading.{recordNumbers}
 use Rattle.record.specs.declared.read.RecordRead.{RecordRead}
 use Rattle.record.specs.declared.read.RecordRead.the-variants as recordRead
@@ -102,8 +102,8 @@ record-write-told l old new r E =
 pub text-write-told : (l : Level) (old new : List ℕ) (r : ℕ) (E : TextExport l old new r) → unpackedLength r ≡ writtenNumbers (E .answer)
 text-write-told l old new r E =
     ap unpackedLength (E .is)
-    ∙ back-length (writtenNumbers (E .answer)) (written-room (writingLevel 1001 l (length old)) (E .answer) tt (E .kept .code)
-    (λ z. omega (arith, E .kept .value z, text-short l (written-text-level l old new (E .answer) (E .kept) z))))
+    ∙ back-length (writtenNumbers (E .answer)) (written-room (writingUpto 1 1001 l (length old)) (E .answer) tt (E .kept .code)
+    (λ z. omega (arith, E .kept .value z, text-short l (written-text-level l old new (E .answer) (E .kept) z .0) (written-text-level l old new (E .answer) (E .kept) z .1))))
 
 pub strip-write-told : (l : Level) (old new : List ℕ) (r : ℕ) (E : StripExport 4 l old new r) → unpackedLength r ≡ writtenNumbers (E .answer)
 strip-write-told l old new r E =
@@ -116,11 +116,12 @@ strip-write-told l old new r E =
 -- the numbers of a level, read from a record or from a text
 level-room : (a : RecordRead) (new : List ℕ) → recordNumbers a .code < 32 → (recordNumbers a .code ≡ 0 → IsLevel (returned (recordNumbers a) new))
     → ReadRoom (recordNumbers a)
-level-room (recordRead.Level w h p) new f is =
+level-room (recordRead.Level v w h p) new f is =
     let l = is refl .ranged in
     record {
       code = f;
       lane = omega arith;
+      version = omega (arith, l .known .to);
       width = omega (arith, l .sized .not-wider);
       height = omega (arith, l .sized .not-higher);
       par = omega (arith, l .par-small);
@@ -131,6 +132,7 @@ level-room (recordRead.Level w h p) new f is =
 level-room (recordRead.Refused c) new f is = record {
   code = f;
   lane = omega arith;
+  version = omega arith;
   width = omega arith;
   height = omega arith;
   par = omega arith;
@@ -139,11 +141,11 @@ level-room (recordRead.Refused c) new f is = record {
   wear = omega arith;
 }
 
-pub record-read-told : (bs old new : List ℕ) (r : ℕ) (E : RecordReadExport bs old new r) → unpackedRead r ≡ recordNumbers (E .answer)
-record-read-told bs old new r E =
+pub record-read-told : (upto : ℕ) (bs old new : List ℕ) (r : ℕ) (E : RecordReadExport upto bs old new r) → unpackedRead r ≡ recordNumbers (E .answer)
+record-read-told upto bs old new r E =
     ap unpackedRead (E .is)
     ∙ back-read (recordNumbers (E .answer))
-    (level-room (E .answer) new (few (readingRecord bs (length old)) (recordNumbers (E .answer) .code) tt (E .kept .code)) (E .kept .is-level))
+    (level-room (E .answer) new (few (readingRecord upto bs (length old)) (recordNumbers (E .answer) .code) tt (E .kept .code)) (E .kept .is-level))
 
 pub text-read-told : (text old new : List ℕ) (r : ℕ) (E : TextReadExport text old new r) → unpackedRead r ≡ recordNumbers (E .answer)
 text-read-told text old new r E =
@@ -151,9 +153,9 @@ text-read-told text old new r E =
     ∙ back-read (recordNumbers (E .answer))
     (level-room (E .answer) new (few (readingText text (length old)) (recordNumbers (E .answer) .code) tt (E .kept .code)) (E .kept .is-level))
 
-module _ (s marks tiles tiles' scratch scratch' : List ℕ) (a : Reading) (A : StripReadsAs 4 s marks tiles tiles' scratch scratch' a) where
+module _ (upto : ℕ) (s marks tiles tiles' scratch scratch' : List ℕ) (a : Reading) (A : StripReadsAs upto 4 s marks tiles tiles' scratch scratch' a) where
   code-small : stripNumbers a .code < 32
-  code-small = few (entering 4 s marks (length tiles) (length scratch) ++ mending gf256 4 s marks) (stripNumbers a .code) tt (A .code)
+  code-small = few (entering 4 s marks (length tiles) (length scratch) ++ mending upto gf256 4 s marks) (stripNumbers a .code) tt (A .code)
 
   lane-small : stripNumbers a .lane < 16
   lane-small = go (ℕ-discrete (stripNumbers a .code) 6)
@@ -166,13 +168,13 @@ module _ (s marks tiles tiles' scratch scratch' : List ℕ) (a : Reading) (A : S
   strip-room = either (ReadRoom (stripNumbers a)) (stripNumbers a .code) read refused
     where
       few-mended : stripNumbers a .mended < 64
-      few-mended = omega (arith, mended-most 4 (omega arith) s marks tiles tiles' scratch scratch' a A)
+      few-mended = omega (arith, mended-most 4 (omega arith) upto s marks tiles tiles' scratch scratch' a A)
 
       few-repainted : stripNumbers a .repainted < 128
-      few-repainted = omega (arith, repainted-most 4 (omega arith) s marks tiles tiles' scratch scratch' a A)
+      few-repainted = omega (arith, repainted-most 4 (omega arith) upto s marks tiles tiles' scratch scratch' a A)
 
       few-worn : stripNumbers a .wear < 64
-      few-worn = omega (arith, wear-most 4 (omega arith) s marks tiles tiles' scratch scratch' a A)
+      few-worn = omega (arith, wear-most 4 (omega arith) upto s marks tiles tiles' scratch scratch' a A)
 
       read : stripNumbers a .code ≡ 0 → ReadRoom (stripNumbers a)
       read z =
@@ -180,6 +182,7 @@ module _ (s marks tiles tiles' scratch scratch' : List ℕ) (a : Reading) (A : S
           record {
             code = code-small;
             lane = lane-small;
+            version = omega (arith, l .known .to);
             width = omega (arith, l .sized .not-wider);
             height = omega (arith, l .sized .not-higher);
             par = omega (arith, l .par-small);
@@ -194,6 +197,7 @@ module _ (s marks tiles tiles' scratch scratch' : List ℕ) (a : Reading) (A : S
           record {
             code = code-small;
             lane = lane-small;
+            version = omega (arith, ap (λ (n : ReadNumbers). n .version) z);
             width = omega (arith, ap (λ (n : ReadNumbers). n .width) z);
             height = omega (arith, ap (λ (n : ReadNumbers). n .height) z);
             par = omega (arith, ap (λ (n : ReadNumbers). n .par) z);
@@ -202,10 +206,10 @@ module _ (s marks tiles tiles' scratch scratch' : List ℕ) (a : Reading) (A : S
             wear = few-worn;
           }
 
-pub strip-read-told : (s marks tiles tiles' scratch scratch' : List ℕ) (r : ℕ) (E : StripReadExport 4 s marks tiles tiles' scratch scratch' r)
+pub strip-read-told : (upto : ℕ) (s marks tiles tiles' scratch scratch' : List ℕ) (r : ℕ) (E : StripReadExport upto 4 s marks tiles tiles' scratch scratch' r)
     → unpackedRead r ≡ stripNumbers (E .answer)
-strip-read-told s marks tiles tiles' scratch scratch' r E =
-    ap unpackedRead (E .is) ∙ back-read (stripNumbers (E .answer)) (strip-room s marks tiles tiles' scratch scratch' (E .answer) (E .kept))
+strip-read-told upto s marks tiles tiles' scratch scratch' r E =
+    ap unpackedRead (E .is) ∙ back-read (stripNumbers (E .answer)) (strip-room upto s marks tiles tiles' scratch scratch' (E .answer) (E .kept))
 
 -- ---- pictures pooled
 

@@ -35,8 +35,9 @@ RepairExport most marks old new = Export (RepairsAs gf256 most marks old new) (�
 abbrev pub RecordExport : Level → List ℕ → List ℕ → ℕ → Type 0
 RecordExport l old new = Export (RecordWritesAs l old new) (λ a. packedLength (writtenNumbers a))
 
-abbrev pub RecordReadExport : List ℕ → List ℕ → List ℕ → ℕ → Type 0
-RecordReadExport bs old new = Export (RecordReadsAs bs old new) (λ a. packedRead (recordNumbers a))
+-- of versions up to this one, and so for strips
+abbrev pub RecordReadExport : ℕ → List ℕ → List ℕ → List ℕ → ℕ → Type 0
+RecordReadExport upto bs old new = Export (RecordReadsAs upto bs old new) (λ a. packedRead (recordNumbers a))
 
 abbrev pub TextExport : Level → List ℕ → List ℕ → ℕ → Type 0
 TextExport l old new = Export (TextWritesAs l old new) (λ a. packedLength (writtenNumbers a))
@@ -47,8 +48,8 @@ TextReadExport text old new = Export (TextReadsAs text old new) (λ a. packedRea
 abbrev pub StripExport : ℕ → Level → List ℕ → List ℕ → ℕ → Type 0
 StripExport R l old new = Export (StripWritesAs R l old new) (λ a. packedLength (writtenNumbers a))
 
-abbrev pub StripReadExport : ℕ → List ℕ → List ℕ → List ℕ → List ℕ → List ℕ → List ℕ → ℕ → Type 0
-StripReadExport R s marks tiles tiles' scratch scratch' = Export (StripReadsAs R s marks tiles tiles' scratch scratch') (λ a. packedRead (stripNumbers a))
+abbrev pub StripReadExport : ℕ → ℕ → List ℕ → List ℕ → List ℕ → List ℕ → List ℕ → List ℕ → ℕ → Type 0
+StripReadExport upto R s marks tiles tiles' scratch scratch' = Export (StripReadsAs upto R s marks tiles tiles' scratch scratch') (λ a. packedRead (stripNumbers a))
 
 abbrev pub PoolExport : ℕ → Picture → Picture → Picture → Picture → ℕ → Type 0
 PoolExport R a b out out' = Export (PoolsAs R a b out out') (λ r. packedPool (poolNumbers r))

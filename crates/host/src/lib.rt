@@ -8,6 +8,7 @@ ghost use Rattle.account.specs.Code.{alphaTo, syndrome};
 ghost use Rattle.gf256.specs.Gf256.{gf256, times};
 ghost use Rattle.code.specs.Word.{wordMost};
 ghost use Rattle.code.specs.Lane.{laneMost, wordOf};
+ghost use Rattle.level.specs.Level.{newest};
 ghost use Rattle.level.specs.Writing.{lent};
 ghost use Rattle.pool.specs.Pooled.{photo};
 ghost use Rattle.tiny.specs.Tiny.{placeOf};
@@ -129,37 +130,47 @@ pub extern "C" fn zav_syndrome(word: &[u8]) -> u64
 // Writes the record of a level.
 #[no_mangle]
 pub extern "C" fn zav_record_write(
+    version: usize,
     width: usize,
     height: usize,
     par: usize,
     tiles: &[u8],
     record: &mut [u8],
 ) -> u64
-    ensures { λ r. ⌜ RecordExport (lent width height par (now (tiles .entry))) (now («record» .entry)) (now («record» .exit)) r ⌝ }
+    ensures { λ r. ⌜ RecordExport (lent version width height par (now (tiles .entry))) (now («record» .entry)) (now («record» .exit)) r ⌝ }
 {
-    packing::pack_written(record::write::write(width, height, par, tiles, record))
+    packing::pack_written(record::write::write(version, width, height, par, tiles, record))
 }
 
 // Reads a record.
 #[no_mangle]
 pub extern "C" fn zav_record_read(record: &[u8], tiles: &mut [u8]) -> u64
-    ensures { λ r. ⌜ RecordReadExport (now («record» .entry)) (now (tiles .entry)) (now (tiles .exit)) r ⌝ }
+    ensures { λ r. ⌜ RecordReadExport newest (now («record» .entry)) (now (tiles .entry)) (now (tiles .exit)) r ⌝ }
 {
     packing::pack_level(record::read::read(record, tiles))
+}
+
+// Reads a record of version 1.
+#[no_mangle]
+pub extern "C" fn zav_record_read_v1(record: &[u8], tiles: &mut [u8]) -> u64
+    ensures { λ r. ⌜ RecordReadExport 1 (now («record» .entry)) (now (tiles .entry)) (now (tiles .exit)) r ⌝ }
+{
+    packing::pack_level(record::read::read_v1(record, tiles))
 }
 
 // Writes the text of a level.
 #[no_mangle]
 pub extern "C" fn zav_text_write(
+    version: usize,
     width: usize,
     height: usize,
     par: usize,
     tiles: &[u8],
     text: &mut [u8],
 ) -> u64
-    ensures { λ r. ⌜ TextExport (lent width height par (now (tiles .entry))) (now (text .entry)) (now (text .exit)) r ⌝ }
+    ensures { λ r. ⌜ TextExport (lent version width height par (now (tiles .entry))) (now (text .entry)) (now (text .exit)) r ⌝ }
 {
-    packing::pack_written(text::write::write(width, height, par, tiles, text))
+    packing::pack_written(text::write::write(version, width, height, par, tiles, text))
 }
 
 // Reads a text.
@@ -173,15 +184,16 @@ pub extern "C" fn zav_text_read(text: &[u8], tiles: &mut [u8]) -> u64
 // Writes the strip of a level.
 #[no_mangle]
 pub extern "C" fn zav_strip_write(
+    version: usize,
     width: usize,
     height: usize,
     par: usize,
     tiles: &[u8],
     strip: &mut [u8],
 ) -> u64
-    ensures { λ r. ⌜ StripExport 4 (lent width height par (now (tiles .entry))) (now (strip .entry)) (now (strip .exit)) r ⌝ }
+    ensures { λ r. ⌜ StripExport 4 (lent version width height par (now (tiles .entry))) (now (strip .entry)) (now (strip .exit)) r ⌝ }
 {
-    packing::pack_written(strip::write::write(width, height, par, tiles, strip))
+    packing::pack_written(strip::write::write(version, width, height, par, tiles, strip))
 }
 
 // Reads a strip.
@@ -192,9 +204,22 @@ pub extern "C" fn zav_strip_read(
     tiles: &mut [u8],
     scratch: &mut [u8],
 ) -> u64
-    ensures { λ r. ⌜ StripReadExport 4 (now (strip .entry)) (now (marks .entry)) (now (tiles .entry)) (now (tiles .exit)) (now (scratch .entry)) (now (scratch .exit)) r ⌝ }
+    ensures { λ r. ⌜ StripReadExport newest 4 (now (strip .entry)) (now (marks .entry)) (now (tiles .entry)) (now (tiles .exit)) (now (scratch .entry)) (now (scratch .exit)) r ⌝ }
 {
     packing::pack_reading(strip::read::read(strip, marks, tiles, scratch))
+}
+
+// Reads a strip of version 1.
+#[no_mangle]
+pub extern "C" fn zav_strip_read_v1(
+    strip: &[u8],
+    marks: &[u8],
+    tiles: &mut [u8],
+    scratch: &mut [u8],
+) -> u64
+    ensures { λ r. ⌜ StripReadExport 1 4 (now (strip .entry)) (now (marks .entry)) (now (tiles .entry)) (now (tiles .exit)) (now (scratch .entry)) (now (scratch .exit)) r ⌝ }
+{
+    packing::pack_reading(strip::read::read_v1(strip, marks, tiles, scratch))
 }
 
 // Pools two pictures of a strip.

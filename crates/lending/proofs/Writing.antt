@@ -9,10 +9,11 @@ use lib.Seq.{sets, take-at, drop-at}
 use Rattle.account.specs.Lists.{listOf}
 use Rattle.account.proofs.Lanes.{getD-past}
 use Rattle.account.proofs.Lists.{length-listOf}
-use Rattle.level.specs.Level.{Level, AllTiles, IsLevel}
+use Rattle.level.specs.Level.{Level, codeMost, AllTiles, Coded, IsLevel}
 use Rattle.level.specs.Record.{recordLength, IsRecord}
 use Rattle.level.proofs.Written.{digit, recordBit, recordByte, recordOf}
 use Rattle.rules.proofs.Numbers.{lt-or-ge}
+use Rattle.level.proofs.Versions.{code-most}
 use Rattle.level.proofs.RecordOf.{bit-1, bit-2, bit-3, bit-4, bit-5, record-of}
 use Rattle.level.proofs.Windows.{run, run-append, window}
 use Rattle.boards.specs.Pack.{threeOf, tileByte, PackedIn}
@@ -20,8 +21,8 @@ use Rattle.tiles.proofs.Putting.{sets-at, sets-past, filled}
 use Rattle.lending.specs.Lending.{headBytes, RecordPut}
 
 -- past the tiles are zeros
-pub codes-all : (ts : List ℕ) → AllTiles 1 ts → (q : ℕ) → getD ts q 0 ≤ 6
-codes-all ts f q = ⊎-elim (λ h. f q h) (λ h. omega (arith, getD-past ts q h)) (lt-or-ge q (length ts))
+pub codes-all : (v : ℕ) (ts : List ℕ) → AllTiles v ts → (q : ℕ) → getD ts q 0 ≤ codeMost v
+codes-all v ts f q = ⊎-elim (λ h. f q h) (λ h. omega (arith, getD-past ts q h)) (lt-or-ge q (length ts))
 
 module _ (l : Level) where
   join : (p m n a b : ℕ) → run (recordBit l) p m ≡ a → run (recordBit l) (p + m) n ≡ b → run (recordBit l) p (m + n) ≡ a * 2 ^ n + b
@@ -38,7 +39,7 @@ module _ (l : Level) where
           bit-5 l (p + i) (omega arith) ∙ ap₂ (λ (a b : ℕ). digit 3 (getD (l .tiles) a 0) b) x y
 
   -- eight tiles make three bytes
-  module _ (g : ℕ) (small : (q : ℕ) → getD (l .tiles) q 0 ≤ 6) where
+  module _ (g : ℕ) (small : (q : ℕ) → getD (l .tiles) q 0 ≤ 7) where
     abbrev tile : ℕ → ℕ
     tile j = getD (l .tiles) (8 * g + j) 0
 
@@ -78,7 +79,7 @@ module _ (l : Level) where
         ∙ omega arith
 
   -- the bytes in front of the tiles
-  module _ (v : l .version ≡ 1) (w : l .width ≤ 31) (h : l .height ≤ 31) (p : l .par ≤ 1023) where
+  module _ (v : l .version ≤ 15) (w : l .width ≤ 31) (h : l .height ≤ 31) (p : l .par ≤ 1023) where
     -- n bits of a field v of N bits that starts with bit o
     in-field : (N v o q k n j r : ℕ) → ((i : ℕ) → o ≤ i → i < o + N → recordBit l i ≡ digit N v (i - o)) → q ≡ o + k → k + n + j ≡ N
         → v / 2 ^ j % 2 ^ n ≡ r → run (recordBit l) q n ≡ r
@@ -95,11 +96,11 @@ module _ (l : Level) where
     paired : (q k n j r : ℕ) → q ≡ 14 + k → k + n + j ≡ 10 → l .par / 2 ^ j % 2 ^ n ≡ r → run (recordBit l) q n ≡ r
     paired q k n j r = in-field 10 (l .par) 14 q k n j r (λ i a b. bit-4 l i a b)
 
-    head-0 : recordByte l 0 ≡ 16 + l .width / 2
+    head-0 : recordByte l 0 ≡ l .version * 16 + l .width / 2
     unfolding recordByte
     head-0 =
-        join 0 4 4 1 (l .width / 2)
-        (in-field 4 (l .version) 0 0 0 4 0 1 (λ i a b. let z : i ≡ i - 0 = omega arith in bit-1 l i b ∙ ap (digit 4 (l .version)) z) (omega arith)
+        join 0 4 4 (l .version) (l .width / 2)
+        (in-field 4 (l .version) 0 0 0 4 0 (l .version) (λ i a b. let z : i ≡ i - 0 = omega arith in bit-1 l i b ∙ ap (digit 4 (l .version)) z) (omega arith)
         (omega arith) (omega (arith, v)))
         (wide 4 0 4 1 (l .width / 2) (omega arith) (omega arith) (omega arith))
 
@@ -118,7 +119,7 @@ module _ (l : Level) where
     head-2 = paired 16 2 8 0 (l .par % 256) (omega arith) (omega arith) (omega arith)
 
     abbrev head : List ℕ
-    head = headBytes (l .width) (l .height) (l .par)
+    head = headBytes (l .version) (l .width) (l .height) (l .par)
 
     head-is : (i : ℕ) → i < 3 → getD head i 0 ≡ recordByte l i
     head-is zero h = sym head-0
@@ -133,11 +134,11 @@ module _ (l : Level) where
     head-out o room i h = sets-past o head 0 room i h
 
 -- the same, byte for byte
-pub byte-is : (l : Level) (b : ℕ) → AllTiles 1 (l .tiles) → tileByte (l .tiles) b ≡ recordByte l (3 + b)
+pub byte-is : (l : Level) (b : ℕ) → Coded l → tileByte (l .tiles) b ≡ recordByte l (3 + b)
 byte-is l b codes = go (b % 3) refl
   where
-    small : (q : ℕ) → getD (l .tiles) q 0 ≤ 6
-    small q = codes-all (l .tiles) codes q
+    small : (q : ℕ) → getD (l .tiles) q 0 ≤ 7
+    small q = omega (arith, codes-all (l .version) (l .tiles) codes q, code-most (l .version))
 
     same : (i : ℕ) → threeOf (λ j. getD (l .tiles) (b / 3 * 8 + j) 0) i ≡ threeOf (λ j. getD (l .tiles) (8 * (b / 3) + j) 0) i
     same i = let z : b / 3 * 8 ≡ 8 * (b / 3) = omega arith in ap (λ (k : ℕ). threeOf (λ j. getD (l .tiles) (k + j) 0) i) z
@@ -170,7 +171,10 @@ module _ (l : Level) (il : IsLevel l) (old new : List ℕ) (n : ℕ) (e : n ≡ 
       size = length-listOf n (recordByte l)
 
   -- the fields first, then the tiles
-  module _ (v : l .version ≡ 1) (room : n ≤ length old) (p : PackedIn (l .tiles) (sets old 0 (headBytes (l .width) (l .height) (l .par))) new) where
+  module _ (room : n ≤ length old) (p : PackedIn (l .tiles) (sets old 0 (headBytes (l .version) (l .width) (l .height) (l .par))) new) where
+    v : l .version ≤ 15
+    v = omega (arith, il .ranged .known .to)
+
     long : 3 ≤ length old
     long = omega (arith, e)
 

@@ -31,9 +31,13 @@ pub fn sized(w: usize, h: usize) -> bool
     true
 }
 
-fn ranged(w: usize, h: usize, par: usize) -> bool
-    ensures { λ r. ⌜ Says r (InRange w h par) ⌝ }
+// Refusal 7 of a writer of versions up to one of them.
+fn ranged(upto: usize, version: usize, w: usize, h: usize, par: usize) -> bool
+    ensures { λ r. ⌜ Says r (InRange upto version w h par) ⌝ }
 {
+    if !fields::head::version_taken(upto, version) {
+        return false;
+    }
     if !sized(w, h) {
         return false;
     }
@@ -44,24 +48,24 @@ fn ranged(w: usize, h: usize, par: usize) -> bool
 }
 
 // Refusals 9 and 10 of a board.
-fn board_code(tiles: &[u8]) -> u8
+fn board_code(version: usize, tiles: &[u8]) -> u8
     requires { ⌜ length (now tiles) ≤ tilesMost ⌝ }
-    ensures { λ r. ⌜ BoardCode 1 (now (tiles .entry)) r ⌝ }
+    ensures { λ r. ⌜ BoardCode version (now (tiles .entry)) r ⌝ }
 {
-    fields::tile::sum_code(boards::board::tally(tiles))
+    fields::tile::sum_code(version, boards::board::tally(tiles))
 }
 
-// Refusals 7 to 10 of a writer.
-pub fn check(w: usize, h: usize, par: usize, tiles: &[u8]) -> u8
-    ensures { λ r. ⌜ First (asked (λ ask. ask (lent w h par (now (tiles .entry)))) lending) r ⌝ }
+// Refusals 7 to 10 of a writer of versions up to one of them.
+pub fn check(upto: usize, version: usize, w: usize, h: usize, par: usize, tiles: &[u8]) -> u8
+    ensures { λ r. ⌜ First (asked (λ ask. ask (lent version w h par (now (tiles .entry)))) (lending upto)) r ⌝ }
 {
-    if !ranged(w, h, par) {
+    if !ranged(upto, version, w, h, par) {
         return 7;
     }
     if tiles.len() != w * h {
         return 8;
     }
-    board_code(tiles)
+    board_code(version, tiles)
 }
 
 // The bytes of a record.
@@ -73,22 +77,29 @@ fn record_length(w: usize, h: usize) -> usize
 }
 
 // Version, width, height and par.
-fn put_head(w: usize, h: usize, par: usize, out: &mut [u8])
-    requires { ⌜ (w ≤ 31) × (h ≤ 31) × (par ≤ 1023) × (3 ≤ length (now out)) ⌝ }
-    ensures { λ _. ⌜ now (out .exit) ≡ sets (now (out .entry)) 0 (headBytes w h par) ⌝ }
+fn put_head(version: usize, w: usize, h: usize, par: usize, out: &mut [u8])
+    requires { ⌜ (version ≤ 15) × (w ≤ 31) × (h ≤ 31) × (par ≤ 1023) × (3 ≤ length (now out)) ⌝ }
+    ensures { λ _. ⌜ now (out .exit) ≡ sets (now (out .entry)) 0 (headBytes version w h par) ⌝ }
 {
-    out[0] = (16 + w / 2) as u8;
+    out[0] = (version * 16 + w / 2) as u8;
     out[1] = (w % 2 * 128 + h * 4 + par / 256) as u8;
     out[2] = (par % 256) as u8;
 }
 
 // The record of a level, in the first bytes of a buffer; its length is returned.
-pub fn put_record(w: usize, h: usize, par: usize, tiles: &[u8], out: &mut [u8]) -> usize
-    requires { ⌜ IsLevel (lent w h par (now tiles)) × (recordLength w h ≤ length (now out)) ⌝ }
-    ensures { λ r. ⌜ RecordPut (lent w h par (now (tiles .entry))) (now (out .entry)) (now (out .exit)) r ⌝ }
+pub fn put_record(
+    version: usize,
+    w: usize,
+    h: usize,
+    par: usize,
+    tiles: &[u8],
+    out: &mut [u8],
+) -> usize
+    requires { ⌜ IsLevel (lent version w h par (now tiles)) × (recordLength w h ≤ length (now out)) ⌝ }
+    ensures { λ r. ⌜ RecordPut (lent version w h par (now (tiles .entry))) (now (out .entry)) (now (out .exit)) r ⌝ }
 {
     let n = record_length(w, h);
-    put_head(w, h, par, out);
+    put_head(version, w, h, par, out);
     boards::pack::pack(tiles, out);
     n
 }

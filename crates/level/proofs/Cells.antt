@@ -21,27 +21,31 @@ use Rattle.account.proofs.Generator as generators
 use Rattle.account.proofs.Theorems.{one-in-reach, none-at-six}
 use Rattle.gf256.specs.Gf256.{gf256}
 use Rattle.gf256.proofs.Field256.{field256}
+use Rattle.rules.specs.Refusal.{Within, First, asked}
 use Rattle.level.specs.Tile.{totals}
-use Rattle.level.specs.Level.{Level, IsLevel, Ranged, Coded, Fair}
-use Rattle.level.specs.Record.{IsRecord}
-use Rattle.level.specs.Strip.{IsStrip}
-use Rattle.level.specs.Cells.{Holds, noLevel, All, two, finished, finishedRecord, finishedStrip, unfinished, unfinishedRecord, unfinishedStrip, table}
+use Rattle.level.specs.Level.{Level, IsLevel, Known, codeMost, Ranged, Counted, Coded, Fair, Taken, lending}
+use Rattle.level.specs.Record.{bitAt, fieldAt, IsRecord}
+use Rattle.level.specs.Strip.{columns, IsStrip}
+use Rattle.level.specs.Reading.{readingRecord}
+use Rattle.level.specs.Cells.{Holds, noLevel, All, board, finished, finishedRecord, finishedStrip, unfinished, unfinishedRecord, unfinishedStrip, unfinishedRecord2, unfinishedStrip2, pitted, pittedRecord, pittedStrip, table}
 use Rattle.level.proofs.Written.{spelled, recordBit, recordByte, recordOf}
 use Rattle.level.proofs.RecordOf.{record-of}
+use Rattle.level.proofs.Judged.{judged-alike}
+use Rattle.level.proofs.Versions.{first-known, second-known}
 use Rattle.level.proofs.Worn.{every-row}
 
--- bytes, by a computed test
-abbrev allBytes : List ℕ → Bool
-allBytes [] = true
-allBytes (b ∷ w) = both (ltb b 256) (allBytes w)
+-- numbers below a bound, by a computed test
+abbrev allBelow : ℕ → List ℕ → Bool
+allBelow n [] = true
+allBelow n (b ∷ w) = both (ltb b n) (allBelow n w)
 
-bytes-of : (w : List ℕ) → T (allBytes w) → Cells gf256 w
-bytes-of w t = record { cell = at w t }
-  where
-    at : (l : List ℕ) → T (allBytes l) → (p : ℕ) → p < length l → getD l p 0 < 256
-    at [] u p h = absurd (omega arith)
-    at (b ∷ l) u zero h = ltb→lt b 256 (both-left (ltb b 256) (allBytes l) u)
-    at (b ∷ l) u (suc p) h = at l (both-right (ltb b 256) (allBytes l) u) p (omega arith)
+below-at : (n : ℕ) (l : List ℕ) → T (allBelow n l) → (p : ℕ) → p < length l → getD l p 0 < n
+below-at n [] u p h = absurd (omega arith)
+below-at n (b ∷ l) u zero h = ltb→lt b n (both-left (ltb b n) (allBelow n l) u)
+below-at n (b ∷ l) u (suc p) h = below-at n l (both-right (ltb b n) (allBelow n l) u) p (omega arith)
+
+bytes-of : (w : List ℕ) → T (allBelow 256 w) → Cells gf256 w
+bytes-of w t = record { cell = below-at 256 w t }
 
 -- the clean words of the table
 
@@ -101,72 +105,137 @@ outside R = let z : _≡_ {A = ℕ} 0 1 = ap (λ (l : List ℕ). getD l 0 0) sam
         (reach-cons (0 ∷ 0 ∷ 0 ∷ 0 ∷ 0 ∷ 0 ∷ []) (0x00 ∷ 0x6C ∷ 0xAA ∷ 0x82 ∷ 0x8B ∷ 0xCE ∷ []) (R .word) (R .reach))
         (record { same-length = refl; few = omega arith })
 
--- ---- the boards of two tiles, their records and strips
+-- ---- the boards, their records and strips
 
 -- the size and the codes are within their ranges
-module _ (a b : ℕ) (in-a : a ≤ 6) (in-b : b ≤ 6) where
-  ranged : Ranged (two (a ∷ b ∷ []))
+module _ (v h : ℕ) (known : Known v) (sized : Within 1 2 h) (ts : List ℕ) where
+  ranged : Ranged (board v h ts)
   ranged = record {
-    known = refl;
-    sized = record { wide = omega arith; not-wider = omega arith; high = omega arith; not-higher = omega arith };
+    known = known;
+    sized = record { wide = omega arith; not-wider = omega arith; high = sized .from; not-higher = omega (arith, sized .to) };
     par-small = omega arith;
   }
 
-  codes : Coded (two (a ∷ b ∷ []))
-  codes zero h = in-a
-  codes (suc zero) h = in-b
-  codes (suc (suc i)) h = absurd (omega arith)
+  taken : Taken 2 (board v h ts)
+  taken = record { ranged = ranged; in-time = known .to }
 
-  recorded : IsRecord (two (a ∷ b ∷ [])) (recordOf (two (a ∷ b ∷ [])))
-  recorded = record-of (two (a ∷ b ∷ [])) ranged refl codes
+  codes : T (allBelow (suc (codeMost v)) ts) → Coded (board v h ts)
+  codes small i l = omega (arith, below-at (suc (codeMost v)) ts small i l)
+
+  recorded : Counted (board v h ts) → T (allBelow (suc (codeMost v)) ts) → IsRecord (board v h ts) (recordOf (board v h ts))
+  recorded count small = record-of (board v h ts) ranged count (codes small)
+
+-- heights
+one : Within 1 2 1
+one = record { from = omega arith; to = omega arith }
+
+two : Within 1 2 2
+two = record { from = omega arith; to = omega arith }
 
 -- the lanes of s are clean, and bs is in front
 abbrev cleanLanes : List ℕ → Bool
 cleanLanes s = upto (λ j. upto (λ m. eqb (sumsOf gf256 (lane 4 j s) m) 0) 5) 4
 
 abbrev inFront : List ℕ → List ℕ → Bool
-inFront bs s = upto (λ p. eqb (getD (lane 4 (p % 4) s) (p / 4) 0) (getD bs p 0)) 4
+inFront bs s = upto (λ p. eqb (getD (lane 4 (p % 4) s) (p / 4) 0) (getD bs p 0)) (4 * columns 4 (length bs))
 
-strip-of : (l : Level) (bs s : List ℕ) → IsRecord l bs → length bs ≡ 4 → length s ≡ 24 → T (allBytes s) → T (cleanLanes s) → T (inFront bs s)
-    → IsStrip gf256 4 l s
-strip-of l bs s is four long bytes clean front = record {
+strip-of : (l : Level) (bs s : List ℕ) → IsRecord l bs → length s ≡ 4 * (columns 4 (length bs) + 5) → T (allBelow 256 s) → T (cleanLanes s)
+    → T (inFront bs s) → IsStrip gf256 4 l s
+strip-of l bs s is long bytes clean front = record {
   bs = bs;
   is-record = is;
   dealt = record {
     cells = bytes-of s bytes;
-    size = omega (arith, four, long);
+    size = long;
     clean = λ j h.
         sums-clean gf256 (lane 4 j s) (λ m k.
         eqb→eq _ _ (upto-at (λ i. eqb (sumsOf gf256 (lane 4 j s) i) 0) 5
         (upto-at (λ i. upto (λ m. eqb (sumsOf gf256 (lane 4 i s) m) 0) 5) 4 clean j h) m k));
-    laid = λ q h. eqb→eq _ _ (upto-at (λ p. eqb (getD (lane 4 (p % 4) s) (p / 4) 0) (getD bs p 0)) 4 front q (omega (arith, four)));
+    laid = λ q h. eqb→eq _ _ (upto-at (λ p. eqb (getD (lane 4 (p % 4) s) (p / 4) 0) (getD bs p 0)) (4 * columns 4 (length bs)) front q h);
   };
 }
 
-finished-record : IsRecord finished finishedRecord
+finished-record : IsRecord (finished 1) finishedRecord
 unfolding recordOf recordByte recordBit spelled listOf
-finished-record = recorded 4 5 (omega arith) (omega arith)
+finished-record = recorded 1 1 first-known one (finished 1 .tiles) refl tt
 
-finished-strip : IsStrip gf256 4 finished finishedStrip
+finished-strip : IsStrip gf256 4 (finished 1) finishedStrip
 unfolding lane listOf S sumTo alphaTo power product
-finished-strip = strip-of finished finishedRecord finishedStrip finished-record refl refl tt tt tt
+finished-strip = strip-of (finished 1) finishedRecord finishedStrip finished-record refl tt tt tt
 
--- its crate is on its goal
-not-fair : Fair finished → ⊥
+-- its crate is on its goal, in each version
+not-fair : (v : ℕ) → Fair (finished v) → ⊥
 unfolding totals
-not-fair f = omega (arith, f .unfinished)
+not-fair v f = omega (arith, f .unfinished)
 
-unfinished-record : IsRecord unfinished unfinishedRecord
+not-lent : (v : ℕ) → Known v → T (allBelow (suc (codeMost v)) (4 ∷ 5 ∷ [])) → First (asked (λ ask. ask (finished v)) (lending 2)) 10
+not-lent v known small =
+    inr (taken v 1 known one (finished v .tiles), inr (refl, inr (codes v 1 known one (finished v .tiles) small, inl (not-fair v, refl))))
+
+unfinished-record : IsRecord (unfinished 1) unfinishedRecord
 unfolding recordOf recordByte recordBit spelled listOf
-unfinished-record = recorded 2 6 (omega arith) (omega arith)
+unfinished-record = recorded 1 1 first-known one (unfinished 1 .tiles) refl tt
 
-unfinished-strip : IsStrip gf256 4 unfinished unfinishedStrip
+unfinished-strip : IsStrip gf256 4 (unfinished 1) unfinishedStrip
 unfolding lane listOf S sumTo alphaTo power product
-unfinished-strip = strip-of unfinished unfinishedRecord unfinishedStrip unfinished-record refl refl tt tt tt
+unfinished-strip = strip-of (unfinished 1) unfinishedRecord unfinishedStrip unfinished-record refl tt tt tt
 
-fair : Fair unfinished
+unfinished-record-2 : IsRecord (unfinished 2) unfinishedRecord2
+unfolding recordOf recordByte recordBit spelled listOf
+unfinished-record-2 = recorded 2 1 second-known one (unfinished 2 .tiles) refl tt
+
+unfinished-strip-2 : IsStrip gf256 4 (unfinished 2) unfinishedStrip2
+unfolding lane listOf S sumTo alphaTo power product
+unfinished-strip-2 = strip-of (unfinished 2) unfinishedRecord2 unfinishedStrip2 unfinished-record-2 refl tt tt tt
+
+fair : (v : ℕ) → Fair (unfinished v)
 unfolding totals
-fair = record { one-player = refl; some-crate = omega arith; as-many = refl; unfinished = omega arith }
+fair v = record { one-player = refl; some-crate = omega arith; enough = omega arith; as-many = λ _. refl; unfinished = omega arith }
+
+is-level : (v : ℕ) → Known v → T (allBelow (suc (codeMost v)) (2 ∷ 6 ∷ [])) → IsLevel (unfinished v)
+is-level v known small = record {
+  ranged = ranged v 1 known one (unfinished v .tiles);
+  count = refl;
+  codes = codes v 1 known one (unfinished v .tiles) small;
+  playable = fair v;
+}
+
+-- two crates and a goal
+pitted-record : IsRecord (pitted 2) pittedRecord
+unfolding recordOf recordByte recordBit spelled listOf
+pitted-record = recorded 2 2 second-known two (pitted 2 .tiles) refl tt
+
+pitted-strip : IsStrip gf256 4 (pitted 2) pittedStrip
+unfolding lane listOf S sumTo alphaTo power product
+pitted-strip = strip-of (pitted 2) pittedRecord pittedStrip pitted-record refl tt tt tt
+
+pitted-fair : Fair (pitted 2)
+unfolding totals
+pitted-fair = record { one-player = refl; some-crate = omega arith; enough = omega arith; as-many = λ early. absurd (omega arith); unfinished = omega arith }
+
+-- in version 1 its last tile has no code
+pitted-foreign : Coded (pitted 1) → ⊥
+pitted-foreign c = omega (arith, c 3 (omega arith))
+
+-- a record of version 3, and one of a finished board of version 2
+third : First (readingRecord 2 (0x31 ∷ 0x04 ∷ 0x05 ∷ 0x94 ∷ []) 961) 7
+unfolding fieldAt bitAt
+third = inr (record { from = omega arith; to = omega arith }, inr (omega arith, inl (λ t. omega (arith, t .ranged .known .to), refl)))
+
+finished-record-2 : IsRecord (finished 2) (0x21 ∷ 0x04 ∷ 0x05 ∷ 0x94 ∷ [])
+unfolding recordOf recordByte recordBit spelled listOf
+finished-record-2 = recorded 2 1 second-known one (finished 2 .tiles) refl tt
+
+finished-read : First (readingRecord 2 (0x21 ∷ 0x04 ∷ 0x05 ∷ 0x94 ∷ []) 961) 10
+finished-read =
+    inr (
+      record { from = omega arith; to = omega arith },
+      inr (
+        omega arith,
+        judged-alike 1 (omega arith) (finished 2) (0x21 ∷ 0x04 ∷ 0x05 ∷ 0x94 ∷ []) (0x21 ∷ 0x04 ∷ 0x05 ∷ 0x94 ∷ []) refl finished-record-2 refl (λ q h. refl) 2 10
+            (not-lent 2 second-known tt),
+      ),
+    )
 
 -- Every cell of the table holds.
 pub cells : All table
@@ -205,7 +274,28 @@ cells = (
                               (clean3, record { same-length = refl; few = omega arith }, refl, refl),
                               (
                                 outside,
-                                ((finished-record, finished-strip), (no-level, ((unfinished-record, unfinished-strip), (is-level, (every-row, tt))))),
+                                (
+                                  (finished-record, finished-strip),
+                                  (
+                                    no-level,
+                                    (
+                                      (unfinished-record, unfinished-strip),
+                                      (
+                                        is-level 1 first-known tt,
+                                        (
+                                          (pitted-record, pitted-strip),
+                                          (
+                                            pitted-level,
+                                            (
+                                              no-pit,
+                                              ((unfinished-record-2, unfinished-strip-2), (is-level 2 second-known tt, (third, (finished-read, (every-row, tt))))),
+                                            ),
+                                          ),
+                                        ),
+                                      ),
+                                    ),
+                                  ),
+                                ),
                               ),
                             ),
                           ),
@@ -223,14 +313,19 @@ cells = (
   ),
 )
   where
-    no-level : Holds (noLevel finished 10)
-    no-level = (
-      λ il. not-fair (il .playable),
-      inr (ranged 4 5 (omega arith) (omega arith), inr (refl, inr (codes 4 5 (omega arith) (omega arith), inl (not-fair, refl)))),
-    )
+    no-level : Holds (noLevel (finished 1) 10)
+    no-level = (λ il. not-fair 1 (il .playable), not-lent 1 first-known tt)
 
-    is-level : IsLevel unfinished
-    is-level = record { ranged = ranged 2 6 (omega arith) (omega arith); count = refl; codes = codes 2 6 (omega arith) (omega arith); playable = fair }
+    pitted-level : IsLevel (pitted 2)
+    pitted-level = record {
+      ranged = ranged 2 2 second-known two (pitted 2 .tiles);
+      count = refl;
+      codes = codes 2 2 second-known two (pitted 2 .tiles) tt;
+      playable = pitted-fair;
+    }
+
+    no-pit : Holds (noLevel (pitted 1) 9)
+    no-pit = (λ il. pitted-foreign (il .codes), inr (taken 1 2 first-known two (pitted 1 .tiles), inr (refl, inl (pitted-foreign, refl))))
 
     none : List ℕ
     none = 0 ∷ 0 ∷ 0 ∷ 0 ∷ 0 ∷ 0 ∷ []

@@ -12,7 +12,7 @@ use Rattle.rules.specs.Refusal.{First, Hold, asked}
 use Rattle.rules.proofs.Laws.{first-alike}
 use Rattle.account.proofs.Lists.{length-listOf, getD-listOf}
 use Rattle.account.proofs.Lanes.{getD-past}
-use Rattle.level.specs.Level.{Level, IsLevel, Ranged, Counted, Coded, Fair, lending}
+use Rattle.level.specs.Level.{Level, IsLevel, Ranged, Counted, Coded, Fair, Taken, lending}
 use Rattle.level.specs.Record.{bitAt, fieldAt, recordLength, IsRecord}
 use Rattle.level.specs.Strip.{columns}
 use Rattle.level.specs.Reading.{tilesIn, levelOf, Shaped, judging}
@@ -20,7 +20,8 @@ use Rattle.level.proofs.Bits.{bit-of}
 use Rattle.rules.proofs.Numbers.{lt-or-ge}
 use Rattle.level.proofs.Dealing.{within}
 use Rattle.level.proofs.Fields.{same-level}
-use Rattle.level.proofs.Windows.{bit-front, field-front}
+use Rattle.level.proofs.Versions.{code-late}
+use Rattle.level.proofs.Windows.{field-below, bit-front, field-front}
 
 pub length-tiles : (bs : List ℕ) (n : ℕ) → length (tilesIn bs n) ≡ n
 unfolding tilesIn
@@ -99,12 +100,26 @@ spelled-level bs ra al pl = record {
   playable = pl;
 }
 
--- a level passes what is asked of one that is lent, and what passes is one
-pub level-passes : (l : Level) → IsLevel l → Hold (asked (λ ask. ask l) lending)
-level-passes l il = (il .ranged, (il .count, (il .codes, (il .playable, tt))))
+-- FORMAT 9.55: in version 2 three bits say a tile code, whatever they are
+pub late-coded : (bs : List ℕ) → 2 ≤ fieldAt bs 0 4 → Coded (levelOf bs)
+late-coded bs late i h =
+    let k : i < fieldAt bs 4 5 * fieldAt bs 9 5 = omega (arith, h, length-tiles bs (fieldAt bs 4 5 * fieldAt bs 9 5)) in
+    omega (arith, getD-tiles bs (fieldAt bs 4 5 * fieldAt bs 9 5) i k, field-below bs (24 + 3 * i) 3, code-late (fieldAt bs 0 4) late)
 
-pub level-passed : (l : Level) → Hold (asked (λ ask. ask l) lending) → IsLevel l
-level-passed l (r, (c, (k, (p, none)))) = record { ranged = r; count = c; codes = k; playable = p }
+-- so 9 is not told of it
+pub not-nine : (upto R : ℕ) (t : (List ℕ → Type 0) → Type 0) → t (λ bs. Coded (levelOf bs)) → First (asked t (judging upto R)) 9 → ⊥
+not-nine upto R t coded (inl p) = omega (arith, p .1)
+not-nine upto R t coded (inr (a, inl p)) = omega (arith, p .1)
+not-nine upto R t coded (inr (a, inr (b, inl p))) = p .0 coded
+not-nine upto R t coded (inr (a, inr (b, inr (c, inl p)))) = omega (arith, p .1)
+not-nine upto R t coded (inr (a, inr (b, inr (c, inr (d, e))))) = omega (arith, e)
+
+-- a level passes what is asked of one that is lent, and what passes is one
+pub level-passes : (upto : ℕ) (l : Level) → IsLevel l → l .version ≤ upto → Hold (asked (λ ask. ask l) (lending upto))
+level-passes upto l il early = (record { ranged = il .ranged; in-time = early }, (il .count, (il .codes, (il .playable, tt))))
+
+pub level-passed : (upto : ℕ) (l : Level) → Hold (asked (λ ask. ask l) (lending upto)) → IsLevel l × (l .version ≤ upto)
+level-passed upto l (r, (c, (k, (p, none)))) = (record { ranged = r .ranged; count = c; codes = k; playable = p }, r .in-time)
 
 -- the record of a board, a level or not, with zero bytes after it
 module _ (R : ℕ) (some : 0 < R) (l : Level) (rec bs : List ℕ) (co : Counted l) (is : IsRecord l rec)
@@ -145,11 +160,11 @@ module _ (R : ℕ) (some : 0 < R) (l : Level) (rec bs : List ℕ) (co : Counted 
   }
 
   -- a reader judges them as a writer judges the board
-  pub judged-alike : (c : ℕ) → First (asked (λ ask. ask l) lending) c → First (asked (λ ask. ask bs) (judging R)) c
-  judged-alike c =
-      first-alike (asked (λ ask. ask l) lending) (asked (λ ask. ask bs) (judging R)) c (
+  pub judged-alike : (upto c : ℕ) → First (asked (λ ask. ask l) (lending upto)) c → First (asked (λ ask. ask bs) (judging upto R)) c
+  judged-alike upto c =
+      first-alike (asked (λ ask. ask l) (lending upto)) (asked (λ ask. ask bs) (judging upto R)) c (
         refl,
-        subst Ranged (sym spelled-board),
-        subst Ranged spelled-board,
+        subst (Taken upto) (sym spelled-board),
+        subst (Taken upto) spelled-board,
         λ _. (refl, (λ _. shaped), (λ _. co), λ _. (refl, subst Coded (sym spelled-board), subst Coded spelled-board, λ _. (refl, subst Fair (sym spelled-board), subst Fair spelled-board, λ _. tt))),
       )

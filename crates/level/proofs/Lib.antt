@@ -4,6 +4,7 @@ pub mod Dealing
 pub mod Fields
 pub mod Strips
 pub mod Determined
+pub mod Versions
 pub mod RecordOf
 pub mod Windows
 pub mod Judged

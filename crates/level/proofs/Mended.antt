@@ -45,10 +45,10 @@ module _ (O : Ops) (F : IsField O) (bytes : O .size ≤ 256) (R : ℕ) (some : 0
     }
 
   -- a strip of clean lanes whose record passes is a level's
-  pub level-strip : (t : List ℕ) (k : ℕ) → length t ≡ R * (k + 5) → Cells O t → ((j : ℕ) → j < R → Clean O (lane R j t))
-      → Hold (asked (λ ask. ask (dataOf R t)) (judging R)) → IsLevel (levelOf (dataOf R t)) × IsStrip O R (levelOf (dataOf R t)) t
+  pub level-strip : {upto : ℕ} (t : List ℕ) (k : ℕ) → length t ≡ R * (k + 5) → Cells O t → ((j : ℕ) → j < R → Clean O (lane R j t))
+      → Hold (asked (λ ask. ask (dataOf R t)) (judging upto R)) → IsLevel (levelOf (dataOf R t)) × IsStrip O R (levelOf (dataOf R t)) t
   level-strip t k size cells clean (ra, (sh, (al, (pl, none)))) = (
-    spelled-level (dataOf R t) ra al pl,
+    spelled-level (dataOf R t) (ra .ranged) al pl,
     record {
       bs = take B (dataOf R t);
       is-record = spelled-record R some (dataOf R t) by sh;
@@ -90,43 +90,45 @@ module _ (O : Ops) (F : IsField O) (bytes : O .size ≤ 256) (R : ℕ) (some : 0
     strip-spells : levelOf (dataOf R u) ≡ l
     strip-spells = spelled-board R some l (st .bs) (dataOf R u) co (st .is-record) long same
 
-    strip-alike : (c : ℕ) → First (asked (λ ask. ask l) lending) c → First (asked (λ ask. ask (dataOf R u)) (judging R)) c
+    strip-alike : (upto c : ℕ) → First (asked (λ ask. ask l) (lending upto)) c → First (asked (λ ask. ask (dataOf R u)) (judging upto R)) c
     strip-alike = judged-alike R some l (st .bs) (dataOf R u) co (st .is-record) long same
 
   module _ (marks s t : List ℕ) (m : ℕ) (full : length s ≡ R * (m + 5)) (short : m + 5 ≤ order) (M : Mends O R marks s t) where
     -- a mended strip whose record passes is a level's
-    pub level-reached : Hold (asked (λ ask. ask (dataOf R t)) (judging R)) → Reached O R marks s (levelOf (dataOf R t)) t
+    pub level-reached : {upto : ℕ} → Hold (asked (λ ask. ask (dataOf R t)) (judging upto R)) → Reached O R upto marks s (levelOf (dataOf R t)) t
     level-reached h =
-        let x = level-strip t m (M .reach .same-length ∙ full) (M .cells) (M .clean) h in record { is-level = x .0; is-strip = x .1; reach = M .reach }
+        let x = level-strip t m (M .reach .same-length ∙ full) (M .cells) (M .clean) h in record { is-level = x .0; in-time = h .0 .in-time; is-strip = x .1; reach = M .reach }
 
     -- a level's strip within reach is the mended strip, and spells the level
-    reached-is : (l : Level) (u : List ℕ) → Reached O R marks s l u → u ≡ t
+    reached-is : {upto : ℕ} (l : Level) (u : List ℕ) → Reached O R upto marks s l u → u ≡ t
     reached-is l u r = one-mended O F R some marks s (m + 5) full short u t (reached-mends O F R some marks s l u r) M
 
-    pub reached-spells : (l : Level) (u : List ℕ) → Reached O R marks s l u → levelOf (dataOf R t) ≡ l
+    pub reached-spells : {upto : ℕ} (l : Level) (u : List ℕ) → Reached O R upto marks s l u → levelOf (dataOf R t) ≡ l
     reached-spells l u r = ap (λ (x : List ℕ). levelOf (dataOf R x)) (sym (reached-is l u r)) ∙ strip-spells l u (r .is-level .count) (r .is-strip)
 
     -- what is found of the mended record is found of the strip
-    pub found : (c : ℕ) → First (asked (λ ask. ask (dataOf R t)) (judging R)) c → First (asked (OfMended O R marks s) (judging R)) c
-    found c =
-        first-alike (asked (λ ask. ask (dataOf R t)) (judging R)) (asked (OfMended O R marks s) (judging R)) c
-        (asked-alike (λ ask. ask (dataOf R t)) (OfMended O R marks s) (judging R)
+    pub found : (upto c : ℕ) → First (asked (λ ask. ask (dataOf R t)) (judging upto R)) c → First (asked (OfMended O R marks s) (judging upto R)) c
+    found upto c =
+        first-alike (asked (λ ask. ask (dataOf R t)) (judging upto R)) (asked (OfMended O R marks s) (judging upto R)) c
+        (asked-alike (λ ask. ask (dataOf R t)) (OfMended O R marks s) (judging upto R)
         (λ ask a u N. subst (λ (x : List ℕ). ask (dataOf R x)) (one-mended O F R some marks s (m + 5) full short t u M N) a) (λ ask f. f t M))
 
     -- and then no level is within reach
-    pub none-reached : (c : ℕ) → (c ≡ 0 → ⊥) → First (asked (λ ask. ask (dataOf R t)) (judging R)) c → (l : Level) (u : List ℕ) → Reached O R marks s l u → ⊥
-    none-reached c n f l u r = n (first-fixes (asked (λ ask. ask (dataOf R t)) (judging R)) c 0 f passed)
+    pub none-reached : (upto c : ℕ) → (c ≡ 0 → ⊥) → First (asked (λ ask. ask (dataOf R t)) (judging upto R)) c → (l : Level) (u : List ℕ)
+        → Reached O R upto marks s l u → ⊥
+    none-reached upto c n f l u r = n (first-fixes (asked (λ ask. ask (dataOf R t)) (judging upto R)) c 0 f passed)
       where
-        passed : First (asked (λ ask. ask (dataOf R t)) (judging R)) 0
+        passed : First (asked (λ ask. ask (dataOf R t)) (judging upto R)) 0
         passed =
-            subst (λ (x : List ℕ). First (asked (λ ask. ask (dataOf R x)) (judging R)) 0) (reached-is l u r)
-            (strip-alike l u (r .is-level .count) (r .is-strip) 0 (hold-first (asked (λ ask. ask l) lending) (level-passes l (r .is-level))))
+            subst (λ (x : List ℕ). First (asked (λ ask. ask (dataOf R x)) (judging upto R)) 0) (reached-is l u r)
+            (strip-alike l u (r .is-level .count) (r .is-strip) upto 0
+            (hold-first (asked (λ ask. ask l) (lending upto)) (level-passes upto l (r .is-level) (r .in-time))))
 
   -- where the strip of a board is within reach, the strip read is refused as the board is
   pub board-found : (marks s u : List ℕ) (m : ℕ) → length s ≡ R * (m + 5) → m + 5 ≤ order → (l : Level) → Counted l → IsStrip O R l u → StripReach R marks s u
-      → (c : ℕ) → First (asked (λ ask. ask l) lending) c → First (mending O R s marks) c
-  board-found marks s u m full short l co st reach c f =
-      inr (mendable O F R some marks s u M, found marks s u m full short M c (strip-alike l u co st c f))
+      → (upto c : ℕ) → First (asked (λ ask. ask l) (lending upto)) c → First (mending upto O R s marks) c
+  board-found marks s u m full short l co st reach upto c f =
+      inr (mendable O F R some marks s u M, found marks s u m full short M upto c (strip-alike l u co st upto c f))
     where
       M : Mends O R marks s u
       M = record { cells = st .dealt .cells; clean = st .dealt .clean; reach = reach }

@@ -14,6 +14,7 @@ use Rattle.account.proofs.Lanes.{getD-past}
 use Rattle.account.proofs.Lists.{length-listOf, getD-listOf}
 use Rattle.rules.proofs.Numbers.{lt-or-ge}
 use Rattle.level.proofs.Determined.{byte-field, bit-small}
+use Rattle.level.proofs.Versions.{code-most}
 
 pub spelled-below : (n : ℕ) (f : ℕ → ℕ) → ((i : ℕ) → i < n → f i < 2) → spelled n f < 2 ^ n
 unfolding spelled
@@ -148,7 +149,7 @@ module _ (l : Level) where
   record-of ra co cd = record {
     bytes = record { cell = λ j h. let k : j < B = omega (arith, length-record) in rw (getD-record j k) (byte-below j) };
     size = length-record;
-    version = field-record 0 4 (l .version) (omega arith) (omega (arith, ra .known)) (λ i h. let z : 0 + i ≡ i = omega arith in rw z (bit-1 i h));
+    version = field-record 0 4 (l .version) (omega arith) (omega (arith, ra .known .to)) (λ i h. let z : 0 + i ≡ i = omega arith in rw z (bit-1 i h));
     width =
         field-record 4 5 (l .width) (omega arith) (omega (arith, ra .sized))
         (λ i h. bit-2 (4 + i) (omega arith) (omega arith) ∙ ap (digit 5 (l .width)) (omega arith));
@@ -158,7 +159,7 @@ module _ (l : Level) where
     par =
         field-record 14 10 (l .par) (omega arith) (omega (arith, ra .par-small))
         (λ i h. bit-4 (14 + i) (omega arith) (omega arith) ∙ ap (digit 10 (l .par)) (omega arith));
-    tile = λ i h. field-record (24 + 3 * i) 3 (getD (l .tiles) i 0) (omega (arith, co)) (omega (arith, cd i h)) (λ j k. tiled i j k);
+    tile = λ i h. field-record (24 + 3 * i) 3 (getD (l .tiles) i 0) (omega (arith, co)) (omega (arith, cd i h, code-most (l .version))) (λ j k. tiled i j k);
     filling = λ p h k. bits-record p (omega (arith, length-record)) ∙ bit-past p (omega arith) (omega arith);
   }
     where

@@ -52,7 +52,7 @@ module _ (O : Ops) (F : IsField O) (R : ℕ) (some : 0 < R) where
       (clu j h) (clt j h)))
 
   -- a level's strip within reach is what the strip is mended to
-  pub reached-mends : (marks s : List ℕ) (l : Level) (t : List ℕ) → Reached O R marks s l t → Mends O R marks s t
+  pub reached-mends : {upto : ℕ} (marks s : List ℕ) (l : Level) (t : List ℕ) → Reached O R upto marks s l t → Mends O R marks s t
   reached-mends marks s l t r = record { cells = r .is-strip .dealt .cells; clean = r .is-strip .dealt .clean; reach = r .reach }
 
   -- a mended strip mends each lane
@@ -71,11 +71,11 @@ module _ (O : Ops) (F : IsField O) (R : ℕ) (some : 0 < R) where
         (bytes-lane R some O j t h (M .cells)) (bytes-lane R some O j u h (N .cells))
         (M .clean j h) (N .clean j h) (M .reach .each j h) (N .reach .each j h))
 
-    pub same-strip : (l n : Level) (t u : List ℕ) → Reached O R marks s l t → Reached O R marks s n u → t ≡ u
+    pub same-strip : {x y : ℕ} (l n : Level) (t u : List ℕ) → Reached O R x marks s l t → Reached O R y marks s n u → t ≡ u
     same-strip l n t u a b = one-mended t u (reached-mends marks s l t a) (reached-mends marks s n u b)
 
     -- no other level has a strip of that length within reach
-    pub one-level : (l n : Level) (t u : List ℕ) → Reached O R marks s l t → Reached O R marks s n u → l ≡ n
+    pub one-level : {x y : ℕ} (l n : Level) (t u : List ℕ) → Reached O R x marks s l t → Reached O R y marks s n u → l ≡ n
     one-level l n t u a b =
         strip-injective l n u (a .is-level) (b .is-level) (subst (IsStrip O R l) (same-strip l n t u a b) (a .is-strip)) (b .is-strip)
 
@@ -89,6 +89,6 @@ module _ (O : Ops) (F : IsField O) (R : ℕ) (some : 0 < R) where
         (rw (length-lane R some j s) (rw em at six)) (m .reach)
 
     -- and no level is within reach
-    pub six-refused : (l n : Level) (v t : List ℕ) (j : ℕ) → length marks ≡ length s → IsStrip O R l v → length v ≡ length s → j < R
-        → 2 * wrongIn R marks s v j + markedIn R marks j ≡ 6 → Reached O R marks s n t → ⊥
+    pub six-refused : {upto : ℕ} (l n : Level) (v t : List ℕ) (j : ℕ) → length marks ≡ length s → IsStrip O R l v → length v ≡ length s → j < R
+        → 2 * wrongIn R marks s v j + markedIn R marks j ≡ 6 → Reached O R upto marks s n t → ⊥
     six-refused l n v t j em st ev h six b = six-beyond l v j em st ev h six (mendable marks s t (reached-mends marks s n t b) j h)

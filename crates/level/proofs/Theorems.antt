@@ -1,5 +1,6 @@
 -- What is promised of levels, records and strips alone. Strips are over any field and any number of lanes.
-use mathlib.Core.Path.{_≡_}
+use mathlib.Core.Path.{_≡_, sym, ap, _∙_, subst}
+use mathlib.Core.Logic.{_≢_}
 use mathlib.Core.List.{List}
 use Prim.Native.Nat.{ℕ, _+_, _*_, _≤_, _<_}
 use native.Mathlib.Nat.{mul-zero, mul-le-mul}
@@ -10,7 +11,7 @@ use Rattle.account.specs.Reach.{differing, repainted}
 use Rattle.gf256.specs.Gf256.{gf256}
 use Rattle.gf256.proofs.Field256.{field256}
 use Rattle.level.specs.Level.{Level, IsLevel, Ranged, Counted, Coded}
-use Rattle.level.specs.Record.{recordLength, IsRecord}
+use Rattle.level.specs.Record.{fieldAt, recordLength, IsRecord}
 use Rattle.level.specs.Strip.{columns, Legal, Dealt, IsStrip, StripReach, Reached, wrongIn, markedIn, mendedOf, repaintedOf, IsWear}
 use Rattle.level.proofs.Written.{recordOf}
 use Rattle.level.proofs.Dealing.{some-dealt, columns-more, lanes-short}
@@ -35,6 +36,10 @@ one-record = determined.one-record
 -- FORMAT 6.9: two levels with one record are one level.
 pub record-injective : (l m : Level) (bs : List ℕ) → IsLevel l → IsLevel m → IsRecord l bs → IsRecord m bs → l ≡ m
 record-injective = fields.record-injective
+
+-- FORMAT 6.11: boards of different versions have different records.
+pub records-apart : (l m : Level) (xs ys : List ℕ) → l .version ≢ m .version → IsRecord l xs → IsRecord m ys → xs ≢ ys
+records-apart l m xs ys d a b e = d (sym (a .version) ∙ ap (λ (bs : List ℕ). fieldAt bs 0 4) e ∙ b .version)
 
 module _ (O : Ops) (F : IsField O) (R : ℕ) (some : 0 < R) where
   open Ops O using (order)
@@ -65,14 +70,18 @@ module _ (O : Ops) (F : IsField O) (R : ℕ) (some : 0 < R) where
   pub strip-injective : (l m : Level) (s : List ℕ) → IsLevel l → IsLevel m → IsStrip O R l s → IsStrip O R m s → l ≡ m
   strip-injective = strips.strip-injective O F R some
 
+  -- FORMAT 7.20: so two levels of different versions, all else alike or not, have different strips.
+  pub strips-apart : (l m : Level) (s t : List ℕ) → IsLevel l → IsLevel m → l .version ≢ m .version → IsStrip O R l s → IsStrip O R m t → s ≢ t
+  strips-apart l m s t il im d a b e = d (ap (λ (x : Level). x .version) (strip-injective l m t il im (subst (IsStrip O R l) e a) b))
+
   module _ (marks s : List ℕ) (m : ℕ) (full : length s ≡ R * m) (short : m ≤ order) where
     -- FORMAT 11.5: no other level has a strip of that length within reach.
-    pub one-level : (l n : Level) (t u : List ℕ) → Reached O R marks s l t → Reached O R marks s n u → l ≡ n
+    pub one-level : {x y : ℕ} (l n : Level) (t u : List ℕ) → Reached O R x marks s l t → Reached O R y marks s n u → l ≡ n
     one-level = strips.one-level O F R some marks s m full short
 
     -- FORMAT 11.8: at 2e + f = 6 in a lane, counted against a level's strip, no level is within reach.
-    pub six-refused : (l n : Level) (v t : List ℕ) (j : ℕ) → length marks ≡ length s → IsStrip O R l v → length v ≡ length s → j < R
-        → 2 * wrongIn R marks s v j + markedIn R marks j ≡ 6 → Reached O R marks s n t → ⊥
+    pub six-refused : {upto : ℕ} (l n : Level) (v t : List ℕ) (j : ℕ) → length marks ≡ length s → IsStrip O R l v → length v ≡ length s → j < R
+        → 2 * wrongIn R marks s v j + markedIn R marks j ≡ 6 → Reached O R upto marks s n t → ⊥
     six-refused = strips.six-refused O F R some marks s m full short
 
 -- FORMAT 7.7: over bytes each level has a strip of every number of lanes from two on.

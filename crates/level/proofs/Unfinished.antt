@@ -8,7 +8,7 @@ use lib.ListN.{length, getD}
 use Rattle.rules.proofs.Numbers.{lt-or-ge}
 use Rattle.rules.specs.Refusal.{First, asked}
 use Rattle.level.specs.Tile.{adds, totals}
-use Rattle.level.specs.Level.{Level, Ranged, Counted, Coded, Fair, lending}
+use Rattle.level.specs.Level.{Level, Counted, Coded, Fair, Taken, lending}
 
 -- no other tile adds one
 off-two : (t : ℕ) → 1 ≤ adds t .off → t ≡ 2
@@ -44,6 +44,6 @@ pub finished-unfair : (l : Level) → ((i : ℕ) → i < length (l .tiles) → g
 finished-unfair l none f = let x = some-two (l .tiles) (f .unfinished) in none (x .0) (x .1) (x .2)
 
 -- FORMAT 5.13, 9.10: and where nothing comes before it, 10 is its refusal
-pub finished-refused : (l : Level) → Ranged l → Counted l → Coded l → ((i : ℕ) → i < length (l .tiles) → getD (l .tiles) i 0 ≢ 2)
-    → First (asked (λ ask. ask l) lending) 10
-finished-refused l ra co cd none = inr (ra, inr (co, inr (cd, inl (finished-unfair l none, refl))))
+pub finished-refused : (upto : ℕ) (l : Level) → Taken upto l → Counted l → Coded l → ((i : ℕ) → i < length (l .tiles) → getD (l .tiles) i 0 ≢ 2)
+    → First (asked (λ ask. ask l) (lending upto)) 10
+finished-refused upto l ra co cd none = inr (ra, inr (co, inr (cd, inl (finished-unfair l none, refl))))

@@ -1,4 +1,4 @@
--- FORMAT 12.1, 12.2, 12.4 to 12.6, 12.12 to 12.14: the worked examples that are proved, as one table.
+-- FORMAT 12.1, 12.2, 12.4 to 12.6, 12.12 to 12.14, 12.16, 12.17: the worked examples that are proved, as one table.
 use mathlib.Core.Path.{_≡_}
 use mathlib.Core.Logic.{_⊎_}
 use mathlib.Core.List.{List, [], _∷_}
@@ -7,9 +7,11 @@ use Rattle.account.specs.Code.{Clean, WordOf}
 use Rattle.account.specs.Reach.{differing, repainted, Reach, Reachable}
 use Rattle.gf256.specs.Gf256.{gf256, times}
 use Rattle.rules.specs.Refusal.{First, asked}
-use Rattle.level.specs.Level.{Level, IsLevel, lending}
+use Rattle.level.specs.Sizes.{tilesMost}
+use Rattle.level.specs.Level.{Level, IsLevel, newest, lending}
 use Rattle.level.specs.Record.{IsRecord}
 use Rattle.level.specs.Strip.{IsStrip, IsWear}
+use Rattle.level.specs.Reading.{readingRecord}
 
 -- FORMAT 12.12: m cells mended out of N are wear w
 pub data Worn : Type 0 where
@@ -32,12 +34,14 @@ pub data Cell : Type 0 where
   becomes : List ℕ → List ℕ → List ℕ → ℕ → ℕ → Cell
   -- FORMAT 12.4: r with these marks is refused (6)
   refused : List ℕ → List ℕ → Cell
-  -- FORMAT 12.5, 12.6, 12.13, 12.14: a board, whether or not it is a level, is laid out as this record and this strip of four lanes
+  -- FORMAT 12.5, 12.6, 12.13, 12.14, 12.16, 12.17: a board, whether or not it is a level, is laid out as this record and this strip of four lanes
   lays : Level → List ℕ → List ℕ → Cell
-  -- FORMAT 12.13: it is a level
+  -- FORMAT 12.13, 12.16: it is a level
   level : Level → Cell
-  -- FORMAT 12.5: it is none, and lent to a writer it is refused with this number
+  -- FORMAT 12.5, 12.16, 12.17: it is none, and lent to a writer it is refused with this number
   noLevel : Level → ℕ → Cell
+  -- FORMAT 12.17: as a record these bytes are refused with this number
+  noRecord : List ℕ → ℕ → Cell
   -- FORMAT 12.12: each of these rows holds
   wears : List Worn → Cell
 
@@ -48,7 +52,8 @@ Holds (becomes marks r w e d) = Clean gf256 w × Reach marks r w × (differing m
 Holds (refused marks r) = Reachable gf256 marks r → ⊥
 Holds (lays l bs s) = IsRecord l bs × IsStrip gf256 4 l s
 Holds (level l) = IsLevel l
-Holds (noLevel l n) = (IsLevel l → ⊥) × First (asked (λ ask. ask l) lending) n
+Holds (noLevel l n) = (IsLevel l → ⊥) × First (asked (λ ask. ask l) (lending newest)) n
+Holds (noRecord bs n) = First (readingRecord newest bs tilesMost) n
 Holds (wears rows) = (r : Worn) → Has r rows → IsWorn r
 
 abbrev pub All : List Cell → Type 0
@@ -61,13 +66,13 @@ none6 = 0 ∷ 0 ∷ 0 ∷ 0 ∷ 0 ∷ 0 ∷ []
 abbrev none7 : List ℕ
 none7 = 0 ∷ none6
 
--- FORMAT 12.5, 12.13: a board of width 2, height 1 and par 5
-abbrev pub two : List ℕ → Level
-two tiles = record { version = 1; width = 2; height = 1; par = 5; tiles = tiles }
+-- a board of width 2 and par 5
+abbrev pub board : ℕ → ℕ → List ℕ → Level
+board v h tiles = record { version = v; width = 2; height = h; par = 5; tiles = tiles }
 
 -- FORMAT 12.5, 12.6: crate on goal, player
-abbrev pub finished : Level
-finished = two (4 ∷ 5 ∷ [])
+abbrev pub finished : ℕ → Level
+finished v = board v 1 (4 ∷ 5 ∷ [])
 
 abbrev pub finishedRecord : List ℕ
 finishedRecord = 0x11 ∷ 0x04 ∷ 0x05 ∷ 0x94 ∷ []
@@ -78,8 +83,8 @@ finishedStrip =
     ∷ 0x20 ∷ 0xBF ∷ 0x59 ∷ 0x07 ∷ 0xB2 ∷ 0x1F ∷ 0xD1 ∷ 0xA4 ∷ 0x11 ∷ 0x04 ∷ 0x05 ∷ 0x94 ∷ []
 
 -- FORMAT 12.13, 12.14: crate, player on goal
-abbrev pub unfinished : Level
-unfinished = two (2 ∷ 6 ∷ [])
+abbrev pub unfinished : ℕ → Level
+unfinished v = board v 1 (2 ∷ 6 ∷ [])
 
 abbrev pub unfinishedRecord : List ℕ
 unfinishedRecord = 0x11 ∷ 0x04 ∷ 0x05 ∷ 0x58 ∷ []
@@ -88,6 +93,27 @@ abbrev pub unfinishedStrip : List ℕ
 unfinishedStrip =
     0x11 ∷ 0x04 ∷ 0x05 ∷ 0x58 ∷ 0xB2 ∷ 0x1F ∷ 0xD1 ∷ 0xAF ∷ 0x20 ∷ 0xBF ∷ 0x59 ∷ 0x9A
     ∷ 0x20 ∷ 0xBF ∷ 0x59 ∷ 0x9A ∷ 0xB2 ∷ 0x1F ∷ 0xD1 ∷ 0xAF ∷ 0x11 ∷ 0x04 ∷ 0x05 ∷ 0x58 ∷ []
+
+-- FORMAT 12.17: the same tiles in version 2
+abbrev pub unfinishedRecord2 : List ℕ
+unfinishedRecord2 = 0x21 ∷ 0x04 ∷ 0x05 ∷ 0x58 ∷ []
+
+abbrev pub unfinishedStrip2 : List ℕ
+unfinishedStrip2 =
+    0x21 ∷ 0x04 ∷ 0x05 ∷ 0x58 ∷ 0x36 ∷ 0x1F ∷ 0xD1 ∷ 0xAF ∷ 0x77 ∷ 0xBF ∷ 0x59 ∷ 0x9A
+    ∷ 0x77 ∷ 0xBF ∷ 0x59 ∷ 0x9A ∷ 0x36 ∷ 0x1F ∷ 0xD1 ∷ 0xAF ∷ 0x21 ∷ 0x04 ∷ 0x05 ∷ 0x58 ∷ []
+
+-- FORMAT 12.16: crate, player on goal; crate, pit
+abbrev pub pitted : ℕ → Level
+pitted v = board v 2 (2 ∷ 6 ∷ 2 ∷ 7 ∷ [])
+
+abbrev pub pittedRecord : List ℕ
+pittedRecord = 0x21 ∷ 0x08 ∷ 0x05 ∷ 0x59 ∷ 0x70 ∷ []
+
+abbrev pub pittedStrip : List ℕ
+pittedStrip =
+    0x21 ∷ 0x08 ∷ 0x05 ∷ 0x59 ∷ 0x70 ∷ 0x00 ∷ 0x00 ∷ 0x00 ∷ 0x04 ∷ 0x47 ∷ 0xC1 ∷ 0xA7 ∷ 0x26 ∷ 0x39
+    ∷ 0x38 ∷ 0x34 ∷ 0x67 ∷ 0x64 ∷ 0xB0 ∷ 0x29 ∷ 0x52 ∷ 0x2C ∷ 0x9D ∷ 0x82 ∷ 0x46 ∷ 0x3E ∷ 0xD1 ∷ 0x61 ∷ []
 
 -- nothing mended, the most, and each exact half that a legal length allows
 abbrev pub worn : List Worn
@@ -134,9 +160,16 @@ table =
     ∷ refused (1 ∷ 1 ∷ 1 ∷ 1 ∷ 1 ∷ 1 ∷ []) (0x02 ∷ 0 ∷ 0 ∷ 0 ∷ 0 ∷ 0 ∷ [])
     ∷ becomes none7 (0x00 ∷ 0x00 ∷ 0x6C ∷ 0xAA ∷ 0x82 ∷ 0x8B ∷ 0xCE ∷ []) (0x01 ∷ 0x00 ∷ 0x6C ∷ 0xAA ∷ 0x82 ∷ 0x8B ∷ 0xCE ∷ []) 1 0
     ∷ refused none6 (0x00 ∷ 0x6C ∷ 0xAA ∷ 0x82 ∷ 0x8B ∷ 0xCE ∷ [])
-    ∷ lays finished finishedRecord finishedStrip
-    ∷ noLevel finished 10
-    ∷ lays unfinished unfinishedRecord unfinishedStrip
-    ∷ level unfinished
+    ∷ lays (finished 1) finishedRecord finishedStrip
+    ∷ noLevel (finished 1) 10
+    ∷ lays (unfinished 1) unfinishedRecord unfinishedStrip
+    ∷ level (unfinished 1)
+    ∷ lays (pitted 2) pittedRecord pittedStrip
+    ∷ level (pitted 2)
+    ∷ noLevel (pitted 1) 9
+    ∷ lays (unfinished 2) unfinishedRecord2 unfinishedStrip2
+    ∷ level (unfinished 2)
+    ∷ noRecord (0x31 ∷ 0x04 ∷ 0x05 ∷ 0x94 ∷ []) 7
+    ∷ noRecord (0x21 ∷ 0x04 ∷ 0x05 ∷ 0x94 ∷ []) 10
     ∷ wears worn
     ∷ []

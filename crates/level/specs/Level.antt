@@ -1,9 +1,11 @@
 -- FORMAT 5: levels, each a version, a width, a height, a par and a tile code for each place, within the ranges and the rule of the version.
 use mathlib.Core.Path.{_≡_}
+use mathlib.Core.Bool.{cond}
 use Prim.Native.Nat.{ℕ, _*_, _≤_, _<_}
 use mathlib.Core.List.{List, [], _∷_}
+use lib.Dec.{ltb}
 use lib.ListN.{length, getD}
-use Rattle.rules.specs.Refusal.{Question}
+use Rattle.rules.specs.Refusal.{Question, Within}
 use Rattle.level.specs.Tile.{Row, totals}
 
 -- FORMAT 5.3, 5.4: the tiles stand row by row; the version is that of its record, 6.4
@@ -16,19 +18,23 @@ pub record Level : Type 0 where
 
 -- ---- what a version allows
 
--- FORMAT 6.4: the versions that there are
+-- FORMAT 6.4: the versions that there are, 1 and 2
+abbrev pub newest : ℕ
+newest = 2
+
 abbrev pub Known : ℕ → Type 0
-Known v = v ≡ 1
+Known = Within 1 newest
 
--- FORMAT 5.7: the greatest tile code
+-- FORMAT 5.7: the greatest tile code: that of player on goal, and from version 2 on that of the pit
 abbrev pub codeMost : ℕ → ℕ
-codeMost v = 6
+codeMost v = cond (ltb v 2) 6 7
 
--- FORMAT 5.8 to 5.10, 5.13: the rule over what the tiles add
+-- FORMAT 5.8 to 5.10, 5.13: the rule over what the tiles add. Crates do not fall short of goals; before version 2 they do not outnumber them either.
 pub record Playable (v : ℕ) (r : Row) : Type 0 where
   pub one-player : r .player ≡ 1
   pub some-crate : 1 ≤ r .crate'
-  pub as-many : r .crate' ≡ r .goal
+  pub enough : r .goal ≤ r .crate'
+  pub as-many : v < 2 → r .crate' ≡ r .goal
   pub unfinished : 1 ≤ r .off
 
 -- ---- what is asked of a level
@@ -70,6 +76,11 @@ pub record IsLevel (l : Level) : Type 0 where
 
 -- ---- the refusals of what is no level
 
+-- FORMAT 9.7: within the ranges, and of a version that is taken: any up to this one
+pub record Taken (upto : ℕ) (l : Level) : Type 0 where
+  pub ranged : Ranged l
+  pub in-time : l .version ≤ upto
+
 -- FORMAT 9.10: for readers and writers alike, of texts too
 abbrev pub ruling : Question Level
 ruling = record { number = 10; asks = Fair }
@@ -78,6 +89,6 @@ ruling = record { number = 10; asks = Fair }
 abbrev pub boarding : List (Question Level)
 boarding = record { number = 9; asks = Coded } ∷ ruling ∷ []
 
--- FORMAT 9.7 to 9.10: of a level that is lent
-abbrev pub lending : List (Question Level)
-lending = record { number = 7; asks = Ranged } ∷ record { number = 8; asks = Counted } ∷ boarding
+-- FORMAT 9.7 to 9.10: of a level that is lent to a writer of versions up to this one
+abbrev pub lending : ℕ → List (Question Level)
+lending upto = record { number = 7; asks = Taken upto } ∷ record { number = 8; asks = Counted } ∷ boarding

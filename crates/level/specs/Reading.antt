@@ -8,7 +8,7 @@ use Rattle.account.specs.Lists.{listOf}
 use Rattle.account.specs.Reach.{GoodMarks}
 use Rattle.rules.specs.Refusal.{Rule, unless, Within, Question, about, asked}
 use Rattle.level.specs.Sizes.{tilesMost, recordLeast, recordMost, scratchLeast}
-use Rattle.level.specs.Level.{Level, Ranged, boarding}
+use Rattle.level.specs.Level.{Level, Taken, boarding}
 use Rattle.level.specs.Record.{bitAt, fieldAt, recordLength}
 use Rattle.level.specs.Strip.{columns, Legal, Mends, Mendable}
 
@@ -33,15 +33,15 @@ pub record Shaped (R : ℕ) (bs : List ℕ) : Type 0 where
   pub fits : length bs ≡ R * columns R (recordLength (fieldAt bs 4 5) (fieldAt bs 9 5))
   pub filling : (p : ℕ) → 24 + 3 * (fieldAt bs 4 5 * fieldAt bs 9 5) ≤ p → p < 8 * length bs → bitAt bs p ≡ 0
 
--- FORMAT 9.7 to 9.10: what is asked of the bytes: the level that they spell, and their shape
-abbrev pub judging : ℕ → List (Question (List ℕ))
-judging R = record { number = 7; asks = λ bs. Ranged (levelOf bs) } ∷ record { number = 8; asks = Shaped R } ∷ about levelOf boarding
+-- FORMAT 9.7 to 9.10: what a reader of versions up to this one asks of the bytes: of the level that they spell, and of their shape
+abbrev pub judging : ℕ → ℕ → List (Question (List ℕ))
+judging upto R = record { number = 7; asks = λ bs. Taken upto (levelOf bs) } ∷ record { number = 8; asks = Shaped R } ∷ about levelOf boarding
 
 -- ---- records
 
 -- FORMAT 9.40, 9.47. 1: the length; 4: the tile buffer; 7 to 10
-abbrev pub readingRecord : List ℕ → ℕ → List Rule
-readingRecord bs room = unless 1 (Within recordLeast recordMost (length bs)) ∷ unless 4 (tilesMost ≤ room) ∷ asked (λ ask. ask bs) (judging 1)
+abbrev pub readingRecord : ℕ → List ℕ → ℕ → List Rule
+readingRecord upto bs room = unless 1 (Within recordLeast recordMost (length bs)) ∷ unless 4 (tilesMost ≤ room) ∷ asked (λ ask. ask bs) (judging upto 1)
 
 -- ---- strips
 
@@ -69,8 +69,8 @@ abbrev pub entering : ℕ → List ℕ → List ℕ → ℕ → ℕ → List Rul
 entering = enteringWith scratchLeast
 
 -- FORMAT 9.6, 9.46: what the picture is asked. 6: each lane can be mended; 7 to 10 of the mended record
-abbrev pub mending : Ops → ℕ → List ℕ → List ℕ → List Rule
-mending O R s marks = unless 6 ((j : ℕ) → j < R → Mendable O R marks s j) ∷ asked (OfMended O R marks s) (judging R)
+abbrev pub mending : ℕ → Ops → ℕ → List ℕ → List ℕ → List Rule
+mending upto O R s marks = unless 6 ((j : ℕ) → j < R → Mendable O R marks s j) ∷ asked (OfMended O R marks s) (judging upto R)
 
 -- ---- answers
 
@@ -78,6 +78,7 @@ mending O R s marks = unless 6 ((j : ℕ) → j < R → Mendable O R marks s j) 
 pub record ReadNumbers : Type 0 where
   pub code : ℕ
   pub lane : ℕ
+  pub version : ℕ
   pub width : ℕ
   pub height : ℕ
   pub par : ℕ
@@ -87,13 +88,14 @@ pub record ReadNumbers : Type 0 where
 
 -- FORMAT 9.43: with a refusal all are zero but the code and, for 6, the lane
 abbrev pub refusedAt : ℕ → ℕ → ReadNumbers
-refusedAt code lane = record { code = code; lane = lane; width = 0; height = 0; par = 0; mended = 0; repainted = 0; wear = 0 }
+refusedAt code lane = record { code = code; lane = lane; version = 0; width = 0; height = 0; par = 0; mended = 0; repainted = 0; wear = 0 }
 
 -- FORMAT 11.11: all numbers but repainted
 abbrev pub butRepainted : ReadNumbers → ReadNumbers
 butRepainted n = record {
   code = n .code;
   lane = n .lane;
+  version = n .version;
   width = n .width;
   height = n .height;
   par = n .par;
@@ -104,4 +106,4 @@ butRepainted n = record {
 
 -- FORMAT 8.15: the level returned: these numbers, and the first tiles of the buffer
 abbrev pub returned : ReadNumbers → List ℕ → Level
-returned n tiles = record { version = 1; width = n .width; height = n .height; par = n .par; tiles = take (n .width * n .height) tiles }
+returned n tiles = record { version = n .version; width = n .width; height = n .height; par = n .par; tiles = take (n .width * n .height) tiles }

@@ -1,5 +1,7 @@
-// Levels, records and strips are in specs/, with what is true of them in proofs/. Here are the sizes that specs/Sizes.antt names.
+// Levels, records and strips are in specs/, with what is true of them in proofs/. Here are the newest version of specs/Level.antt, and the sizes that specs/Sizes.antt names.
 
+// The newest version of levels.
+pub const NEWEST: usize = 2;
 // Tiles of a board.
 pub const TILES_MOST: usize = 961;
 // Bytes of a record.

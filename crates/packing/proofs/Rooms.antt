@@ -17,6 +17,7 @@ pub record Room (n : Numbers) : Type 0 where
 pub record ReadRoom (n : ReadNumbers) : Type 0 where
   pub code : n .code < 32
   pub lane : n .lane < 16
+  pub version : n .version < 4
   pub width : n .width < 32
   pub height : n .height < 32
   pub par : n .par < 1024
@@ -43,24 +44,26 @@ back-length n h = ap₂ (λ (c v : ℕ). numbers c v) low high
     high : (n .code % 32 + n .value % 65536 * 2 ^ 48) / 2 ^ 48 % 65536 ≡ n .value
     high = omega (arith, h .code, h .value)
 
-abbrev reads : ℕ → ℕ → ℕ → ℕ → ℕ → ℕ → ℕ → ℕ → ReadNumbers
-reads c l w h p m d v = record { code = c; lane = l; width = w; height = h; par = p; mended = m; repainted = d; wear = v }
+abbrev reads : ℕ → ℕ → ℕ → ℕ → ℕ → ℕ → ℕ → ℕ → ℕ → ReadNumbers
+reads c l n w h p m d v = record { code = c; lane = l; version = n; width = w; height = h; par = p; mended = m; repainted = d; wear = v }
 
 module _ (n : ReadNumbers) (h : ReadRoom n) where
   -- what is packed, with no remainders taken
   plain : packedRead n
-      ≡ n .code + n .lane * 32 + n .width * 2048 + n .height * 65536 + n .par * 2097152 + n .mended * 2147483648 + n .repainted * 137438953472
+      ≡ n .code + n .lane * 32 + n .version * 512 + n .width * 2048 + n .height * 65536 + n .par * 2097152 + n .mended * 2147483648 + n .repainted * 137438953472
       + n .wear * 17592186044416
-  plain = omega (arith, h .code, h .lane, h .width, h .height, h .par, h .mended, h .repainted, h .wear)
+  plain = omega (arith, h .code, h .lane, h .version, h .width, h .height, h .par, h .mended, h .repainted, h .wear)
 
   pub back-read : unpackedRead (packedRead n) ≡ n
   back-read =
-      ap₂ (λ (c l : ℕ). reads c l (packedRead n / 2 ^ 11 % 32) (packedRead n / 2 ^ 16 % 32) (packedRead n / 2 ^ 21 % 1024) (packedRead n / 2 ^ 31 % 64)
-      (packedRead n / 2 ^ 37 % 128) (packedRead n / 2 ^ 44 % 64)) c l
-      ∙ ap₂ (λ (w k : ℕ). reads (n .code) (n .lane) w k (packedRead n / 2 ^ 21 % 1024) (packedRead n / 2 ^ 31 % 64) (packedRead n / 2 ^ 37 % 128)
-      (packedRead n / 2 ^ 44 % 64)) w k
-      ∙ ap₂ (λ (p m : ℕ). reads (n .code) (n .lane) (n .width) (n .height) p m (packedRead n / 2 ^ 37 % 128) (packedRead n / 2 ^ 44 % 64)) p m
-      ∙ ap₂ (λ (d v : ℕ). reads (n .code) (n .lane) (n .width) (n .height) (n .par) (n .mended) d v) d v
+      ap₂ (λ (c l : ℕ). reads c l (packedRead n / 2 ^ 9 % 4) (packedRead n / 2 ^ 11 % 32) (packedRead n / 2 ^ 16 % 32) (packedRead n / 2 ^ 21 % 1024)
+      (packedRead n / 2 ^ 31 % 64) (packedRead n / 2 ^ 37 % 128) (packedRead n / 2 ^ 44 % 64)) c l
+      ∙ ap₂ (λ (x w : ℕ). reads (n .code) (n .lane) x w (packedRead n / 2 ^ 16 % 32) (packedRead n / 2 ^ 21 % 1024) (packedRead n / 2 ^ 31 % 64)
+      (packedRead n / 2 ^ 37 % 128) (packedRead n / 2 ^ 44 % 64)) x w
+      ∙ ap₂ (λ (k p : ℕ). reads (n .code) (n .lane) (n .version) (n .width) k p (packedRead n / 2 ^ 31 % 64) (packedRead n / 2 ^ 37 % 128)
+      (packedRead n / 2 ^ 44 % 64)) k p
+      ∙ ap₂ (λ (m d : ℕ). reads (n .code) (n .lane) (n .version) (n .width) (n .height) (n .par) m d (packedRead n / 2 ^ 44 % 64)) m d
+      ∙ ap (reads (n .code) (n .lane) (n .version) (n .width) (n .height) (n .par) (n .mended) (n .repainted)) v
     where
       c : packedRead n % 32 ≡ n .code
       c = ap (λ (x : ℕ). x % 32) plain ∙ omega (arith, h .code)
@@ -68,27 +71,30 @@ module _ (n : ReadNumbers) (h : ReadRoom n) where
       l : packedRead n / 2 ^ 5 % 16 ≡ n .lane
       l = ap (λ (x : ℕ). x / 32 % 16) plain ∙ omega (arith, h .code, h .lane)
 
+      x : packedRead n / 2 ^ 9 % 4 ≡ n .version
+      x = ap (λ (y : ℕ). y / 512 % 4) plain ∙ omega (arith, h .code, h .lane, h .version)
+
       w : packedRead n / 2 ^ 11 % 32 ≡ n .width
-      w = ap (λ (x : ℕ). x / 2048 % 32) plain ∙ omega (arith, h .code, h .lane, h .width)
+      w = ap (λ (x : ℕ). x / 2048 % 32) plain ∙ omega (arith, h .code, h .lane, h .version, h .width)
 
       k : packedRead n / 2 ^ 16 % 32 ≡ n .height
-      k = ap (λ (x : ℕ). x / 65536 % 32) plain ∙ omega (arith, h .code, h .lane, h .width, h .height)
+      k = ap (λ (x : ℕ). x / 65536 % 32) plain ∙ omega (arith, h .code, h .lane, h .version, h .width, h .height)
 
       p : packedRead n / 2 ^ 21 % 1024 ≡ n .par
-      p = ap (λ (x : ℕ). x / 2097152 % 1024) plain ∙ omega (arith, h .code, h .lane, h .width, h .height, h .par)
+      p = ap (λ (x : ℕ). x / 2097152 % 1024) plain ∙ omega (arith, h .code, h .lane, h .version, h .width, h .height, h .par)
 
       m : packedRead n / 2 ^ 31 % 64 ≡ n .mended
-      m = ap (λ (x : ℕ). x / 2147483648 % 64) plain ∙ omega (arith, h .code, h .lane, h .width, h .height, h .par, h .mended)
+      m = ap (λ (x : ℕ). x / 2147483648 % 64) plain ∙ omega (arith, h .code, h .lane, h .version, h .width, h .height, h .par, h .mended)
 
       d : packedRead n / 2 ^ 37 % 128 ≡ n .repainted
       d =
           ap (λ (x : ℕ). x / 137438953472 % 128) plain
-          ∙ omega (arith, h .code, h .lane, h .width, h .height, h .par, h .mended, h .repainted)
+          ∙ omega (arith, h .code, h .lane, h .version, h .width, h .height, h .par, h .mended, h .repainted)
 
       v : packedRead n / 2 ^ 44 % 64 ≡ n .wear
       v =
           ap (λ (x : ℕ). x / 17592186044416 % 64) plain
-          ∙ omega (arith, h .code, h .lane, h .width, h .height, h .par, h .mended, h .repainted, h .wear)
+          ∙ omega (arith, h .code, h .lane, h .version, h .width, h .height, h .par, h .mended, h .repainted, h .wear)
 
 -- a repair's numbers are taken out of what a reader's would be
 pub back-repair : (n : RepairNumbers) → n .code < 32 → n .mended < 64 → n .repainted < 128 → unpackedRepair (packedRepair n) ≡ n
@@ -101,6 +107,7 @@ back-repair n c m d = ap (λ (x : ReadNumbers). repair (x .code) (x .mended) (x 
     room = record {
       code = c;
       lane = omega arith;
+      version = omega arith;
       width = omega arith;
       height = omega arith;
       par = omega arith;

@@ -55,6 +55,7 @@ pub fn pack_found(a: Found) -> u64
 fn pack_numbers(
     code: u8,
     lane: usize,
+    version: usize,
     width: usize,
     height: usize,
     par: usize,
@@ -62,10 +63,11 @@ fn pack_numbers(
     repainted: usize,
     wear: usize,
 ) -> u64
-    ensures { λ r. ⌜ r ≡ packedRead record { code = code; lane = lane; width = width; height = height; par = par; mended = mended; repainted = repainted; wear = wear } ⌝ }
+    ensures { λ r. ⌜ r ≡ packedRead record { code = code; lane = lane; version = version; width = width; height = height; par = par; mended = mended; repainted = repainted; wear = wear } ⌝ }
 {
     (code % 32) as u64
         + ((lane % 16) as u64) * 32
+        + ((version % 4) as u64) * 512
         + ((width % 32) as u64) * 2048
         + ((height % 32) as u64) * 65536
         + ((par % 1024) as u64) * 2097152
@@ -78,8 +80,18 @@ pub fn pack_repaired(a: Repaired) -> u64
     ensures { λ r. ⌜ r ≡ packedRepair (repairedNumbers a) ⌝ }
 {
     match a {
-        Repaired::Mended { mended, repainted } => pack_numbers(0, 0, 0, 0, 0, mended, repainted, 0),
-        Repaired::Refused(c) => pack_numbers(c, 0, 0, 0, 0, 0, 0, 0),
+        Repaired::Mended { mended, repainted } => pack_numbers(
+            0,
+            0,
+            0,
+            0,
+            0,
+            0,
+            mended,
+            repainted,
+            0,
+        ),
+        Repaired::Refused(c) => pack_numbers(c, 0, 0, 0, 0, 0, 0, 0, 0),
     }
 }
 
@@ -87,8 +99,13 @@ pub fn pack_level(a: RecordRead) -> u64
     ensures { λ r. ⌜ r ≡ packedRead (recordNumbers a) ⌝ }
 {
     match a {
-        RecordRead::Level { width, height, par } => pack_numbers(0, 0, width, height, par, 0, 0, 0),
-        RecordRead::Refused(c) => pack_numbers(c, 0, 0, 0, 0, 0, 0, 0),
+        RecordRead::Level {
+            version,
+            width,
+            height,
+            par,
+        } => pack_numbers(0, 0, version, width, height, par, 0, 0, 0),
+        RecordRead::Refused(c) => pack_numbers(c, 0, 0, 0, 0, 0, 0, 0, 0),
     }
 }
 
@@ -97,14 +114,15 @@ pub fn pack_reading(a: Reading) -> u64
 {
     match a {
         Reading::Read {
+            version,
             width,
             height,
             par,
             mended,
             repainted,
             wear,
-        } => pack_numbers(0, 0, width, height, par, mended, repainted, wear),
-        Reading::Refused { code, lane } => pack_numbers(code, lane, 0, 0, 0, 0, 0, 0),
+        } => pack_numbers(0, 0, version, width, height, par, mended, repainted, wear),
+        Reading::Refused { code, lane } => pack_numbers(code, lane, 0, 0, 0, 0, 0, 0, 0),
     }
 }
 

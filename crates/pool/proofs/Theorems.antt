@@ -274,36 +274,37 @@ module _ (R : ℕ) where
   -- ---- read
 
   -- of a picture that was read by itself, no lane has more than five marked cells
-  five-alone : 0 < R → (a : Picture) → length (a .marks) ≡ length (a .cells) → GaveLevel R a → (j : ℕ) → j < R → markedIn R (a .marks) j ≤ 5
+  five-alone : {upto : ℕ} → 0 < R → (a : Picture) → length (a .marks) ≡ length (a .cells) → GaveLevel upto R a → (j : ℕ) → j < R → markedIn R (a .marks) j ≤ 5
   five-alone some a e g j hj =
       rw e (omega (arith, rw (length-lane R some j (a .cells)) at (g .reading .promise .level (g .done) .reached .reach .each j hj .few)))
 
-  module _ (two : 2 ≤ R) (l : Level) (t : List ℕ) (wrote : WeWrote R l t) where
+  module _ (two : 2 ≤ R) (upto : ℕ) (l : Level) (t : List ℕ) (wrote : WeWrote R l t) (early : l .version ≤ upto) where
     some : 0 < R
     some = omega arith
 
     module _ (a b c : Picture) (w : WePooled R a b c) (sa : Shows t a) (sb : Shows t b) where
-      -- FORMAT 15.6: of a strip that we wrote, the level is returned where no lane has more than five cells that are marked in both; nothing is mended.
-      pub pooled-read-back : ((j : ℕ) → j < R → markedIn R (c .marks) j ≤ 5) → Answers R (c .cells) (c .marks) (λ x tiles'. Gives l x tiles' × (x .mended ≡ 0))
+      -- FORMAT 15.6: of a strip that we wrote, of a version that is taken, the level is returned where no lane has more than five cells that are marked in
+      -- both; nothing is mended.
+      pub pooled-read-back : ((j : ℕ) → j < R → markedIn R (c .marks) j ≤ 5) → Answers upto R (c .cells) (c .marks) (λ x tiles'. Gives l x tiles' × (x .mended ≡ 0))
       pooled-read-back five r =
           let s = pooled-shows a b c w t sa sb in
           let only : ChangedIn (c .marks) 0 0 (c .cells) t = record { same-length = s .same-length; outside = λ p _. s .read p } in
           let long : length t ≡ length (c .cells) = sym (s .same-length) in
           let even : length (c .marks) ≡ length (c .cells) = as-long a b c w .1 ∙ sym (as-long a b c w .0) in
           let back =
-          damaged-read-back R two l t wrote (c .cells) (c .marks) long even (good a b c w)
+          damaged-read-back R two l t wrote upto (c .cells) (c .marks) long even (good a b c w) early
           (lanes-reach R some (c .marks) (c .cells) t even long
           (λ j hj. omega (arith, wrong-in-run R some (c .marks) (c .cells) t even long 0 0 0 (omega arith) only j hj, five j hj))) r in
           (back .0, omega (arith, back .1, differing-in-run (c .marks) 0 0 (c .cells) t only))
 
       -- in particular where the first picture alone was read
-      first-gives : GaveLevel R a → Answers R (c .cells) (c .marks) (λ x tiles'. Gives l x tiles' × (x .mended ≡ 0))
+      first-gives : GaveLevel upto R a → Answers upto R (c .cells) (c .marks) (λ x tiles'. Gives l x tiles' × (x .mended ≡ 0))
       first-gives g =
           pooled-read-back (λ j hj. omega (arith, fewer-marked a b c w t sa sb some j, five-alone some a (matched a b c w .0) g j hj))
 
     -- FORMAT 15.6: or either.
-    pub pooled-gives : (a b c : Picture) → WePooled R a b c → Shows t a → Shows t b → GaveLevel R a ⊎ GaveLevel R b
-        → Answers R (c .cells) (c .marks) (λ x tiles'. Gives l x tiles' × (x .mended ≡ 0))
+    pub pooled-gives : (a b c : Picture) → WePooled R a b c → Shows t a → Shows t b → GaveLevel upto R a ⊎ GaveLevel upto R b
+        → Answers upto R (c .cells) (c .marks) (λ x tiles'. Gives l x tiles' × (x .mended ≡ 0))
     pooled-gives a b c w sa sb =
         ⊎-elim (first-gives a b c w sa sb)
         (first-gives b a c
@@ -312,9 +313,9 @@ module _ (R : ℕ) where
   -- ---- pictures of two strips
 
   -- FORMAT 15.11: of two levels, with every cell right and none marked. They are never taken for one: the pooled picture is refused with 6.
-  pub two-strips-refused : 2 ≤ R → (l m : Level) (t u x y : List ℕ) (c : Picture) → l ≢ m → WeWrote R l t → WeWrote R m u → NoMarks x → NoMarks y
-      → WePooled R (photo t x) (photo u y) c → Answers R (c .cells) (c .marks) (λ n tiles'. n .code ≡ 6)
-  two-strips-refused two l m t u x y c other wt wu nx ny w r = ⊎-elim (λ e. absurd (apart e)) refused lanes
+  pub two-strips-refused : 2 ≤ R → (upto : ℕ) (l m : Level) (t u x y : List ℕ) (c : Picture) → l ≢ m → WeWrote R l t → WeWrote R m u → NoMarks x → NoMarks y
+      → WePooled R (photo t x) (photo u y) c → Answers upto R (c .cells) (c .marks) (λ n tiles'. n .code ≡ 6)
+  two-strips-refused two upto l m t u x y c other wt wu nx ny w r = ⊎-elim (λ e. absurd (apart e)) refused lanes
     where
       some : 0 < R
       some = omega arith
@@ -358,7 +359,7 @@ module _ (R : ℕ) where
       refused : (j : ℕ) × (j < R) × (6 ≤ differing [] (lane R j u) (lane R j t)) → stripNumbers (r .answer) .code ≡ 6
       refused z =
           let size : length (c .cells) ≡ length t = as-long (photo t x) (photo u y) c w .0 in
-          beyond-is-six R two (c .cells) (c .marks) (r .tiles) (r .tiles') (r .scratch) (r .scratch')
+          beyond-is-six R two upto (c .cells) (c .marks) (r .tiles) (r .tiles') (r .scratch) (r .scratch')
           (subst (Legal R) (sym size) legal, (even ∙ sym size, (good (photo t x) (photo u y) c w, (r .room, (r .room', tt))))) (r .answer) (r .promise) (z .0) (z .1)
           (six-marks R some (c .marks) (c .cells) (c .cells) (even ∙ sym size) refl gf256 (z .0) (omega (arith, counted (z .0) (z .1), z .2)))
 

@@ -144,9 +144,9 @@ pub record WePooled (R : ℕ) (a b c : Picture) : Type 0 where
 abbrev pub Shows : List ℕ → Picture → Type 0
 Shows t a = SameRead (a .marks) (a .cells) t
 
--- FORMAT 15.6: the picture, read by itself, gave a level
-pub record GaveLevel (R : ℕ) (a : Picture) : Type 0 where
-  pub reading : WeRead R (a .cells) (a .marks)
+-- FORMAT 15.6: the picture, read by itself, gave a level of a version up to this one
+pub record GaveLevel (upto R : ℕ) (a : Picture) : Type 0 where
+  pub reading : WeRead upto R (a .cells) (a .marks)
   pub done : stripNumbers (reading .answer) .code ≡ 0
 
 -- ---- parts

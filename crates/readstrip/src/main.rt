@@ -8,10 +8,11 @@ fn put(text: &[u8], n: u64) {
     io::print_decimal(1, n);
 }
 
-// Numbers in decimal: width, height, par, mended, wear; of a refusal its number and lane.
+// Numbers in decimal: width, height, par, mended, wear, of a level of either version; of a refusal its number and lane.
 fn show(a: Reading) {
     match a {
         Reading::Read {
+            version: _,
             width,
             height,
             par,

@@ -20,13 +20,13 @@ module _ (l : Level) (old : List ℕ) where
   pub refused-4 : (364 ≤ length old → ⊥) → RecordWritesAs l old old (written.Refused 4)
   refused-4 n = none 4 (λ z. omega arith) (stops 0 (writingLevel 364 l (length old)) 4 (n, refl))
 
-  pub refused-later : (c : ℕ) → 364 ≤ length old → (c ≡ 0 → ⊥) → First (asked (λ ask. ask l) lending) c → RecordWritesAs l old old (written.Refused c)
+  pub refused-later : (c : ℕ) → 364 ≤ length old → (c ≡ 0 → ⊥) → First (asked (λ ask. ask l) (lending 2)) c → RecordWritesAs l old old (written.Refused c)
   refused-later c a n f = none c n (inr (a, f))
 
-  pub wrote : (new : List ℕ) (c n : ℕ) → 364 ≤ length old → c ≡ 0 → First (asked (λ ask. ask l) lending) c → RecordPut l old new n
+  pub wrote : (new : List ℕ) (c n : ℕ) → 364 ≤ length old → c ≡ 0 → First (asked (λ ask. ask l) (lending 2)) c → RecordPut l old new n
       → RecordWritesAs l old new (written.Length n)
   wrote new c n a z f P = record {
-    code = inr (a, subst (First (asked (λ ask. ask l) lending)) z f);
+    code = inr (a, subst (First (asked (λ ask. ask l) (lending 2))) z f);
     value = λ _. P .size;
     is-record = λ _. rw (P .size) at (P .is-record);
     past = λ _. rw (P .size) at (P .past);

@@ -32,29 +32,30 @@ whole-record bs by s =
         go : (B : ℕ) → 1 * columns 1 B ≡ B
         go B = omega arith
 
-module _ (bs old : List ℕ) where
-  none : (new : List ℕ) (c : ℕ) → new ≡ old → (c ≡ 0 → ⊥) → First (readingRecord bs (length old)) c → RecordReadsAs bs old new (read.Refused c)
-  none new c e n f = record { code = f; is-level = λ z. absurd (n z); is-record = λ z. absurd (n z); past = λ z. absurd (n z); kept = λ _. e }
+module _ (upto : ℕ) (bs old : List ℕ) where
+  none : (new : List ℕ) (c : ℕ) → new ≡ old → (c ≡ 0 → ⊥) → First (readingRecord upto bs (length old)) c → RecordReadsAs upto bs old new (read.Refused c)
+  none new c e n f = record { code = f; is-level = λ z. absurd (n z); in-time = λ z. absurd (n z); is-record = λ z. absurd (n z); past = λ z. absurd (n z); kept = λ _. e }
 
-  pub not-read-1 : (Within 4 364 (length bs) → ⊥) → RecordReadsAs bs old old (read.Refused 1)
-  not-read-1 n = none old 1 refl (λ z. omega arith) (stops 0 (readingRecord bs (length old)) 1 (n, refl))
+  pub not-read-1 : (Within 4 364 (length bs) → ⊥) → RecordReadsAs upto bs old old (read.Refused 1)
+  not-read-1 n = none old 1 refl (λ z. omega arith) (stops 0 (readingRecord upto bs (length old)) 1 (n, refl))
 
-  pub not-read-4 : Within 4 364 (length bs) → (961 ≤ length old → ⊥) → RecordReadsAs bs old old (read.Refused 4)
-  not-read-4 a n = none old 4 refl (λ z. omega arith) (stops 1 (readingRecord bs (length old)) 4 (a, (n, refl)))
+  pub not-read-4 : Within 4 364 (length bs) → (961 ≤ length old → ⊥) → RecordReadsAs upto bs old old (read.Refused 4)
+  not-read-4 a n = none old 4 refl (λ z. omega arith) (stops 1 (readingRecord upto bs (length old)) 4 (a, (n, refl)))
 
-  pub not-read-later : (r : Judged) (new : List ℕ) → (r .code ≡ 0 → ⊥) → AcceptedAs 1 bs old new r → Within 4 364 (length bs) → 961 ≤ length old
-      → RecordReadsAs bs old new (read.Refused (r .code))
+  pub not-read-later : (r : Judged) (new : List ℕ) → (r .code ≡ 0 → ⊥) → AcceptedAs upto 1 bs old new r → Within 4 364 (length bs) → 961 ≤ length old
+      → RecordReadsAs upto bs old new (read.Refused (r .code))
   not-read-later r new n A a b = none new (r .code) (A .kept n) n (inr (a, inr (b, A .first)))
 
-  pub reads : (r : Judged) (new : List ℕ) → r .code ≡ 0 → AcceptedAs 1 bs old new r → Bytes bs → Within 4 364 (length bs) → 961 ≤ length old
-      → RecordReadsAs bs old new (read.Level (r .width) (r .height) (r .par))
+  pub reads : (r : Judged) (new : List ℕ) → r .code ≡ 0 → AcceptedAs upto 1 bs old new r → Bytes bs → Within 4 364 (length bs) → 961 ≤ length old
+      → RecordReadsAs upto bs old new (read.Level (r .version) (r .width) (r .height) (r .par))
   reads r new z A by a b =
-      let p = passed 1 bs (r .code) z (A .first) in
-      let e = level-is bs old new (r .width) (r .height) (r .par) (A .width z) (A .height z) (A .par z) (A .tiles z) (p .0) in
+      let p = passed upto 1 bs (r .code) z (A .first) in
+      let e = level-is bs old new (r .version) (r .width) (r .height) (r .par) (A .version z) (A .width z) (A .height z) (A .par z) (A .tiles z) in
       record {
-        code = inr (a, inr (b, subst (First (asked (λ ask. ask bs) (judging 1))) z (A .first)));
-        is-level = λ _. subst IsLevel e (spelled-level bs (p .0) (p .1 .1 .0) (p .1 .1 .1 .0));
+        code = inr (a, inr (b, subst (First (asked (λ ask. ask bs) (judging upto 1))) z (A .first)));
+        is-level = λ _. subst IsLevel e (spelled-level bs (p .0 .ranged) (p .1 .1 .0) (p .1 .1 .1 .0));
+        in-time = λ _. omega (arith, A .version z, p .0 .in-time);
         is-record = λ _. subst (λ (l : Level). IsRecord l bs) e (whole-record bs by (p .1 .0));
-        past = λ _. tiles-past bs old new (r .width) (r .height) (r .par) (A .width z) (A .height z) (A .par z) (A .tiles z);
+        past = λ _. tiles-past bs old new (r .version) (r .width) (r .height) (r .par) (A .version z) (A .width z) (A .height z) (A .par z) (A .tiles z);
         kept = λ k. absurd (k refl);
       }

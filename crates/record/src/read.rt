@@ -4,32 +4,35 @@ ghost use lib.ListN.{length};
 ghost use Rattle.rules.specs.Refusal.{Within};
 ghost use Rattle.fields.specs.Judged.{JudgedAs, AcceptedAs};
 ghost use Rattle.record.specs.Reading.{RecordReadsAs};
+ghost use Rattle.level.specs.Level.{newest};
 ghost use Rattle.level.specs.Sizes.{tilesMost, recordLeast, recordMost};
 use fields::judged::Judged;
+use level::NEWEST;
 use level::RECORD_LEAST;
 use level::RECORD_MOST;
 use level::TILES_MOST;
 
-// Refusals 7 to 10 of a record, or of the data cells of a strip of that many lanes.
-fn judge(bs: &[u8], lanes: usize) -> Judged
+// Refusals 7 to 10 of a record, or of the data cells of a strip of that many lanes, by a reader of versions up to one of them.
+fn judge(upto: usize, bs: &[u8], lanes: usize) -> Judged
     requires { ⌜ Within recordLeast recordMost (length (now bs)) × Within 1 16 lanes ⌝ }
-    ensures { λ r. ⌜ JudgedAs lanes (now (bs .entry)) r ⌝ }
+    ensures { λ r. ⌜ JudgedAs upto lanes (now (bs .entry)) r ⌝ }
 {
     let f = fields::head::head_of(bs);
-    if !fields::head::head_ranged(f.version, f.width, f.height) {
+    if !fields::head::head_ranged(upto, f.version, f.width, f.height) {
         return fields::judged::refused(7);
     }
     let m = f.width * f.height;
     if !fields::shape::shaped(bs, lanes, m) {
         return fields::judged::refused(8);
     }
-    let code = fields::tile::sum_code(tiles::count::tally(&bs[3..]));
+    let code = fields::tile::sum_code(f.version, tiles::count::tally(&bs[3..]));
     fields::judged::answer(f, code)
 }
 
 // What reading a record answers: a level, its tiles in the buffer, or a refusal's number.
 pub enum RecordRead {
     Level {
+        version: usize,
         width: usize,
         height: usize,
         par: usize,
@@ -38,11 +41,11 @@ pub enum RecordRead {
 }
 
 // The record judged, or the data cells of a strip of that many lanes; its tiles are written only where nothing is refused.
-pub fn accept(bs: &[u8], lanes: usize, tiles: &mut [u8]) -> Judged
+pub fn accept(upto: usize, bs: &[u8], lanes: usize, tiles: &mut [u8]) -> Judged
     requires { ⌜ Within recordLeast recordMost (length (now bs)) × Within 1 16 lanes × (tilesMost ≤ length (now tiles)) ⌝ }
-    ensures { λ r. ⌜ AcceptedAs lanes (now (bs .entry)) (now (tiles .entry)) (now (tiles .exit)) r ⌝ }
+    ensures { λ r. ⌜ AcceptedAs upto lanes (now (bs .entry)) (now (tiles .entry)) (now (tiles .exit)) r ⌝ }
 {
-    let j = judge(bs, lanes);
+    let j = judge(upto, bs, lanes);
     let refusal = j.code;
     if refusal != 0 {
         return j;
@@ -52,9 +55,9 @@ pub fn accept(bs: &[u8], lanes: usize, tiles: &mut [u8]) -> Judged
     j
 }
 
-// Reads a record.
-pub fn read(bytes: &[u8], tiles: &mut [u8]) -> RecordRead
-    ensures { λ r. ⌜ RecordReadsAs (now (bytes .entry)) (now (tiles .entry)) (now (tiles .exit)) r ⌝ }
+// Reads a record of a version up to one of them.
+fn read_upto(upto: usize, bytes: &[u8], tiles: &mut [u8]) -> RecordRead
+    ensures { λ r. ⌜ RecordReadsAs upto (now (bytes .entry)) (now (tiles .entry)) (now (tiles .exit)) r ⌝ }
 {
     if bytes.len() < RECORD_LEAST {
         return RecordRead::Refused(1);
@@ -65,14 +68,29 @@ pub fn read(bytes: &[u8], tiles: &mut [u8]) -> RecordRead
     if tiles.len() < TILES_MOST {
         return RecordRead::Refused(4);
     }
-    let j = accept(bytes, 1, tiles);
+    let j = accept(upto, bytes, 1, tiles);
     let code = j.code;
     if code != 0 {
         return RecordRead::Refused(code);
     }
     RecordRead::Level {
+        version: j.version,
         width: j.width,
         height: j.height,
         par: j.par,
     }
+}
+
+// Reads a record.
+pub fn read(bytes: &[u8], tiles: &mut [u8]) -> RecordRead
+    ensures { λ r. ⌜ RecordReadsAs newest (now (bytes .entry)) (now (tiles .entry)) (now (tiles .exit)) r ⌝ }
+{
+    read_upto(NEWEST, bytes, tiles)
+}
+
+// Reads a record of version 1; every other version is refused.
+pub fn read_v1(bytes: &[u8], tiles: &mut [u8]) -> RecordRead
+    ensures { λ r. ⌜ RecordReadsAs 1 (now (bytes .entry)) (now (tiles .entry)) (now (tiles .exit)) r ⌝ }
+{
+    read_upto(1, bytes, tiles)
 }

@@ -1,4 +1,4 @@
--- Two readings of strips that are the same but for the bytes under marks.
+-- Two readings of strips that are the same but for the bytes under marks, by readers of versions up to m and up to n.
 use mathlib.Core.Path.{_≡_, refl, sym, ap, ap₂, _∙_, subst}
 use mathlib.Core.Logic.{_⊎_, inl, inr, ⊎-elim}
 use mathlib.Core.List.{List, _++_}
@@ -11,12 +11,15 @@ use Rattle.account.proofs.Theorems.{read-itself, read-turned}
 use Rattle.gf256.specs.Gf256.{gf256}
 use Rattle.gf256.proofs.Field256.{field256}
 use Rattle.rules.specs.Refusal.{Rule, First, Hold}
-use Rattle.rules.proofs.Laws.{first-fixes, all-hold, hold-both, parts, before, after, first-alike, asked-alike, Alike, at-most, either}
+use Rattle.rules.proofs.Laws.{first-fixes, all-hold, hold-both, parts, before, after, first-alike, Alike, at-most, either}
 use Rattle.level.specs.Level.{Level}
-use Rattle.level.specs.Strip.{columns, Legal, Reached, Lowest, Mendable, mendedOf, repaintedOf, IsWear}
-use Rattle.level.specs.Reading.{ReadNumbers, refusedAt, butRepainted, returned, enteringWith, mending, judging, OfMended}
+use Rattle.level.specs.Record.{fieldAt}
+use Rattle.level.specs.Strip.{columns, Legal, Reached, Mends, Lowest, Mendable, mendedOf, repaintedOf, IsWear}
+use Rattle.level.specs.Reading.{ReadNumbers, refusedAt, butRepainted, returned, levelOf, dataOf, enteringWith, mending, OfMended}
 use Rattle.rules.proofs.Numbers.{lt-or-ge}
-use Rattle.level.proofs.Strips.{same-strip}
+use Rattle.level.proofs.Versions.{TakeAlike, taken-alike, judging-alike}
+use Rattle.level.proofs.Strips.{same-strip, reached-mends}
+use Rattle.level.proofs.Mended.{reached-spells}
 use Rattle.level.proofs.Counts.{legal-some}
 use Rattle.level.proofs.Theorems.{wear-one}
 use Rattle.level.proofs.Unread.{same-reached, same-mends, same-mendable, same-mended}
@@ -26,21 +29,21 @@ use Rattle.strip.proofs.Reader.{zeros}
 
 -- ---- the numbers of an answer
 
-abbrev numbers : ℕ → ℕ → ℕ → ℕ → ℕ → ℕ → ℕ → ℕ → ReadNumbers
-numbers c l w h p m d v = record { code = c; lane = l; width = w; height = h; par = p; mended = m; repainted = d; wear = v }
+abbrev numbers : ℕ → ℕ → ℕ → ℕ → ℕ → ℕ → ℕ → ℕ → ℕ → ReadNumbers
+numbers c l n w h p m d v = record { code = c; lane = l; version = n; width = w; height = h; par = p; mended = m; repainted = d; wear = v }
 
 -- all but repainted
-same-numbers : (x y : ReadNumbers) → x .code ≡ y .code → x .lane ≡ y .lane → x .width ≡ y .width → x .height ≡ y .height → x .par ≡ y .par
-    → x .mended ≡ y .mended → x .wear ≡ y .wear → butRepainted x ≡ butRepainted y
-same-numbers x y c l w h p m v =
-    ap₂ (λ (i j : ℕ). numbers i j (x .width) (x .height) (x .par) (x .mended) 0 (x .wear)) c l
-    ∙ ap₂ (λ (i j : ℕ). numbers (y .code) (y .lane) i j (x .par) (x .mended) 0 (x .wear)) w h
-    ∙ ap₂ (λ (i j : ℕ). numbers (y .code) (y .lane) (y .width) (y .height) i j 0 (x .wear)) p m
-    ∙ ap (λ (i : ℕ). numbers (y .code) (y .lane) (y .width) (y .height) (y .par) (y .mended) 0 i) v
+same-numbers : (x y : ReadNumbers) → x .code ≡ y .code → x .lane ≡ y .lane → x .version ≡ y .version → x .width ≡ y .width → x .height ≡ y .height
+    → x .par ≡ y .par → x .mended ≡ y .mended → x .wear ≡ y .wear → butRepainted x ≡ butRepainted y
+same-numbers x y c l n w h p m v =
+    ap₂ (λ (i j : ℕ). numbers i j (x .version) (x .width) (x .height) (x .par) (x .mended) 0 (x .wear)) c l
+    ∙ ap₂ (λ (i j : ℕ). numbers (y .code) (y .lane) i j (x .height) (x .par) (x .mended) 0 (x .wear)) n w
+    ∙ ap₂ (λ (i j : ℕ). numbers (y .code) (y .lane) (y .version) (y .width) i j (x .mended) 0 (x .wear)) h p
+    ∙ ap₂ (λ (i j : ℕ). numbers (y .code) (y .lane) (y .version) (y .width) (y .height) (y .par) i 0 j) m v
 
 -- and repainted too
 all-numbers : (x y : ReadNumbers) → butRepainted x ≡ butRepainted y → x .repainted ≡ y .repainted → x ≡ y
-all-numbers x y e d = ap₂ (λ (n : ReadNumbers) (i : ℕ). numbers (n .code) (n .lane) (n .width) (n .height) (n .par) (n .mended) i (n .wear)) e d
+all-numbers x y e d = ap₂ (λ (n : ReadNumbers) (i : ℕ). numbers (n .code) (n .lane) (n .version) (n .width) (n .height) (n .par) (n .mended) i (n .wear)) e d
 
 -- ---- two readings
 
@@ -48,9 +51,13 @@ all-numbers x y e d = ap₂ (λ (n : ReadNumbers) (i : ℕ). numbers (n .code) (
 abbrev pub EnoughAlike : ℕ → ℕ → List ℕ → List ℕ → Type 0
 EnoughAlike x y u v = (x ≤ length u → y ≤ length v) × (y ≤ length v → x ≤ length u)
 
-module _ (R : ℕ) (some : 0 < R) (short : columns R 364 + 5 ≤ 255) (x y : ℕ) (r s marks tiles t1 t2 u u' v v' : List ℕ) (same : SameRead marks r s)
-    (room : EnoughAlike x y u v) (a b : Reading) (A : ReadsWith x R r marks tiles t1 u u' a)
-    (B : ReadsWith y R s marks tiles t2 v v' b) where
+-- and they take the version of what a strip is mended to alike
+abbrev pub VersionAlike : ℕ → ℕ → ℕ → List ℕ → List ℕ → Type 0
+VersionAlike m n R marks s = (t : List ℕ) → Mends gf256 R marks s t → TakeAlike m n (fieldAt (dataOf R t) 0 4)
+
+module _ (m n R : ℕ) (some : 0 < R) (short : columns R 364 + 5 ≤ 255) (x y : ℕ) (r s marks tiles t1 t2 u u' v v' : List ℕ) (same : SameRead marks r s)
+    (room : EnoughAlike x y u v) (takes : VersionAlike m n R marks r) (a b : Reading) (A : ReadsWith m x R r marks tiles t1 u u' a)
+    (B : ReadsWith n y R s marks tiles t2 v v' b) where
   -- what is asked before each picture is looked at
   abbrev early-r : List Rule
   early-r = enteringWith x R r marks (length tiles) (length u)
@@ -94,32 +101,39 @@ module _ (R : ℕ) (some : 0 < R) (short : columns R 364 + 5 ≤ 255) (x y : ℕ
     back : SameRead marks s r
     back = read-turned marks r s same
 
-    mend-alike : Alike (mending gf256 R r marks) (mending gf256 R s marks)
+    -- the other strip is mended to the same
+    mends-r : (t : List ℕ) → Mends gf256 R marks s t → Mends gf256 R marks r t
+    mends-r = same-mends R some marks s r (h .0 .k + 5) full' matched' back gf256
+
+    mends-s : (t : List ℕ) → Mends gf256 R marks r t → Mends gf256 R marks s t
+    mends-s = same-mends R some marks r s (h .0 .k + 5) full matched same gf256
+
+    mend-alike : Alike (mending m gf256 R r marks) (mending n gf256 R s marks)
     mend-alike = (
       refl,
       (λ f j l. same-mendable R some marks r s (h .0 .k + 5) full matched same gf256 j (f j l)),
       (λ f j l. same-mendable R some marks s r (h .0 .k + 5) full' matched' back gf256 j (f j l)),
-      λ _. asked-alike (OfMended gf256 R marks r) (OfMended gf256 R marks s) (judging R)
-          (λ ask f t M. f t (same-mends R some marks s r (h .0 .k + 5) full' matched' back gf256 t M))
-          (λ ask f t M. f t (same-mends R some marks r s (h .0 .k + 5) full matched same gf256 t M)),
+      λ _. judging-alike m n R (OfMended gf256 R marks r) (OfMended gf256 R marks s) (λ ask f t M. f t (mends-r t M)) (λ ask f t M. f t (mends-s t M))
+          (λ f t M. taken-alike m n (levelOf (dataOf R t)) (takes t (mends-r t M)) (f t (mends-r t M)))
+          (λ f t M. let q = takes t M in taken-alike n m (levelOf (dataOf R t)) (q .1, q .0) (f t (mends-s t M))),
     )
 
   entered : stripNumbers a .code ≡ 0 → Hold early-r
   entered z =
-      hold-both early-r (mending gf256 R r marks)
-      (all-hold 10 (early-r ++ mending gf256 R r marks) (stripNumbers a .code) tt (A .code) z) .0
+      hold-both early-r (mending m gf256 R r marks)
+      (all-hold 10 (early-r ++ mending m gf256 R r marks) (stripNumbers a .code) tt (A .code) z) .0
 
-  moved : First (early-s ++ mending gf256 R s marks) (stripNumbers a .code)
-  moved = go (parts early-r (mending gf256 R r marks) (stripNumbers a .code) (A .code))
+  moved : First (early-s ++ mending n gf256 R s marks) (stripNumbers a .code)
+  moved = go (parts early-r (mending m gf256 R r marks) (stripNumbers a .code) (A .code))
     where
       go : ((Hold early-r → ⊥) × First early-r (stripNumbers a .code))
-          ⊎ (Hold early-r × First (mending gf256 R r marks) (stripNumbers a .code))
-          → First (early-s ++ mending gf256 R s marks) (stripNumbers a .code)
+          ⊎ (Hold early-r × First (mending m gf256 R r marks) (stripNumbers a .code))
+          → First (early-s ++ mending n gf256 R s marks) (stripNumbers a .code)
       go (inl q) =
-          before early-s (mending gf256 R s marks) (stripNumbers a .code) (λ z. q .0 (entered z))
+          before early-s (mending n gf256 R s marks) (stripNumbers a .code) (λ z. q .0 (entered z))
           (first-alike early-r early-s (stripNumbers a .code) enter-alike (q .1))
       go (inr q) =
-          after early-s (mending gf256 R s marks) (stripNumbers a .code) (
+          after early-s (mending n gf256 R s marks) (stripNumbers a .code) (
             subst (Legal R) (same .same-length) (q .0 .0),
             (
               q .0 .1 .0
@@ -127,10 +141,10 @@ module _ (R : ℕ) (some : 0 < R) (short : columns R 364 + 5 ≤ 255) (x y : ℕ
               (q .0 .1 .1 .0, (q .0 .1 .1 .1 .0, (room .0 (q .0 .1 .1 .1 .1 .0), tt))),
             ),
           )
-          (first-alike (mending gf256 R r marks) (mending gf256 R s marks) (stripNumbers a .code) (mend-alike (q .0)) (q .1))
+          (first-alike (mending m gf256 R r marks) (mending n gf256 R s marks) (stripNumbers a .code) (mend-alike (q .0)) (q .1))
 
   codes : stripNumbers a .code ≡ stripNumbers b .code
-  codes = first-fixes (early-s ++ mending gf256 R s marks) (stripNumbers a .code) (stripNumbers b .code) moved (B .code)
+  codes = first-fixes (early-s ++ mending n gf256 R s marks) (stripNumbers a .code) (stripNumbers b .code) moved (B .code)
 
   -- the lowest lane is one
   lowest : Hold early-r → (i j : ℕ) → Lowest gf256 R marks r i → Lowest gf256 R marks s j → i ≡ j
@@ -146,10 +160,10 @@ module _ (R : ℕ) (some : 0 < R) (short : columns R 364 + 5 ≤ 255) (x y : ℕ
 
   -- 6 is told of a picture, not before
   looked-at : stripNumbers a .code ≡ 6 → Hold early-r
-  looked-at e = go (parts early-r (mending gf256 R r marks) (stripNumbers a .code) (A .code))
+  looked-at e = go (parts early-r (mending m gf256 R r marks) (stripNumbers a .code) (A .code))
     where
       go : ((Hold early-r → ⊥) × First early-r (stripNumbers a .code))
-          ⊎ (Hold early-r × First (mending gf256 R r marks) (stripNumbers a .code))
+          ⊎ (Hold early-r × First (mending m gf256 R r marks) (stripNumbers a .code))
           → Hold early-r
       go (inl q) = absurd (omega (arith, e, at-most 5 early-r (stripNumbers a .code) tt (q .1)))
       go (inr q) = q .0
@@ -162,17 +176,31 @@ module _ (R : ℕ) (some : 0 < R) (short : columns R 364 + 5 ≤ 255) (x y : ℕ
       go (no n) = A .other-lane n ∙ sym (B .other-lane (λ z. n (codes ∙ z)))
 
   module _ (z : stripNumbers a .code ≡ 0) where
-    za : LevelRead gf256 R r marks tiles t1 (stripNumbers a)
+    za : LevelRead gf256 m R r marks tiles t1 (stripNumbers a)
     za = A .level z
 
-    zb : LevelRead gf256 R s marks tiles t2 (stripNumbers b)
+    zb : LevelRead gf256 n R s marks tiles t2 (stripNumbers b)
     zb = B .level (sym codes ∙ z)
 
     h : Hold early-r
     h = entered z
 
-    reached : Reached gf256 R marks s (returned (stripNumbers a) t1) (za .strip)
-    reached = same-reached R some marks r s (h .0 .k + 5) (full h) (matched h) same gf256 (returned (stripNumbers a) t1) (za .strip) (za .reached)
+    -- its version is that of the mended strip, which the other takes too
+    spells : levelOf (dataOf R (za .strip)) ≡ returned (stripNumbers a) t1
+    spells =
+        reached-spells gf256 field256 (omega arith) R some marks r (za .strip) (h .0 .k) (full h) (omega (arith, h .0 .to, short))
+        (reached-mends gf256 field256 R some marks r (returned (stripNumbers a) t1) (za .strip) (za .reached)) (returned (stripNumbers a) t1) (za .strip)
+        (za .reached)
+
+    early : returned (stripNumbers a) t1 .version ≤ n
+    early =
+        subst (λ (l : Level). TakeAlike m n (l .version)) spells
+        (takes (za .strip) (reached-mends gf256 field256 R some marks r (returned (stripNumbers a) t1) (za .strip) (za .reached))) .0 (za .reached .in-time)
+
+    reached : Reached gf256 R n marks s (returned (stripNumbers a) t1) (za .strip)
+    reached =
+        same-reached R some marks r s (h .0 .k + 5) (full h) (matched h) same gf256 (returned (stripNumbers a) t1) (za .strip)
+        (record { is-level = za .reached .is-level; in-time = early; is-strip = za .reached .is-strip; reach = za .reached .reach })
 
     level : returned (stripNumbers a) t1 ≡ returned (stripNumbers b) t2
     level = zb .only (returned (stripNumbers a) t1) (za .strip) reached
@@ -201,8 +229,8 @@ module _ (R : ℕ) (some : 0 < R) (short : columns R 364 + 5 ≤ 255) (x y : ℕ
 
     read-numbers : butRepainted (stripNumbers a) ≡ butRepainted (stripNumbers b)
     read-numbers =
-        same-numbers (stripNumbers a) (stripNumbers b) codes lanes wides highs (ap (λ (l : Level). l .par) level) mendeds
-        wears
+        same-numbers (stripNumbers a) (stripNumbers b) codes lanes (ap (λ (l : Level). l .version) level) wides highs (ap (λ (l : Level). l .par) level)
+        mendeds wears
 
     read-tiles : t1 ≡ t2
     read-tiles =
@@ -222,23 +250,23 @@ module _ (R : ℕ) (some : 0 < R) (short : columns R 364 + 5 ≤ 255) (x y : ℕ
   )
 
 -- two readings of one strip
-module _ (R : ℕ) (some : 0 < R) (short : columns R 364 + 5 ≤ 255) (x y : ℕ) (s marks tiles t1 t2 u u' v v' : List ℕ)
-    (room : EnoughAlike x y u v) (a b : Reading) (A : ReadsWith x R s marks tiles t1 u u' a)
-    (B : ReadsWith y R s marks tiles t2 v v' b) where
+module _ (m n R : ℕ) (some : 0 < R) (short : columns R 364 + 5 ≤ 255) (x y : ℕ) (s marks tiles t1 t2 u u' v v' : List ℕ)
+    (room : EnoughAlike x y u v) (takes : VersionAlike m n R marks s) (a b : Reading) (A : ReadsWith m x R s marks tiles t1 u u' a)
+    (B : ReadsWith n y R s marks tiles t2 v v' b) where
   itself : SameRead marks s s
   itself = read-itself marks s
 
   one-code : stripNumbers a .code ≡ stripNumbers b .code
-  one-code = codes R some short x y s s marks tiles t1 t2 u u' v v' itself room a b A B
+  one-code = codes m n R some short x y s s marks tiles t1 t2 u u' v v' itself room takes a b A B
 
   -- what is repainted is counted against one strip
   one-repainted : stripNumbers a .repainted ≡ stripNumbers b .repainted
   one-repainted =
       either (stripNumbers a .repainted ≡ stripNumbers b .repainted) (stripNumbers a .code)
-      (λ z. za R some short x y s s marks tiles t1 t2 u u' v v' itself room a b A B z .repainted-is ∙ ap (repaintedOf R marks s) (strips R some short x y s s marks tiles t1 t2 u u' v v' itself room a b A B z) ∙ sym (zb R some short x y s s marks tiles t1 t2 u u' v v' itself room a b A B z .repainted-is))
+      (λ z. za m n R some short x y s s marks tiles t1 t2 u u' v v' itself room takes a b A B z .repainted-is ∙ ap (repaintedOf R marks s) (strips m n R some short x y s s marks tiles t1 t2 u u' v v' itself room takes a b A B z) ∙ sym (zb m n R some short x y s s marks tiles t1 t2 u u' v v' itself room takes a b A B z .repainted-is))
       (λ n. ap (λ (x : ReadNumbers). x .repainted) (zeros a n) ∙ sym (ap (λ (x : ReadNumbers). x .repainted) (zeros b (λ z. n (one-code ∙ z)))))
 
   pub read-once : (t1 ≡ t2) × (stripNumbers a ≡ stripNumbers b)
   read-once =
-      let q = read-alike R some short x y s s marks tiles t1 t2 u u' v v' itself room a b A B in
+      let q = read-alike m n R some short x y s s marks tiles t1 t2 u u' v v' itself room takes a b A B in
       (q .0, all-numbers (stripNumbers a) (stripNumbers b) (q .1) one-repainted)

@@ -117,10 +117,10 @@ module _ (R : ℕ) (l : Level) (old : List ℕ) where
   pub wrote-none : (c : ℕ) → (c ≡ 0 → ⊥) → First (writingLevel stripMost l (length old)) c → StripWritesAs R l old old (written.Refused c)
   wrote-none c n f = record { code = f; value = λ z. absurd (n z); strip = λ z. absurd (n z); past = λ z. absurd (n z); kept = λ _. refl }
 
-  pub wrote-strip : (new : List ℕ) (c n : ℕ) → stripMost ≤ length old → c ≡ 0 → First (asked (λ ask. ask l) lending) c → LaidAs R l old new n
+  pub wrote-strip : (new : List ℕ) (c n : ℕ) → stripMost ≤ length old → c ≡ 0 → First (asked (λ ask. ask l) (lending 2)) c → LaidAs R l old new n
       → StripWritesAs R l old new (written.Length n)
   wrote-strip new c n room z f L = record {
-    code = inr (room, subst (First (asked (λ ask. ask l) lending)) z f);
+    code = inr (room, subst (First (asked (λ ask. ask l) (lending 2))) z f);
     value = λ _. L .size;
     strip = λ _. L .strip;
     past = λ _. L .past;

@@ -23,14 +23,15 @@ use Rattle.strip.specs.declared.read.Reading.{Reading}
 use Rattle.strip.specs.declared.read.Reading.the-variants as reading
 use Rattle.strip.specs.Reading.{stripNumbers, LevelRead, StripReadsAs, FinishedAs}
 
-module _ (R : ℕ) where
+module _ (upto R : ℕ) where
   -- ---- with what was mended and repainted
 
-  module _ (bs tiles tiles' : List ℕ) (N e d : ℕ) (j : Judged) (A : AcceptedAs R bs tiles tiles' j) where
-    pub finish-refused : (j .code ≡ 0 → ⊥) → FinishedAs R bs N e d tiles tiles' (refusedAt (j .code) 0)
+  module _ (bs tiles tiles' : List ℕ) (N e d : ℕ) (j : Judged) (A : AcceptedAs upto R bs tiles tiles' j) where
+    pub finish-refused : (j .code ≡ 0 → ⊥) → FinishedAs upto R bs N e d tiles tiles' (refusedAt (j .code) 0)
     finish-refused n = record {
       first = A .first;
       lane = refl;
+      version = λ z. absurd (n z);
       wide = λ z. absurd (n z);
       high = λ z. absurd (n z);
       par = λ z. absurd (n z);
@@ -41,11 +42,12 @@ module _ (R : ℕ) where
       kept = A .kept;
     }
 
-    pub finish-read : (v : ℕ) → j .code ≡ 0 → IsWear e N v → FinishedAs R bs N e d tiles tiles'
-        (stripNumbers (reading.Read (j .width) (j .height) (j .par) e d v))
+    pub finish-read : (v : ℕ) → j .code ≡ 0 → IsWear e N v → FinishedAs upto R bs N e d tiles tiles'
+        (stripNumbers (reading.Read (j .version) (j .width) (j .height) (j .par) e d v))
     finish-read v z ev = record {
-      first = subst (First (asked (λ ask. ask bs) (judging R))) z (A .first);
+      first = subst (First (asked (λ ask. ask bs) (judging upto R))) z (A .first);
       lane = refl;
+      version = λ _. A .version z;
       wide = λ _. A .width z;
       high = λ _. A .height z;
       par = λ _. A .par z;
@@ -61,9 +63,9 @@ module _ (R : ℕ) where
   module _ (s marks tiles scratch : List ℕ) where
     -- refused before the picture is looked at
     pub early-as : (c : ℕ) → (c ≡ 0 → ⊥) → First (entering R s marks (length tiles) (length scratch)) c
-        → StripReadsAs R s marks tiles tiles scratch scratch (reading.Refused c 0)
+        → StripReadsAs upto R s marks tiles tiles scratch scratch (reading.Refused c 0)
     early-as c n f = record {
-      code = before (entering R s marks (length tiles) (length scratch)) (mending gf256 R s marks) c n f;
+      code = before (entering R s marks (length tiles) (length scratch)) (mending upto gf256 R s marks) c n f;
       lane = λ z. absurd (omega (arith, z, numbered 1 5 (entering R s marks (length tiles) (length scratch)) c tt f n));
       other-lane = λ _. refl;
       level = λ z. absurd (n z);
@@ -74,11 +76,11 @@ module _ (R : ℕ) where
 
     module _ (some : 0 < R) (short : columns R 364 + 5 ≤ 255) (scratch' : List ℕ) (h : Hold (entering R s marks (length tiles) (length scratch))) where
       -- a lane is beyond reach
-      pub lane-as : (j : ℕ) → Lowest gf256 R marks s j → StripReadsAs R s marks tiles tiles scratch scratch' (reading.Refused 6 j)
+      pub lane-as : (j : ℕ) → Lowest gf256 R marks s j → StripReadsAs upto R s marks tiles tiles scratch scratch' (reading.Refused 6 j)
       lane-as j low = record {
         code =
-            after (entering R s marks (length tiles) (length scratch)) (mending gf256 R s marks) 6 h
-            (stops 0 (mending gf256 R s marks) 6 ((λ f. low .beyond (f j (low .lane-below))), refl));
+            after (entering R s marks (length tiles) (length scratch)) (mending upto gf256 R s marks) 6 h
+            (stops 0 (mending upto gf256 R s marks) 6 ((λ f. low .beyond (f j (low .lane-below))), refl));
         lane = λ _. low;
         other-lane = λ n. absurd (n refl);
         level = λ z. absurd (omega arith);
@@ -89,55 +91,54 @@ module _ (R : ℕ) where
 
       -- all are mended: 7 to 10, or the level
       module _ (t : List ℕ) (M : Mends gf256 R marks s t) (e d : ℕ) (counted : e ≡ mendedOf R marks s t)
-          (painted : d ≡ repaintedOf R marks s t) (tiles' : List ℕ) (a : Reading) (F : FinishedAs R (dataOf R t) (length s) e d tiles tiles' (stripNumbers a)) where
+          (painted : d ≡ repaintedOf R marks s t) (tiles' : List ℕ) (a : Reading) (F : FinishedAs upto R (dataOf R t) (length s) e d tiles tiles' (stripNumbers a)) where
         full : length s ≡ R * (h .0 .k + 5)
         full = h .0 .cells
 
         shorter : h .0 .k + 5 ≤ 255
         shorter = omega (arith, h .0 .to, short)
 
-        level-as : stripNumbers a .code ≡ 0 → LevelRead gf256 R s marks tiles tiles' (stripNumbers a)
+        level-as : stripNumbers a .code ≡ 0 → LevelRead gf256 upto R s marks tiles tiles' (stripNumbers a)
         level-as z = record {
           strip = t;
           reached =
-              subst (λ (l : Level). Reached gf256 R marks s l t) same
+              subst (λ (l : Level). Reached gf256 R upto marks s l t) same
               (level-reached gf256 field256 (omega arith) R some marks s t (h .0 .k) full shorter M good);
           only = λ l u q. sym (reached-spells gf256 field256 (omega arith) R some marks s t (h .0 .k) full shorter M l u q) ∙ same;
           mended-is = F .mended z ∙ counted;
           repainted-is = F .repainted z ∙ painted;
           wear-is = subst (λ (x : ℕ). IsWear x (length s) (stripNumbers a .wear)) (sym (F .mended z)) (F .wear z);
           rest =
-              tiles-past (dataOf R t) tiles tiles' (stripNumbers a .width) (stripNumbers a .height) (stripNumbers a .par) (F .wide z) (F .high z) (F .par z)
+              tiles-past (dataOf R t) tiles tiles' (stripNumbers a .version) (stripNumbers a .width) (stripNumbers a .height) (stripNumbers a .par) (F .version z) (F .wide z) (F .high z) (F .par z)
               (F .tiles-are z);
         }
           where
-            good : Hold (asked (λ ask. ask (dataOf R t)) (judging R))
-            good = passed R (dataOf R t) (stripNumbers a .code) z (F .first)
+            good : Hold (asked (λ ask. ask (dataOf R t)) (judging upto R))
+            good = passed upto R (dataOf R t) (stripNumbers a .code) z (F .first)
 
             same : levelOf (dataOf R t) ≡ returned (stripNumbers a) tiles'
             same =
-                level-is (dataOf R t) tiles tiles' (stripNumbers a .width) (stripNumbers a .height) (stripNumbers a .par) (F .wide z) (F .high z) (F .par z)
+                level-is (dataOf R t) tiles tiles' (stripNumbers a .version) (stripNumbers a .width) (stripNumbers a .height) (stripNumbers a .par) (F .version z) (F .wide z) (F .high z) (F .par z)
                 (F .tiles-are z)
-                (passed R (dataOf R t) (stripNumbers a .code) z (F .first) .0)
 
-        pub finished-as : StripReadsAs R s marks tiles tiles' scratch scratch' a
+        pub finished-as : StripReadsAs upto R s marks tiles tiles' scratch scratch' a
         finished-as = record {
           code =
-              after (entering R s marks (length tiles) (length scratch)) (mending gf256 R s marks) (stripNumbers a .code) h
+              after (entering R s marks (length tiles) (length scratch)) (mending upto gf256 R s marks) (stripNumbers a .code) h
               (inr (
                 mendable gf256 field256 R some marks s t M,
-                found gf256 field256 (omega arith) R some marks s t (h .0 .k) full shorter M (stripNumbers a .code) (F .first),
+                found gf256 field256 (omega arith) R some marks s t (h .0 .k) full shorter M upto (stripNumbers a .code) (F .first),
               ));
           lane =
               λ z. absurd (omega (
                 arith,
                 z,
-                numbered 7 10 (asked (λ ask. ask (dataOf R t)) (judging R)) (stripNumbers a .code) tt (F .first)
+                numbered 7 10 (asked (λ ask. ask (dataOf R t)) (judging upto R)) (stripNumbers a .code) tt (F .first)
                     (λ y. omega (arith, y, z)),
               ));
           other-lane = λ _. F .lane;
           level = level-as;
-          no-level = λ _ n. none-reached gf256 field256 (omega arith) R some marks s t (h .0 .k) full shorter M (stripNumbers a .code) n (F .first);
+          no-level = λ _ n. none-reached gf256 field256 (omega arith) R some marks s t (h .0 .k) full shorter M upto (stripNumbers a .code) n (F .first);
           tiles-kept = F .kept;
           scratch-kept = λ n. absurd (n h);
         }
@@ -160,5 +161,5 @@ module _ (s cells bytes : List ℕ) (count : ℕ) where
 
 -- with a refusal all but the code and the lane is zero
 pub zeros : (x : Reading) → stripNumbers x .code ≢ 0 → stripNumbers x ≡ refusedAt (stripNumbers x .code) (stripNumbers x .lane)
-zeros (reading.Read w h p e d v) n = absurd (n refl)
+zeros (reading.Read x w h p e d v) n = absurd (n refl)
 zeros (reading.Refused c j) n = refl

@@ -14,21 +14,23 @@ use Rattle.account.proofs.Runs.{differing-in-run, repainted-in-run, unmarked-wr
 use Rattle.gf256.specs.Gf256.{gf256}
 use Rattle.gf256.proofs.Field256.{field256}
 use Rattle.rules.specs.Refusal.{First, Hold, asked}
-use Rattle.rules.proofs.Laws.{first-fixes, all-hold, after, hold-both, numbered, decided, either}
+use Rattle.rules.proofs.Laws.{first-fixes, all-hold, after, rest, hold-both, numbered, decided, either}
 use Rattle.code.specs.Word.{writtenNumbers}
 use Rattle.code.specs.declared.word.Written.{Written}
 use Rattle.code.proofs.Answers.{written-zero}
 use Rattle.level.specs.Sizes.{stripMost, scratchLeast}
-use Rattle.level.specs.Level.{Level, IsLevel, Counted, lending}
-use Rattle.level.specs.Record.{recordLength}
-use Rattle.level.specs.Strip.{columns, Legal, IsStrip, StripReach, Reached, Mendable, wrongIn, markedIn, mendedOf, repaintedOf, IsWear}
-use Rattle.level.specs.Reading.{ReadNumbers, butRepainted, returned, entering, mending}
+use Rattle.level.specs.Level.{Level, IsLevel, newest, Counted, Coded, lending}
+use Rattle.level.specs.Record.{fieldAt, recordLength}
+use Rattle.level.specs.Strip.{columns, Legal, IsStrip, StripReach, Reached, Mends, Mendable, wrongIn, markedIn, mendedOf, repaintedOf, IsWear}
+use Rattle.level.specs.Reading.{ReadNumbers, butRepainted, returned, levelOf, dataOf, OfMended, entering, mending}
 use Rattle.level.specs.Writing.{writingLevel}
 use Rattle.level.proofs.Dealing.{columns-more, lanes-short}
 use Rattle.level.proofs.Counts.{legal-some, most-or-one}
-use Rattle.level.proofs.Strips.{strip-size, same-strip, six-beyond}
+use Rattle.level.proofs.Strips.{strip-size, same-strip, one-mended, mendable, six-beyond}
+use Rattle.level.proofs.Versions.{but-two}
 use Rattle.level.proofs.Runs.{lanes-reach, wrong-in-run, marked-in-run, run-wrong, run-marked, six-marks, runs-reach}
-use Rattle.level.proofs.Mended.{board-found}
+use Rattle.level.proofs.Judged.{late-coded, not-nine}
+use Rattle.level.proofs.Mended.{reached-spells, board-found}
 use Rattle.level.proofs.Theorems as levels
 use Rattle.lending.proofs.Lent.{written-level, level-written}
 use Rattle.strip.specs.declared.read.Reading.{Reading}
@@ -48,43 +50,75 @@ module _ (R : ℕ) (two : 2 ≤ R) where
 
   -- ---- reading
 
-  -- FORMAT 11.1, 11.2: any strip of legal length, whatever its cells hold and whichever are marked, with buffers long enough:
-  module _ (s marks tiles tiles' scratch scratch' : List ℕ) (h : Hold (entering R s marks (length tiles) (length scratch)))
-      (a : Reading) (A : StripReadsAs R s marks tiles tiles' scratch scratch' a) where
-    -- where a level has a strip of that length within reach, one is returned;
-    pub read-when-reached : (l : Level) (t : List ℕ) → Reached gf256 R marks s l t → stripNumbers a .code ≡ 0
+  -- FORMAT 11.1, 11.2: any strip of legal length, whatever its cells hold and whichever are marked, with buffers long enough, read by a reader of
+  -- versions up to one of them:
+  module _ (upto : ℕ) (s marks tiles tiles' scratch scratch' : List ℕ) (h : Hold (entering R s marks (length tiles) (length scratch)))
+      (a : Reading) (A : StripReadsAs upto R s marks tiles tiles' scratch scratch' a) where
+    -- where a level of those versions has a strip of that length within reach, one is returned;
+    pub read-when-reached : (l : Level) (t : List ℕ) → Reached gf256 R upto marks s l t → stripNumbers a .code ≡ 0
     read-when-reached l t q = either (stripNumbers a .code ≡ 0) (stripNumbers a .code) (λ z. z) (λ n. absurd (A .no-level h n l t q))
 
-    -- FORMAT 9.54: where the strip of a board, a level or not, is within reach, the strip is refused as a writer refuses the board, with lane 0.
+    -- FORMAT 9.54: where the strip of a board, a level or not, is within reach, the strip is refused as a writer of the same versions refuses
+    -- the board, with lane 0.
     pub board-read-alike : (l : Level) (t : List ℕ) → Counted l → IsStrip gf256 R l t → StripReach R marks s t → (c : ℕ)
-        → First (asked (λ ask. ask l) lending) c → (stripNumbers a .code ≡ c) × (stripNumbers a .lane ≡ 0)
+        → First (asked (λ ask. ask l) (lending upto)) c → (stripNumbers a .code ≡ c) × (stripNumbers a .lane ≡ 0)
     board-read-alike l t co st reach c f = (code, A .other-lane (λ e. not-six (sym code ∙ e)))
       where
         code : stripNumbers a .code ≡ c
         code =
-            first-fixes (entering R s marks (length tiles) (length scratch) ++ mending gf256 R s marks) (stripNumbers a .code) c (A .code)
-            (after (entering R s marks (length tiles) (length scratch)) (mending gf256 R s marks) c h
-            (board-found gf256 field256 (omega arith) R some marks s t (h .0 .k) (h .0 .cells) (omega (arith, h .0 .to, short)) l co st reach c f))
+            first-fixes (entering R s marks (length tiles) (length scratch) ++ mending upto gf256 R s marks) (stripNumbers a .code) c (A .code)
+            (after (entering R s marks (length tiles) (length scratch)) (mending upto gf256 R s marks) c h
+            (board-found gf256 field256 (omega arith) R some marks s t (h .0 .k) (h .0 .cells) (omega (arith, h .0 .to, short)) l co st reach upto c f))
 
         not-six : c ≢ 6
-        not-six = either (c ≢ 6) c (λ z e. omega arith) (λ n e. omega (arith, numbered 7 10 (asked (λ ask. ask l) lending) c tt f n))
+        not-six = either (c ≢ 6) c (λ z e. omega arith) (λ n e. omega (arith, numbered 7 10 (asked (λ ask. ask l) (lending upto)) c tt f n))
 
     -- FORMAT 11.2 to 11.7: and one is returned only then: it is such a level, and no other is. With it: mended, repainted, wear, the other tile bytes.
-    pub reached-when-read : stripNumbers a .code ≡ 0 → LevelRead gf256 R s marks tiles tiles' (stripNumbers a)
+    pub reached-when-read : stripNumbers a .code ≡ 0 → LevelRead gf256 upto R s marks tiles tiles' (stripNumbers a)
     reached-when-read = A .level
 
     -- FORMAT 9.6: where a lane cannot be mended, the strip is refused with 6.
     pub beyond-is-six : (j : ℕ) → j < R → (Mendable gf256 R marks s j → ⊥) → stripNumbers a .code ≡ 6
     beyond-is-six j hj n =
-        first-fixes (entering R s marks (length tiles) (length scratch) ++ mending gf256 R s marks) (stripNumbers a .code) 6 (A .code)
-        (after (entering R s marks (length tiles) (length scratch)) (mending gf256 R s marks) 6 h (inl ((λ all. n (all j hj)), refl)))
+        first-fixes (entering R s marks (length tiles) (length scratch) ++ mending upto gf256 R s marks) (stripNumbers a .code) 6 (A .code)
+        (after (entering R s marks (length tiles) (length scratch)) (mending upto gf256 R s marks) 6 h (inl ((λ all. n (all j hj)), refl)))
+
+    -- FORMAT 9.7: and a version that is not taken is refused with 7, whatever else there is to refuse of the mended record.
+    pub version-refused : (t : List ℕ) → Mends gf256 R marks s t → (fieldAt (dataOf R t) 0 4 ≤ upto → ⊥) → stripNumbers a .code ≡ 7
+    version-refused t M late =
+        first-fixes (entering R s marks (length tiles) (length scratch) ++ mending upto gf256 R s marks) (stripNumbers a .code) 7 (A .code)
+        (after (entering R s marks (length tiles) (length scratch)) (mending upto gf256 R s marks) 7 h
+        (inr (mendable gf256 field256 R some marks s t M, inl ((λ f. late (f t M .in-time)), refl))))
+
+    -- FORMAT 9.55: 9 does not arise where the strip is mended to a record of version 2.
+    pub v2-coded : (t : List ℕ) → Mends gf256 R marks s t → fieldAt (dataOf R t) 0 4 ≡ 2 → stripNumbers a .code ≢ 9
+    v2-coded t M second nine =
+        go (rest (entering R s marks (length tiles) (length scratch)) (mending upto gf256 R s marks) 9 h
+        (subst (First (entering R s marks (length tiles) (length scratch) ++ mending upto gf256 R s marks)) nine (A .code)))
+      where
+        coded : OfMended gf256 R marks s (λ bs. Coded (levelOf bs))
+        coded u N =
+            subst (λ (x : List ℕ). Coded (levelOf (dataOf R x)))
+            (one-mended gf256 field256 R some marks s (h .0 .k + 5) (h .0 .cells) (omega (arith, h .0 .to, short)) t u M N)
+            (late-coded (dataOf R t) (omega (arith, second)))
+
+        go : First (mending upto gf256 R s marks) 9 → ⊥
+        go (inl p) = omega (arith, p .1)
+        go (inr (all, f)) = not-nine upto R (OfMended gf256 R marks s) coded f
 
   -- FORMAT 7.15, 7.16, 7.19: wear is at most 33, mended at most twice the lanes, and repainted five times.
-  module _ (s marks tiles tiles' scratch scratch' : List ℕ) (a : Reading) (A : StripReadsAs R s marks tiles tiles' scratch scratch' a) where
+  module _ (upto : ℕ) (s marks tiles tiles' scratch scratch' : List ℕ) (a : Reading) (A : StripReadsAs upto R s marks tiles tiles' scratch scratch' a) where
     entered-when-read : stripNumbers a .code ≡ 0 → Hold (entering R s marks (length tiles) (length scratch))
     entered-when-read z =
-        hold-both (entering R s marks (length tiles) (length scratch)) (mending gf256 R s marks)
-        (all-hold 10 (entering R s marks (length tiles) (length scratch) ++ mending gf256 R s marks) (stripNumbers a .code) tt (A .code) z) .0
+        hold-both (entering R s marks (length tiles) (length scratch)) (mending upto gf256 R s marks)
+        (all-hold 10 (entering R s marks (length tiles) (length scratch) ++ mending upto gf256 R s marks) (stripNumbers a .code) tt (A .code) z) .0
+
+    -- the version returned is that of what the strip is mended to
+    mended-version : stripNumbers a .code ≡ 0 → (t : List ℕ) → Mends gf256 R marks s t → fieldAt (dataOf R t) 0 4 ≡ stripNumbers a .version
+    mended-version z t M =
+        let h = entered-when-read z in
+        ap (λ (l : Level). l .version) (reached-spells gf256 field256 (omega arith) R some marks s t (h .0 .k) (h .0 .cells) (omega (arith, h .0 .to, short)) M
+        (returned (stripNumbers a) tiles') (A .level z .strip) (A .level z .reached))
 
     pub mended-most : stripNumbers a .mended ≤ 2 * R
     mended-most =
@@ -113,28 +147,56 @@ module _ (R : ℕ) (two : 2 ≤ R) where
         (subst (λ (m : ℕ). IsWear m (length s) (stripNumbers a .wear)) e (A .level z .wear-is)))
         (λ n. ap (λ (x : ReadNumbers). x .wear) (zeros a n))
 
+  -- readers of the same versions take each alike
+  same-versions : (upto : ℕ) (marks s : List ℕ) → alike.VersionAlike upto upto R marks s
+  same-versions upto marks s t M = ((λ h. h), (λ h. h))
+
   -- scratches of one length are long enough alike
   enough-alike : (u v : List ℕ) → length u ≡ length v → alike.EnoughAlike scratchLeast scratchLeast u v
   enough-alike u v eu = ((λ h. omega (arith, eu)), (λ h. omega (arith, eu)))
 
   -- FORMAT 10.8, 10.9: the reader's promise fixes every number and every tile byte; the scratch's old bytes have no influence.
-  pub strip-reads-fixed : (s marks tiles t1 t2 u u' v v' : List ℕ) (a b : Reading) → length u ≡ length v → StripReadsAs R s marks tiles t1 u u' a
-      → StripReadsAs R s marks tiles t2 v v' b → (t1 ≡ t2) × (stripNumbers a ≡ stripNumbers b)
-  strip-reads-fixed s marks tiles t1 t2 u u' v v' a b eu A B =
-      alike.read-once R some short scratchLeast scratchLeast s marks tiles t1 t2 u u' v v' (enough-alike u v eu) a b A B
+  pub strip-reads-fixed : (upto : ℕ) (s marks tiles t1 t2 u u' v v' : List ℕ) (a b : Reading) → length u ≡ length v
+      → StripReadsAs upto R s marks tiles t1 u u' a → StripReadsAs upto R s marks tiles t2 v v' b → (t1 ≡ t2) × (stripNumbers a ≡ stripNumbers b)
+  strip-reads-fixed upto s marks tiles t1 t2 u u' v v' a b eu A B =
+      alike.read-once upto upto R some short scratchLeast scratchLeast s marks tiles t1 t2 u u' v v' (enough-alike u v eu) (same-versions upto marks s) a b A B
+
+  -- FORMAT 8.32: two readers that both take the version of what a strip is mended to, or neither, read it alike.
+  pub strip-versions-alike : (m n : ℕ) (s marks tiles t1 t2 u u' v v' : List ℕ) (a b : Reading) → length u ≡ length v → alike.VersionAlike m n R marks s
+      → StripReadsAs m R s marks tiles t1 u u' a → StripReadsAs n R s marks tiles t2 v v' b → (t1 ≡ t2) × (stripNumbers a ≡ stripNumbers b)
+  strip-versions-alike m n s marks tiles t1 t2 u u' v v' a b eu takes A B =
+      alike.read-once m n R some short scratchLeast scratchLeast s marks tiles t1 t2 u u' v v' (enough-alike u v eu) takes a b A B
+
+  -- FORMAT 8.32: so the reader of version 1 and the one of every version do where that version is not 2.
+  pub strip-v1-alike : (s marks tiles t1 t2 u u' v v' : List ℕ) (a b : Reading) → length u ≡ length v
+      → ((t : List ℕ) → Mends gf256 R marks s t → fieldAt (dataOf R t) 0 4 ≢ 2)
+      → StripReadsAs newest R s marks tiles t1 u u' a → StripReadsAs 1 R s marks tiles t2 v v' b → (t1 ≡ t2) × (stripNumbers a ≡ stripNumbers b)
+  strip-v1-alike s marks tiles t1 t2 u u' v v' a b eu other =
+      strip-versions-alike newest 1 s marks tiles t1 t2 u u' v v' a b eu (λ t M. but-two (fieldAt (dataOf R t) 0 4) (other t M))
+
+  -- in particular where either reads it as a level of version 1
+  pub strip-v1-same : (s marks tiles t1 t2 u u' v v' : List ℕ) (a b : Reading) → length u ≡ length v
+      → StripReadsAs newest R s marks tiles t1 u u' a → StripReadsAs 1 R s marks tiles t2 v v' b
+      → ((stripNumbers a .code ≡ 0) × (stripNumbers a .version ≡ 1)) ⊎ (stripNumbers b .code ≡ 0)
+      → (t1 ≡ t2) × (stripNumbers a ≡ stripNumbers b)
+  strip-v1-same s marks tiles t1 t2 u u' v v' a b eu A B reads =
+      strip-v1-alike s marks tiles t1 t2 u u' v v' a b eu (λ t M. ⊎-elim (λ q e.
+      omega (arith, e, q .1, mended-version newest s marks tiles t1 u u' a A (q .0) t M)) (λ z e.
+      omega (arith, e, B .level z .reached .in-time, mended-version 1 s marks tiles t2 v v' b B z t M)) reads) A B
 
   -- FORMAT 10.10: of two readers, one asks for x bytes of scratch and one for y, and each is lent enough: the same numbers and tile bytes.
-  pub any-scratch : (x y : ℕ) (s marks tiles t1 t2 u u' v v' : List ℕ) (a b : Reading) → x ≤ length u → y ≤ length v
-      → ReadsWith x R s marks tiles t1 u u' a → ReadsWith y R s marks tiles t2 v v' b → (t1 ≡ t2) × (stripNumbers a ≡ stripNumbers b)
-  any-scratch x y s marks tiles t1 t2 u u' v v' a b hx hy A B =
-      alike.read-once R some short x y s marks tiles t1 t2 u u' v v' ((λ _. hy), (λ _. hx)) a b A B
+  pub any-scratch : (upto x y : ℕ) (s marks tiles t1 t2 u u' v v' : List ℕ) (a b : Reading) → x ≤ length u → y ≤ length v
+      → ReadsWith upto x R s marks tiles t1 u u' a → ReadsWith upto y R s marks tiles t2 v v' b → (t1 ≡ t2) × (stripNumbers a ≡ stripNumbers b)
+  any-scratch upto x y s marks tiles t1 t2 u u' v v' a b hx hy A B =
+      alike.read-once upto upto R some short x y s marks tiles t1 t2 u u' v v' ((λ _. hy), (λ _. hx)) (same-versions upto marks s) a b A B
 
   -- FORMAT 11.11: the bytes under marks influence repainted, and no other number and no tile.
-  pub under-marks : (r s marks tiles t1 t2 u u' v v' : List ℕ) (a b : Reading) → SameRead marks r s → length u ≡ length v
-      → StripReadsAs R r marks tiles t1 u u' a
-      → StripReadsAs R s marks tiles t2 v v' b → (t1 ≡ t2) × (butRepainted (stripNumbers a) ≡ butRepainted (stripNumbers b))
-  under-marks r s marks tiles t1 t2 u u' v v' a b same eu A B =
-      alike.read-alike R some short scratchLeast scratchLeast r s marks tiles t1 t2 u u' v v' same (enough-alike u v eu) a b A B
+  pub under-marks : (upto : ℕ) (r s marks tiles t1 t2 u u' v v' : List ℕ) (a b : Reading) → SameRead marks r s → length u ≡ length v
+      → StripReadsAs upto R r marks tiles t1 u u' a
+      → StripReadsAs upto R s marks tiles t2 v v' b → (t1 ≡ t2) × (butRepainted (stripNumbers a) ≡ butRepainted (stripNumbers b))
+  under-marks upto r s marks tiles t1 t2 u u' v v' a b same eu A B =
+      alike.read-alike upto upto R some short scratchLeast scratchLeast r s marks tiles t1 t2 u u' v v' same (enough-alike u v eu)
+      (same-versions upto marks r) a b A B
 
   -- ---- writing
 
@@ -151,7 +213,7 @@ module _ (R : ℕ) (two : 2 ≤ R) where
 
       same : writtenNumbers a .code ≡ 0 → u ≡ v
       same z =
-          let il = written-level l stripMost (length old) (writtenNumbers a .code) z (A .code) .1 in
+          let il = written-level 2 l stripMost (length old) (writtenNumbers a .code) z (A .code) .1 in
           sym (take-append-drop (stripLength R l) u)
           ∙ ap₂ (λ (x y : List ℕ). x ++ y)
           (levels.one-strip gf256 field256 R some l (take (stripLength R l) u) (take (stripLength R l) v) il
@@ -163,25 +225,25 @@ module _ (R : ℕ) (two : 2 ≤ R) where
   pub level-strip-written : (l : Level) (old new : List ℕ) (a : Written) → IsLevel l → stripMost ≤ length old → StripWritesAs R l old new a
       → writtenNumbers a .code ≡ 0
   level-strip-written l old new a il room A =
-      first-fixes (writingLevel stripMost l (length old)) (writtenNumbers a .code) 0 (A .code) (level-written l stripMost (length old) room il)
+      first-fixes (writingLevel stripMost l (length old)) (writtenNumbers a .code) 0 (A .code) (level-written 2 l stripMost (length old) room il (il .ranged .known .to))
 
   pub written-strip-level : (l : Level) (old new : List ℕ) (a : Written) → StripWritesAs R l old new a → writtenNumbers a .code ≡ 0 → IsLevel l
-  written-strip-level l old new a A z = written-level l stripMost (length old) (writtenNumbers a .code) z (A .code) .1
+  written-strip-level l old new a A z = written-level 2 l stripMost (length old) (writtenNumbers a .code) z (A .code) .1
 
   -- ---- strips that we read, with buffers that are long enough
 
   good-none : (marks : List ℕ) → NoMarks marks → GoodMarks marks
   good-none marks none p l = omega (arith, none p)
 
-  unworn : (s marks : List ℕ) → Answers R s marks (λ x tiles'. x .mended ≡ 0 → x .wear ≡ 0)
-  unworn s marks r = wear-none s marks (r .tiles) (r .tiles') (r .scratch) (r .scratch') (r .answer) (r .promise)
+  unworn : (upto : ℕ) (s marks : List ℕ) → Answers upto R s marks (λ x tiles'. x .mended ≡ 0 → x .wear ≡ 0)
+  unworn upto s marks r = wear-none upto s marks (r .tiles) (r .tiles') (r .scratch) (r .scratch') (r .answer) (r .promise)
 
-  module _ (s marks : List ℕ) (legal : Legal R (length s)) (matched : length marks ≡ length s) (good : GoodMarks marks) where
-    entered : (r : WeRead R s marks) → Hold (entering R s marks (length (r .tiles)) (length (r .scratch)))
+  module _ (upto : ℕ) (s marks : List ℕ) (legal : Legal R (length s)) (matched : length marks ≡ length s) (good : GoodMarks marks) where
+    entered : (r : WeRead upto R s marks) → Hold (entering R s marks (length (r .tiles)) (length (r .scratch)))
     entered r = (legal, (matched, (good, (r .room, (r .room', tt)))))
 
-    told-six : (j : ℕ) → j < R → (Mendable gf256 R marks s j → ⊥) → Answers R s marks (λ x tiles'. x .code ≡ 6)
-    told-six j hj n r = beyond-is-six s marks (r .tiles) (r .tiles') (r .scratch) (r .scratch') (entered r) (r .answer) (r .promise) j hj n
+    told-six : (j : ℕ) → j < R → (Mendable gf256 R marks s j → ⊥) → Answers upto R s marks (λ x tiles'. x .code ≡ 6)
+    told-six j hj n r = beyond-is-six upto s marks (r .tiles) (r .tiles') (r .scratch) (r .scratch') (entered r) (r .answer) (r .promise) j hj n
 
   -- ---- strips that we wrote
 
@@ -189,6 +251,10 @@ module _ (R : ℕ) (two : 2 ≤ R) where
     -- such a strip is its level's
     pub wrote-level : IsLevel l
     wrote-level = written-strip-level l (w .old) (w .new) (w .answer) (w .promise) (w .done)
+
+    -- of a version that there is
+    pub wrote-known : l .version ≤ newest
+    wrote-known = wrote-level .ranged .known .to
 
     pub wrote-strip : IsStrip gf256 R l t
     wrote-strip = subst (IsStrip gf256 R l) (sym (w .front ∙ ap (λ (n : ℕ). take n (w .new)) (w .promise .value (w .done)))) (w .promise .strip (w .done))
@@ -205,7 +271,7 @@ module _ (R : ℕ) (two : 2 ≤ R) where
         }
 
     -- a picture of it: a strip of that length, with marks
-    module _ (s marks : List ℕ) (same : length t ≡ length s) (matched : length marks ≡ length s) (good : GoodMarks marks) where
+    module _ (upto : ℕ) (s marks : List ℕ) (same : length t ≡ length s) (matched : length marks ≡ length s) (good : GoodMarks marks) where
       legal : Legal R (length s)
       legal = subst (Legal R) same wrote-legal
 
@@ -213,28 +279,30 @@ module _ (R : ℕ) (two : 2 ≤ R) where
       words = omega (arith, legal .to, short)
 
       -- FORMAT 11.8: where 2e + f is 6 in a lane, the strip is refused with 6.
-      pub refused-at-six : (j : ℕ) → j < R → 2 * wrongIn R marks s t j + markedIn R marks j ≡ 6 → Answers R s marks (λ x tiles'. x .code ≡ 6)
+      pub refused-at-six : (j : ℕ) → j < R → 2 * wrongIn R marks s t j + markedIn R marks j ≡ 6 → Answers upto R s marks (λ x tiles'. x .code ≡ 6)
       refused-at-six j hj six r =
-          told-six s marks legal matched good j hj
+          told-six upto s marks legal matched good j hj
           (six-beyond gf256 field256 R some marks s (legal .k + 5) (legal .cells) words l t j matched wrote-strip same hj six) r
 
-      -- FORMAT 11.10: with damage within reach in every lane its level is returned; mended is the number of unmarked cells that changed, and
+      -- FORMAT 11.10: with damage within reach in every lane its level is returned, where its version is taken; mended is the number of unmarked cells that changed, and
       -- repainted that of the marked ones.
-      pub damaged-read-back : StripReach R marks s t
-          → Answers R s marks (λ x tiles'. Gives l x tiles' × (x .mended ≡ differing marks s t) × (x .repainted ≡ repainted marks s t))
-      damaged-read-back reach r = (
+      pub damaged-read-back : l .version ≤ upto → StripReach R marks s t
+          → Answers upto R s marks (λ x tiles'. Gives l x tiles' × (x .mended ≡ differing marks s t) × (x .repainted ≡ repainted marks s t))
+      damaged-read-back early reach r = (
         record { read = z; level = sym (read .only l t at) },
         read .mended-is ∙ ap (mendedOf R marks s) strips ∙ levels.mended-differing R some marks s t (legal .k + 5) (legal .cells) matched same,
         read .repainted-is ∙ ap (repaintedOf R marks s) strips ∙ levels.repainted-differing R some marks s t (legal .k + 5) (legal .cells) matched same,
       )
         where
-          at : Reached gf256 R marks s l t
-          at = record { is-level = wrote-level; is-strip = wrote-strip; reach = reach }
+          at : Reached gf256 R upto marks s l t
+          at = record { is-level = wrote-level; in-time = early; is-strip = wrote-strip; reach = reach }
 
           z : stripNumbers (r .answer) .code ≡ 0
-          z = read-when-reached s marks (r .tiles) (r .tiles') (r .scratch) (r .scratch') (entered s marks legal matched good r) (r .answer) (r .promise) l t at
+          z =
+              read-when-reached upto s marks (r .tiles) (r .tiles') (r .scratch) (r .scratch') (entered upto s marks legal matched good r) (r .answer)
+              (r .promise) l t at
 
-          read : LevelRead gf256 R s marks (r .tiles) (r .tiles') (stripNumbers (r .answer))
+          read : LevelRead gf256 upto R s marks (r .tiles) (r .tiles') (stripNumbers (r .answer))
           read = r .promise .level z
 
           strips : read .strip ≡ t
@@ -243,22 +311,22 @@ module _ (R : ℕ) (two : 2 ≤ R) where
               (read .strip) t (read .reached) at
 
       -- FORMAT 11.15: with 2e + f at most 6 in every lane its level is returned, or the strip is refused with 6.
-      pub level-or-six : ((j : ℕ) → j < R → 2 * wrongIn R marks s t j + markedIn R marks j ≤ 6)
-          → Answers R s marks (λ x tiles'. Gives l x tiles' ⊎ (x .code ≡ 6))
-      level-or-six near r =
-          ⊎-elim (λ few. inl (damaged-read-back (lanes-reach R some marks s t matched same few) r .0)) (λ x. inr (refused-at-six (x .0) (x .1) (x .2) r))
+      pub level-or-six : l .version ≤ upto → ((j : ℕ) → j < R → 2 * wrongIn R marks s t j + markedIn R marks j ≤ 6)
+          → Answers upto R s marks (λ x tiles'. Gives l x tiles' ⊎ (x .code ≡ 6))
+      level-or-six early near r =
+          ⊎-elim (λ few. inl (damaged-read-back early (lanes-reach R some marks s t matched same few) r .0)) (λ x. inr (refused-at-six (x .0) (x .1) (x .2) r))
           (most-or-one R 5 (λ j. 2 * wrongIn R marks s t j + markedIn R marks j) near)
 
-  -- ---- stickers: damage to a strip that we wrote, in runs of neighbouring cells
+  -- ---- stickers: damage to a strip that we wrote, in runs of neighbouring cells, read by a reader that takes its version
 
   -- FORMAT 14.8: some cells of a run of c times R are changed, some of another of d times R are marked: its level is returned if 2c + d is at most 5.
-  pub two-runs : (l : Level) (t s marks : List ℕ) (a n c b m d : ℕ) → WeWrote R l t → length marks ≡ length s → GoodMarks marks
+  pub two-runs : (upto : ℕ) (l : Level) (t s marks : List ℕ) (a n c b m d : ℕ) → WeWrote R l t → l .version ≤ upto → length marks ≡ length s → GoodMarks marks
       → 2 * c + d ≤ 5 → n ≤ R * c → ChangedIn marks a n s t → m ≤ R * d → MarkedIn b m marks
-      → Answers R s marks (λ x tiles'. Gives l x tiles' × (x .mended ≡ differing marks s t) × (x .mended ≤ n) × (x .repainted ≡ repainted marks s t)
+      → Answers upto R s marks (λ x tiles'. Gives l x tiles' × (x .mended ≡ differing marks s t) × (x .mended ≤ n) × (x .repainted ≡ repainted marks s t)
       × (x .repainted ≤ m))
-  two-runs l t s marks a n c b m d w matched good five few changed few' only r =
+  two-runs upto l t s marks a n c b m d w early matched good five few changed few' only r =
       let same = sym (changed .same-length) in
-      let back = damaged-read-back l t w s marks same matched good (runs-reach R some marks s t matched same a n c b m d five few few' changed only) r in (
+      let back = damaged-read-back l t w upto s marks same matched good early (runs-reach R some marks s t matched same a n c b m d five few few' changed only) r in (
         back .0,
         back .1,
         omega (arith, back .1, differing-in-run marks a n s t changed),
@@ -267,40 +335,40 @@ module _ (R : ℕ) (two : 2 ≤ R) where
       )
 
   -- FORMAT 14.3: up to 2R neighbouring cells changed at will, and no marks: the same level. Mended is the number of cells that did change.
-  pub changed-run : (l : Level) (t s marks : List ℕ) (a n : ℕ) → WeWrote R l t → length marks ≡ length s → NoMarks marks
+  pub changed-run : (upto : ℕ) (l : Level) (t s marks : List ℕ) (a n : ℕ) → WeWrote R l t → l .version ≤ upto → length marks ≡ length s → NoMarks marks
       → n ≤ 2 * R → ChangedIn marks a n s t
-      → Answers R s marks (λ x tiles'. Gives l x tiles' × (x .mended ≡ countTo (differs s t) (length s)) × (x .mended ≤ n) × (x .repainted ≡ 0))
-  changed-run l t s marks a n w matched none few changed r =
+      → Answers upto R s marks (λ x tiles'. Gives l x tiles' × (x .mended ≡ countTo (differs s t) (length s)) × (x .mended ≤ n) × (x .repainted ≡ 0))
+  changed-run upto l t s marks a n w early matched none few changed r =
       let back =
-      two-runs l t s marks a n 2 0 0 0 w matched (good-none marks none) (omega arith) (omega arith) changed (omega arith) (λ p o. none p) r in
+      two-runs upto l t s marks a n 2 0 0 0 w early matched (good-none marks none) (omega arith) (omega arith) changed (omega arith) (λ p o. none p) r in
       (back .0, back .1 ∙ unmarked-differing marks s t none, back .2, omega (arith, back .4))
 
   -- FORMAT 11.9: with none changed nothing is mended, repainted or worn.
-  pub strip-read-back : (l : Level) (t marks : List ℕ) → WeWrote R l t → length marks ≡ length t → NoMarks marks
-      → Answers R t marks (λ x tiles'. Gives l x tiles' × (x .mended ≡ 0) × (x .repainted ≡ 0) × (x .wear ≡ 0))
-  strip-read-back l t marks w matched none r =
-      let back = changed-run l t t marks 0 0 w matched none (omega arith) (record { same-length = refl; outside = λ p o e. refl }) r in
+  pub strip-read-back : (upto : ℕ) (l : Level) (t marks : List ℕ) → WeWrote R l t → l .version ≤ upto → length marks ≡ length t → NoMarks marks
+      → Answers upto R t marks (λ x tiles'. Gives l x tiles' × (x .mended ≡ 0) × (x .repainted ≡ 0) × (x .wear ≡ 0))
+  strip-read-back upto l t marks w early matched none r =
+      let back = changed-run upto l t t marks 0 0 w early matched none (omega arith) (record { same-length = refl; outside = λ p o e. refl }) r in
       let unmended : stripNumbers (r .answer) .mended ≡ 0 = omega (arith, back .2) in
-      (back .0, unmended, back .3, unworn t marks r unmended)
+      (back .0, unmended, back .3, unworn upto t marks r unmended)
 
   -- FORMAT 14.4: up to 5R neighbouring cells marked, whatever stands there, and all others right: the same level, and nothing is mended.
-  pub marked-run : (l : Level) (t s marks : List ℕ) (a n : ℕ) → WeWrote R l t → length marks ≡ length s → GoodMarks marks
+  pub marked-run : (upto : ℕ) (l : Level) (t s marks : List ℕ) (a n : ℕ) → WeWrote R l t → l .version ≤ upto → length marks ≡ length s → GoodMarks marks
       → n ≤ 5 * R → MarkedIn a n marks → SameRead marks s t
-      → Answers R s marks (λ x tiles'. Gives l x tiles' × (x .mended ≡ 0) × (x .wear ≡ 0) × (x .repainted ≡ repainted marks s t) × (x .repainted ≤ n))
-  marked-run l t s marks a n w matched good few only right r =
-      let back = two-runs l t s marks 0 0 0 a n 5 w matched good (omega arith) (omega arith)
+      → Answers upto R s marks (λ x tiles'. Gives l x tiles' × (x .mended ≡ 0) × (x .wear ≡ 0) × (x .repainted ≡ repainted marks s t) × (x .repainted ≤ n))
+  marked-run upto l t s marks a n w early matched good few only right r =
+      let back = two-runs upto l t s marks 0 0 0 a n 5 w early matched good (omega arith) (omega arith)
       (record { same-length = right .same-length; outside = λ p o. right .read p }) (omega arith) only r in
       let unmended : stripNumbers (r .answer) .mended ≡ 0 = omega (arith, back .2) in
-      (back .0, unmended, unworn s marks r unmended, back .3, back .4)
+      (back .0, unmended, unworn upto s marks r unmended, back .3, back .4)
 
   -- FORMAT 14.5: one cell more is too many. A run of 2R + 1 to 3R cells, each of which did change, is refused with 6,
-  pub changed-refused : (l : Level) (t s marks : List ℕ) (a n : ℕ) → WeWrote R l t → length marks ≡ length s → NoMarks marks
+  pub changed-refused : (upto : ℕ) (l : Level) (t s marks : List ℕ) (a n : ℕ) → WeWrote R l t → length marks ≡ length s → NoMarks marks
       → 2 * R < n → n ≤ 3 * R → a + n ≤ length s → ChangedIn marks a n s t → ((p : ℕ) → InRun a n p → getD s p 0 ≢ getD t p 0)
-      → Answers R s marks (λ x tiles'. x .code ≡ 6)
-  changed-refused l t s marks a n w matched none many few ends changed all =
+      → Answers upto R s marks (λ x tiles'. x .code ≡ 6)
+  changed-refused upto l t s marks a n w matched none many few ends changed all =
       let same = sym (changed .same-length) in
       let j = mod-lt a some in
-      refused-at-six l t w s marks same matched (good-none marks none) (a % R) j
+      refused-at-six l t w upto s marks same matched (good-none marks none) (a % R) j
       (omega (
         arith,
         run-wrong R some marks s t matched same a n 2 (wrote-legal l t w .k + 5) (changed .same-length ∙ wrote-legal l t w .cells) (omega arith) ends
@@ -310,21 +378,21 @@ module _ (R : ℕ) (two : 2 ≤ R) where
       ))
 
   -- FORMAT 14.6: and any strip of legal length with a run of 5R + 1 marked cells or more is.
-  pub marked-refused : (s marks : List ℕ) (a n : ℕ) → Legal R (length s) → length marks ≡ length s → GoodMarks marks
+  pub marked-refused : (upto : ℕ) (s marks : List ℕ) (a n : ℕ) → Legal R (length s) → length marks ≡ length s → GoodMarks marks
       → 5 * R < n → a + n ≤ length s → ((p : ℕ) → InRun a n p → getD marks p 0 ≡ 1)
-      → Answers R s marks (λ x tiles'. x .code ≡ 6)
-  marked-refused s marks a n legal matched good many ends all =
-      told-six s marks legal matched good (a % R) (mod-lt a some)
+      → Answers upto R s marks (λ x tiles'. x .code ≡ 6)
+  marked-refused upto s marks a n legal matched good many ends all =
+      told-six upto s marks legal matched good (a % R) (mod-lt a some)
       (six-marks R some marks s s matched refl gf256 (a % R)
       (run-marked R some marks s s matched refl a n 5 (legal .k + 5) (legal .cells) (omega arith) ends
       (λ p u. subst (λ (m : ℕ). T (not (eqb m 0))) (sym (all p u)) tt)))
 
   -- FORMAT 14.7: up to 3R neighbouring cells changed at will, and no marks: the same level or refusal 6, and never another level.
-  pub changed-or-refused : (l : Level) (t s marks : List ℕ) (a n : ℕ) → WeWrote R l t → length marks ≡ length s → NoMarks marks
-      → n ≤ 3 * R → ChangedIn marks a n s t → Answers R s marks (λ x tiles'. Gives l x tiles' ⊎ (x .code ≡ 6))
-  changed-or-refused l t s marks a n w matched none few changed =
+  pub changed-or-refused : (upto : ℕ) (l : Level) (t s marks : List ℕ) (a n : ℕ) → WeWrote R l t → l .version ≤ upto → length marks ≡ length s → NoMarks marks
+      → n ≤ 3 * R → ChangedIn marks a n s t → Answers upto R s marks (λ x tiles'. Gives l x tiles' ⊎ (x .code ≡ 6))
+  changed-or-refused upto l t s marks a n w early matched none few changed =
       let same = sym (changed .same-length) in
-      level-or-six l t w s marks same matched (good-none marks none) (λ j hj. omega (
+      level-or-six l t w upto s marks same matched (good-none marks none) early (λ j hj. omega (
         arith,
         wrong-in-run R some marks s t matched same a n 3 (omega arith) changed j hj,
         marked-in-run R some marks s t matched same 0 0 0 (omega arith) (λ p o. none p) j hj,
@@ -335,7 +403,7 @@ module _ (R : ℕ) (two : 2 ≤ R) where
   -- FORMAT 11.14: for whoever draws the mended strip. What the strip writer writes for the level returned, to a buffer that is long enough, has the
   -- length of the strip read, and is the strip within reach; where it differs from the strip read, unmarked cells are mended in number, and marked
   -- ones repainted.
-  module _ (s marks tiles tiles' scratch scratch' : List ℕ) (a : Reading) (A : StripReadsAs R s marks tiles tiles' scratch scratch' a)
+  module _ (upto : ℕ) (s marks tiles tiles' scratch scratch' : List ℕ) (a : Reading) (A : StripReadsAs upto R s marks tiles tiles' scratch scratch' a)
       (z : stripNumbers a .code ≡ 0) (old new : List ℕ) (b : Written) (W : StripWritesAs R (returned (stripNumbers a) tiles') old new b)
       (room : stripMost ≤ length old) where
     abbrev level : Level
@@ -344,11 +412,11 @@ module _ (R : ℕ) (two : 2 ≤ R) where
     abbrev drawn : List ℕ
     drawn = take (stripLength R level) new
 
-    read : LevelRead gf256 R s marks tiles tiles' (stripNumbers a)
+    read : LevelRead gf256 upto R s marks tiles tiles' (stripNumbers a)
     read = A .level z
 
     lent : Hold (entering R s marks (length tiles) (length scratch))
-    lent = entered-when-read s marks tiles tiles' scratch scratch' a A z
+    lent = entered-when-read upto s marks tiles tiles' scratch scratch' a A z
 
     zw : writtenNumbers b .code ≡ 0
     zw = level-strip-written level old new b (read .reached .is-level) room W
@@ -362,12 +430,12 @@ module _ (R : ℕ) (two : 2 ≤ R) where
     as-long : stripLength R level ≡ length s
     as-long = sym (strip-size gf256 field256 R some level drawn (W .strip zw)) ∙ ap length (sym same) ∙ read .reached .reach .same-length
 
-    pub redrawn : (writtenNumbers b .code ≡ 0) × (writtenNumbers b .value ≡ length s) × Reached gf256 R marks s level (take (length s) new)
+    pub redrawn : (writtenNumbers b .code ≡ 0) × (writtenNumbers b .value ≡ length s) × Reached gf256 R upto marks s level (take (length s) new)
         × (stripNumbers a .mended ≡ differing marks s (take (length s) new)) × (stripNumbers a .repainted ≡ repainted marks s (take (length s) new))
     redrawn = (
       zw,
       W .value zw ∙ as-long,
-      subst (Reached gf256 R marks s level) front (read .reached),
+      subst (Reached gf256 R upto marks s level) front (read .reached),
       read .mended-is ∙ levels.mended-differing R some marks s (read .strip) (lent .0 .k + 5) (lent .0 .cells) (lent .1 .0) (read .reached .reach .same-length)
           ∙ ap (differing marks s) front,
       read .repainted-is ∙ levels.repainted-differing R some marks s (read .strip) (lent .0 .k + 5) (lent .0 .cells) (lent .1 .0)
@@ -382,18 +450,18 @@ module _ (R : ℕ) (two : 2 ≤ R) where
 
 -- FORMAT 14.3: any one run of up to 8 neighbouring cells of a strip we wrote changed at will, and no marks: the same level is returned.
 pub eight-changed : (l : Level) (t s marks : List ℕ) (a n : ℕ) → WeWrote 4 l t → length marks ≡ length s → NoMarks marks → n ≤ 8 → ChangedIn marks a n s t
-    → Answers 4 s marks (λ x tiles'. Gives l x tiles' × (x .mended ≡ countTo (differs s t) (length s)) × (x .mended ≤ n) × (x .repainted ≡ 0))
-eight-changed = changed-run 4 (omega arith)
+    → Answers newest 4 s marks (λ x tiles'. Gives l x tiles' × (x .mended ≡ countTo (differs s t) (length s)) × (x .mended ≤ n) × (x .repainted ≡ 0))
+eight-changed l t s marks a n w = changed-run 4 (omega arith) newest l t s marks a n w (wrote-known 4 (omega arith) l t w)
 
 -- FORMAT 14.4: only a run of up to 20 neighbouring cells marked, and all others right: again the same level.
 pub twenty-marked : (l : Level) (t s marks : List ℕ) (a n : ℕ) → WeWrote 4 l t → length marks ≡ length s → GoodMarks marks → n ≤ 20 → MarkedIn a n marks
     → SameRead marks s t
-    → Answers 4 s marks (λ x tiles'. Gives l x tiles' × (x .mended ≡ 0) × (x .wear ≡ 0) × (x .repainted ≡ repainted marks s t) × (x .repainted ≤ n))
-twenty-marked = marked-run 4 (omega arith)
+    → Answers newest 4 s marks (λ x tiles'. Gives l x tiles' × (x .mended ≡ 0) × (x .wear ≡ 0) × (x .repainted ≡ repainted marks s t) × (x .repainted ≤ n))
+twenty-marked l t s marks a n w = marked-run 4 (omega arith) newest l t s marks a n w (wrote-known 4 (omega arith) l t w)
 
 -- ---- what a console lends, of four lanes
 
 -- FORMAT 10.10: with a scratch of one lane or more, every number and every tile byte are what they were where 384 bytes were asked for and lent.
-pub as-with-384 : (s marks tiles t1 t2 u u' v v' : List ℕ) (a b : Reading) → scratchLeast ≤ length u → 384 ≤ length v
-    → StripReadsAs 4 s marks tiles t1 u u' a → ReadsWith 384 4 s marks tiles t2 v v' b → (t1 ≡ t2) × (stripNumbers a ≡ stripNumbers b)
-as-with-384 = any-scratch 4 (omega arith) scratchLeast 384
+pub as-with-384 : (upto : ℕ) (s marks tiles t1 t2 u u' v v' : List ℕ) (a b : Reading) → scratchLeast ≤ length u → 384 ≤ length v
+    → StripReadsAs upto 4 s marks tiles t1 u u' a → ReadsWith upto 384 4 s marks tiles t2 v v' b → (t1 ≡ t2) × (stripNumbers a ≡ stripNumbers b)
+as-with-384 upto = any-scratch 4 (omega arith) upto scratchLeast 384

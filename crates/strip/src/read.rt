@@ -2,6 +2,7 @@
 ghost use Prim.Native.Nat.{_≤_};
 ghost use lib.ListN.{length};
 ghost use Rattle.rules.specs.Refusal.{Within};
+ghost use Rattle.level.specs.Level.{newest};
 ghost use Rattle.level.specs.Strip.{Legal, IsWear};
 ghost use Rattle.level.specs.Reading.{dataOf};
 ghost use Rattle.patches.specs.Patched.{patched};
@@ -9,6 +10,7 @@ ghost use Rattle.fields.specs.Judged.{AcceptedAs};
 ghost use Rattle.strip.specs.Reading.{stripNumbers, FinishesAs, StripReadsAs};
 ghost use Rattle.level.specs.Sizes.{tilesMost, scratchLeast, stripLeast, stripMost};
 use fields::judged::Judged;
+use level::NEWEST;
 use patches::FIXES;
 
 // The lanes of a strip, and the cells that check them.
@@ -19,6 +21,7 @@ const CHECKS: usize = 20;
 // What reading answers: the level's numbers with what was mended and repainted, or a refusal's number and lane.
 pub enum Reading {
     Read {
+        version: usize,
         width: usize,
         height: usize,
         par: usize,
@@ -48,6 +51,7 @@ fn wear(mended: usize, n: usize) -> usize
 
 // The record in the data cells of the strip, of which count are to be put right. With nothing to put right the strip is its own window.
 fn accept(
+    upto: usize,
     strip: &[u8],
     cells: &[u16; FIXES],
     bytes: &[u8; FIXES],
@@ -56,13 +60,13 @@ fn accept(
     scratch: &mut [u8],
 ) -> Judged
     requires { ⌜ Legal 4 (length (now strip)) × (count ≤ 80) × (tilesMost ≤ length (now tiles)) × (scratchLeast ≤ length (now scratch)) ⌝ }
-    ensures { λ r. ⌜ AcceptedAs 4 (dataOf 4 (patched (now (cells .entry)) (now (bytes .entry)) count (now (strip .entry)))) (now (tiles .entry)) (now (tiles .exit)) r ⌝ }
+    ensures { λ r. ⌜ AcceptedAs upto 4 (dataOf 4 (patched (now (cells .entry)) (now (bytes .entry)) count (now (strip .entry)))) (now (tiles .entry)) (now (tiles .exit)) r ⌝ }
 {
     let to = strip.len() - CHECKS;
     if count == 0 {
-        return record::read::accept(&strip[0..to], LANES, tiles);
+        return record::read::accept(upto, &strip[0..to], LANES, tiles);
     }
-    windows::accept(strip, cells, bytes, count, LANES, to, tiles, scratch)
+    windows::accept(upto, strip, cells, bytes, count, LANES, to, tiles, scratch)
 }
 
 // The answer for a record that was judged, of a strip of n cells of which so many were mended and repainted.
@@ -75,6 +79,7 @@ fn finish(j: Judged, n: usize, mended: usize, repainted: usize) -> Reading
         return Reading::Refused { code, lane: 0 };
     }
     Reading::Read {
+        version: j.version,
         width: j.width,
         height: j.height,
         par: j.par,
@@ -84,9 +89,15 @@ fn finish(j: Judged, n: usize, mended: usize, repainted: usize) -> Reading
     }
 }
 
-// Reads a strip: the level within reach, or a refusal. The strip and its marks are not written to.
-pub fn read(strip: &[u8], marks: &[u8], tiles: &mut [u8], scratch: &mut [u8]) -> Reading
-    ensures { λ r. ⌜ StripReadsAs 4 (now (strip .entry)) (now (marks .entry)) (now (tiles .entry)) (now (tiles .exit)) (now (scratch .entry)) (now (scratch .exit)) r ⌝ }
+// Reads a strip of a version up to one of them: the level within reach, or a refusal. The strip and its marks are not written to.
+fn read_upto(
+    upto: usize,
+    strip: &[u8],
+    marks: &[u8],
+    tiles: &mut [u8],
+    scratch: &mut [u8],
+) -> Reading
+    ensures { λ r. ⌜ StripReadsAs upto 4 (now (strip .entry)) (now (marks .entry)) (now (tiles .entry)) (now (tiles .exit)) (now (scratch .entry)) (now (scratch .exit)) r ⌝ }
 {
     let entered = entry::enter(strip, marks, tiles.len(), scratch.len());
     let code = entered.code;
@@ -110,6 +121,20 @@ pub fn read(strip: &[u8], marks: &[u8], tiles: &mut [u8], scratch: &mut [u8]) ->
             lane: beyond,
         };
     }
-    let j = accept(strip, &cells, &bytes, m.noted, tiles, scratch);
+    let j = accept(upto, strip, &cells, &bytes, m.noted, tiles, scratch);
     finish(j, strip.len(), m.mended, m.repainted)
+}
+
+// Reads a strip.
+pub fn read(strip: &[u8], marks: &[u8], tiles: &mut [u8], scratch: &mut [u8]) -> Reading
+    ensures { λ r. ⌜ StripReadsAs newest 4 (now (strip .entry)) (now (marks .entry)) (now (tiles .entry)) (now (tiles .exit)) (now (scratch .entry)) (now (scratch .exit)) r ⌝ }
+{
+    read_upto(NEWEST, strip, marks, tiles, scratch)
+}
+
+// Reads a strip of version 1; every other version is refused.
+pub fn read_v1(strip: &[u8], marks: &[u8], tiles: &mut [u8], scratch: &mut [u8]) -> Reading
+    ensures { λ r. ⌜ StripReadsAs 1 4 (now (strip .entry)) (now (marks .entry)) (now (tiles .entry)) (now (tiles .exit)) (now (scratch .entry)) (now (scratch .exit)) r ⌝ }
+{
+    read_upto(1, strip, marks, tiles, scratch)
 }

@@ -7,6 +7,7 @@ ghost use Rattle.level.specs.Level.{IsLevel};
 ghost use Rattle.level.specs.Writing.{lent};
 ghost use Rattle.strip.specs.Writing.{StripWritesAs, LaidAs};
 use code::word::Written;
+use level::NEWEST;
 use level::STRIP_MOST;
 
 // Zero cells from a place on, up to an end.
@@ -22,27 +23,34 @@ fn fill(x: &mut [u8], from: usize, to: usize)
 }
 
 // The level's strip, in the first cells of a buffer; its length.
-fn lay(w: usize, h: usize, par: usize, tiles: &[u8], out: &mut [u8]) -> usize
-    requires { ⌜ IsLevel (lent w h par (now tiles)) × (stripMost ≤ length (now out)) ⌝ }
-    ensures { λ r. ⌜ LaidAs 4 (lent w h par (now (tiles .entry))) (now (out .entry)) (now (out .exit)) r ⌝ }
+fn lay(version: usize, w: usize, h: usize, par: usize, tiles: &[u8], out: &mut [u8]) -> usize
+    requires { ⌜ IsLevel (lent version w h par (now tiles)) × (stripMost ≤ length (now out)) ⌝ }
+    ensures { λ r. ⌜ LaidAs 4 (lent version w h par (now (tiles .entry))) (now (out .entry)) (now (out .exit)) r ⌝ }
 {
-    let b = lending::put_record(w, h, par, tiles, out);
+    let b = lending::put_record(version, w, h, par, tiles, out);
     let k = (b + 3) / 4;
     fill(out, b, 4 * k);
     dealt::put_checks(out, k);
     4 * (k + 5)
 }
 
-// Writes the strip of a level.
-pub fn write(w: usize, h: usize, par: usize, tiles: &[u8], out: &mut [u8]) -> Written
-    ensures { λ r. ⌜ StripWritesAs 4 (lent w h par (now (tiles .entry))) (now (out .entry)) (now (out .exit)) r ⌝ }
+// Writes the strip of a level of the version that is told.
+pub fn write(
+    version: usize,
+    w: usize,
+    h: usize,
+    par: usize,
+    tiles: &[u8],
+    out: &mut [u8],
+) -> Written
+    ensures { λ r. ⌜ StripWritesAs 4 (lent version w h par (now (tiles .entry))) (now (out .entry)) (now (out .exit)) r ⌝ }
 {
     if out.len() < STRIP_MOST {
         return Written::Refused(4);
     }
-    let code = lending::check(w, h, par, tiles);
+    let code = lending::check(NEWEST, version, w, h, par, tiles);
     if code != 0 {
         return Written::Refused(code);
     }
-    Written::Length(lay(w, h, par, tiles, out))
+    Written::Length(lay(version, w, h, par, tiles, out))
 }

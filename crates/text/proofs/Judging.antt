@@ -11,6 +11,7 @@ use Rattle.rules.proofs.Laws.{stops}
 use Rattle.rules.proofs.Numbers.{lt-or-ge}
 use Rattle.level.specs.Level.{Level, Sized, AllTiles, lending}
 use Rattle.level.specs.Writing.{lent}
+use Rattle.level.proofs.Versions.{first-known}
 use Rattle.fields.proofs.Tiles.{area-small}
 use Rattle.lending.proofs.Lent.{lent-level}
 use Rattle.record.specs.declared.read.RecordRead.the-variants as read
@@ -86,24 +87,27 @@ module _ (body : List ℕ) (w h par : ℕ) (S : Shown body w h) where
 
     module _ (par-small : par ≤ 1023) where
       -- of all that a writer asks, only the rule is left
-      asked-typing : (c : ℕ) → First (asked (λ ask. ask (levelTyped par rows)) lending) c → First (asked (λ ask. ask (levelTyped par rows)) typing) c
-      asked-typing c (inl p) = absurd (p .0 (record { known = refl; sized = rw (← S .width, ← S .height) sized; par-small = par-small }))
+      asked-typing : (c : ℕ) → First (asked (λ ask. ask (levelTyped par rows)) (lending 1)) c → First (asked (λ ask. ask (levelTyped par rows)) typing) c
+      asked-typing c (inl p) = absurd (p .0 (record {
+        ranged = record { known = first-known; sized = rw (← S .width, ← S .height) sized; par-small = par-small };
+        in-time = omega arith;
+      }))
       asked-typing c (inr (r, inl p)) = absurd (p .0 (board-long (longest rows) rows (omega arith)))
       asked-typing c (inr (r, inr (n, inl p))) = absurd (p .0 (coded (longest rows) rows (S .has .letters)))
-      asked-typing c (inr (r, inr (n, inr (k, f)))) = inr (r .sized, f)
+      asked-typing c (inr (r, inr (n, inr (k, f)))) = inr (r .ranged .sized, f)
 
-      module _ (tiles : List ℕ) (L : LaidOut body w tiles) (c : ℕ) (f : First (asked (λ ask. ask (lent w h par (take (w * h - 0) tiles))) lending) c) where
+      module _ (tiles : List ℕ) (L : LaidOut body w tiles) (c : ℕ) (f : First (asked (λ ask. ask (lent 1 w h par (take (w * h - 0) tiles))) (lending 1)) c) where
         -- the level that was asked is the one that the rows say
-        said : lent w h par (take (w * h - 0) tiles) ≡ levelTyped par rows
+        said : lent 1 w h par (take (w * h - 0) tiles) ≡ levelTyped par rows
         said =
-            ap (λ (t : List ℕ). lent w h par t) (ap (λ (k : ℕ). take k tiles) same ∙ L .laid (S .has))
-            ∙ ap₂ (λ (a b : ℕ). lent a b par (board a rows)) (S .width) (S .height)
+            ap (λ (t : List ℕ). lent 1 w h par t) (ap (λ (k : ℕ). take k tiles) same ∙ L .laid (S .has))
+            ∙ ap₂ (λ (a b : ℕ). lent 1 a b par (board a rows)) (S .width) (S .height)
           where
             same : w * h - 0 ≡ w * length rows
             same = omega (arith, ap (λ (k : ℕ). w * k) (S .height))
 
-        first : First (asked (λ ask. ask (levelTyped par rows)) lending) c
-        first = subst (λ (l : Level). First (asked (λ ask. ask l) lending) c) said f
+        first : First (asked (λ ask. ask (levelTyped par rows)) (lending 1)) c
+        first = subst (λ (l : Level). First (asked (λ ask. ask l) (lending 1)) c) said f
 
         pub rows-refused : (old : List ℕ) → (c ≡ 0 → ⊥) → RowsReadAs par body old old (read.Refused c)
         rows-refused old n = record {
@@ -117,12 +121,12 @@ module _ (body : List ℕ) (w h par : ℕ) (S : Shown body w h) where
 
         -- the tiles copied in front are all of the board
         pub rows-read : (old new : List ℕ) → c ≡ 0 → new ≡ take (w * h - 0) tiles ++ drop (length (take (w * h - 0) tiles)) old
-            → RowsReadAs par body old new (read.Level w h par)
+            → RowsReadAs par body old new (read.Level 1 w h par)
         rows-read old new z put = record {
           has = S .has;
           code = subst (First (asked (λ ask. ask (levelTyped par rows)) typing)) z (asked-typing c first);
-          is-level = λ _. lent-level (levelTyped par rows) c z first;
-          says = λ _. ap (λ (t : List ℕ). lent w h par t) (ap (take (w * h)) put ∙ take-at (take (w * h - 0) tiles) _ (w * h) count) ∙ said;
+          is-level = λ _. lent-level 1 (levelTyped par rows) c z first .0;
+          says = λ _. ap (λ (t : List ℕ). lent 1 w h par t) (ap (take (w * h)) put ∙ take-at (take (w * h - 0) tiles) _ (w * h) count) ∙ said;
           past = λ _. ap (drop (w * h)) put ∙ drop-at (take (w * h - 0) tiles) _ (w * h) count ∙ ap (λ (k : ℕ). drop k old) count;
           kept = λ n. absurd (n refl);
         }

@@ -1,14 +1,15 @@
 -- What is promised of texts (FORMAT 8.25, 8.26, 13).
 use mathlib.Core.Path.{_≡_, refl, sym, ap, ap₂, _∙_, subst}
 use mathlib.Core.List.{List, [], _∷_}
-use mathlib.Core.Logic.{inl, inr}
+use mathlib.Core.Logic.{inl, inr, _≢_}
 use Prim.Native.Nat.{ℕ, _≤_}
+use native.Mathlib.Omega.{arith}
 use lib.ListN.{length, take, drop}
 use lib.Seq.{take-at}
 use Rattle.rules.proofs.Laws.{first-fixes, none-first, decided, either}
 use Rattle.level.specs.Level.{Level, Sized, Fair, IsLevel}
 use Rattle.level.specs.Reading.{returned}
-use Rattle.level.specs.Writing.{lent, writingLevel}
+use Rattle.level.specs.Writing.{lent, writingUpto}
 use Rattle.code.specs.Word.{writtenNumbers}
 use Rattle.code.specs.declared.word.Written.{Written}
 use Rattle.code.proofs.Answers.{written-zero}
@@ -25,19 +26,19 @@ use Rattle.text.proofs.Written.{text-typed, typed-level}
 
 -- ---- the text of a level
 
--- A level's text says it.
-pub text-says : (l : Level) → IsLevel l → SaysLevel (textOf l) l
-text-says l il = record {
-  typed = record { par = l .par; rows = rowsOf (l .width) (l .height) (l .tiles); has = text-typed l il };
-  says = sym (typed-level l il);
+-- The text of a level of version 1 says it.
+pub text-says : (l : Level) → IsLevel l → l .version ≡ 1 → SaysLevel (textOf l) l
+text-says l il first = record {
+  typed = record { par = l .par; rows = rowsOf (l .width) (l .height) (l .tiles); has = text-typed l il first };
+  says = sym (typed-level l il first);
 }
 
--- Two levels with one text are one level.
-pub text-injective : (l m : Level) → IsLevel l → IsLevel m → textOf l ≡ textOf m → l ≡ m
-text-injective l m il im e = one-level (textOf m) l m (subst (λ (t : List ℕ). SaysLevel t l) e (text-says l il)) (text-says m im)
+-- Two such levels with one text are one level.
+pub text-injective : (l m : Level) → IsLevel l → IsLevel m → l .version ≡ 1 → m .version ≡ 1 → textOf l ≡ textOf m → l ≡ m
+text-injective l m il im fl fm e = one-level (textOf m) l m (subst (λ (t : List ℕ). SaysLevel t l) e (text-says l il fl)) (text-says m im fm)
 
 -- FORMAT 13.11: the text of the level of 12.13, `par 5` and `$+`, each with its line feed.
-pub text-cell : textOf (lent 2 1 5 (2 ∷ 6 ∷ [])) ≡ 112 ∷ 97 ∷ 114 ∷ 32 ∷ 53 ∷ 10 ∷ 36 ∷ 43 ∷ 10 ∷ []
+pub text-cell : textOf (lent 1 2 1 5 (2 ∷ 6 ∷ [])) ≡ 112 ∷ 97 ∷ 114 ∷ 32 ∷ 53 ∷ 10 ∷ 36 ∷ 43 ∷ 10 ∷ []
 unfolding decimal letterOf
 text-cell = refl
 
@@ -52,16 +53,25 @@ text-writes-fixed l old u v a b A B = (
 )
   where
     codes : writtenNumbers a .code ≡ writtenNumbers b .code
-    codes = first-fixes (writingLevel 1001 l (length old)) (writtenNumbers a .code) (writtenNumbers b .code) (A .code) (B .code)
+    codes = first-fixes (writingUpto 1 1001 l (length old)) (writtenNumbers a .code) (writtenNumbers b .code) (A .code) (B .code)
 
--- Each level is written.
-pub level-text-written : (l : Level) (old new : List ℕ) (a : Written) → IsLevel l → 1001 ≤ length old → TextWritesAs l old new a → writtenNumbers a .code ≡ 0
-level-text-written l old new a il room A =
-    first-fixes (writingLevel 1001 l (length old)) (writtenNumbers a .code) 0 (A .code) (level-written l 1001 (length old) room il)
+-- Each level of version 1 is written.
+pub level-text-written : (l : Level) (old new : List ℕ) (a : Written) → IsLevel l → l .version ≡ 1 → 1001 ≤ length old → TextWritesAs l old new a → writtenNumbers a .code ≡ 0
+level-text-written l old new a il first room A =
+    first-fixes (writingUpto 1 1001 l (length old)) (writtenNumbers a .code) 0 (A .code) (level-written 1 l 1001 (length old) room il (omega (arith, first)))
 
 -- And nothing else is.
-pub written-text-level : (l : Level) (old new : List ℕ) (a : Written) → TextWritesAs l old new a → writtenNumbers a .code ≡ 0 → IsLevel l
-written-text-level l old new a A z = written-level l 1001 (length old) (writtenNumbers a .code) z (A .code) .1
+pub written-text-level : (l : Level) (old new : List ℕ) (a : Written) → TextWritesAs l old new a → writtenNumbers a .code ≡ 0
+    → IsLevel l × (l .version ≡ 1)
+written-text-level l old new a A z =
+    let w = written-level 1 l 1001 (length old) (writtenNumbers a .code) z (A .code) in (w .1, omega (arith, w .1 .ranged .known .from, w .2))
+
+-- FORMAT 9.7: a level of another version to be typed, or any number told for one, is refused with 7, whatever else there is to refuse of it.
+pub other-version-untyped : (l : Level) (old new : List ℕ) (a : Written) → l .version ≢ 1 → 1001 ≤ length old → TextWritesAs l old new a
+    → writtenNumbers a .code ≡ 7
+other-version-untyped l old new a other room A =
+    first-fixes (writingUpto 1 1001 l (length old)) (writtenNumbers a .code) 7 (A .code)
+    (inr (room, inl ((λ t. other (omega (arith, t .ranged .known .from, t .in-time))), refl)))
 
 -- A level has one written text: what stands in front of the buffer is its text, whatever the buffer was.
 pub one-text : (l : Level) (old new : List ℕ) (a : Written) → TextWritesAs l old new a → writtenNumbers a .code ≡ 0
@@ -96,6 +106,10 @@ pub read-is-said : (text old new : List ℕ) (a : RecordRead) → TextReadsAs te
     → (l : Level) × IsLevel l × SaysLevel text l
 read-is-said text old new a A z = (returned (recordNumbers a) new, A .is-level z, A .says z)
 
+-- What a text says is of version 1.
+pub said-first : (text : List ℕ) (l : Level) → SaysLevel text l → l .version ≡ 1
+said-first text l s = ap (λ (x : Level). x .version) (s .says)
+
 -- The promise of the reader fixes every number and byte.
 pub text-reads-fixed : (text old u v : List ℕ) (a b : RecordRead) → TextReadsAs text old u a → TextReadsAs text old v b
     → (u ≡ v) × (recordNumbers a ≡ recordNumbers b)
@@ -109,17 +123,16 @@ text-reads-fixed text old u v a b A B =
 pub text-read-back : (l : Level) (out out' old new : List ℕ) (a : Written) (b : RecordRead) → TextWritesAs l out out' a → writtenNumbers a .code ≡ 0
     → 961 ≤ length old → TextReadsAs (take (writtenNumbers a .value) out') old new b → (recordNumbers b .code ≡ 0) × (returned (recordNumbers b) new ≡ l)
 text-read-back l out out' old new a b A z room B =
-    said-is-read (textOf l) l old new b il (text-says l il) room (subst (λ (t : List ℕ). TextReadsAs t old new b) (one-text l out out' a A z) B)
-  where
-    il : IsLevel l
-    il = written-text-level l out out' a A z
+    let il = written-text-level l out out' a A z in
+    said-is-read (textOf l) l old new b (il .0) (text-says l (il .0) (il .1)) room (subst (λ (t : List ℕ). TextReadsAs t old new b) (one-text l out out' a A z) B)
 
 -- ---- texts rewritten
 
 -- The level that was read from a text is written again.
 pub read-is-rewritten : (text old new out out' : List ℕ) (a : RecordRead) (b : Written) → TextReadsAs text old new a → recordNumbers a .code ≡ 0
     → 1001 ≤ length out → TextWritesAs (returned (recordNumbers a) new) out out' b → writtenNumbers b .code ≡ 0
-read-is-rewritten text old new out out' a b A z room B = level-text-written (returned (recordNumbers a) new) out out' b (A .is-level z) room B
+read-is-rewritten text old new out out' a b A z room B =
+    level-text-written (returned (recordNumbers a) new) out out' b (A .is-level z) (said-first text (returned (recordNumbers a) new) (A .says z)) room B
 
 -- Two texts that are read as the same level are rewritten alike, to the last byte.
 pub rewritten-alike : (text text' old new old' new' : List ℕ) (a a' : RecordRead) → TextReadsAs text old new a → TextReadsAs text' old' new' a'

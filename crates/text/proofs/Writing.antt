@@ -12,7 +12,7 @@ use Rattle.typed.specs.Letters.{letterOf}
 use Rattle.rules.specs.Refusal.{First, asked}
 use Rattle.rules.proofs.Laws.{stops}
 use Rattle.level.specs.Level.{Level, IsLevel, lending}
-use Rattle.level.specs.Writing.{lent, writingLevel}
+use Rattle.level.specs.Writing.{lent, writingUpto}
 use Rattle.code.specs.declared.word.Written.the-variants as written
 use Rattle.typed.specs.Text.{joined, firstLine, rowsOf, textOf}
 use Rattle.typed.specs.Parts.{LineIs, lineOf}
@@ -103,21 +103,21 @@ module _ (w : ℕ) where
 -- ---- a text
 
 -- the first line copied in front, and the rows put behind it
-module _ (w h par : ℕ) (ts o : List ℕ) (il : IsLevel (lent w h par ts)) (room : 1001 ≤ length o) (r : Line) (line : LineIs par r) where
+module _ (w h par : ℕ) (ts o : List ℕ) (il : IsLevel (lent 1 w h par ts)) (room : 1001 ≤ length o) (r : Line) (line : LineIs par r) where
   abbrev body : List ℕ
   body = joined (rowsOf w h ts)
 
-  sized : r .len + h * (w + 1) ≡ length (textOf (lent w h par ts))
-  sized = omega (arith, line .size, length-append (firstLine par) (10 ∷ []), text-size (lent w h par ts) il)
+  sized : r .len + h * (w + 1) ≡ length (textOf (lent 1 w h par ts))
+  sized = omega (arith, line .size, length-append (firstLine par) (10 ∷ []), text-size (lent 1 w h par ts) il refl)
 
   pub rows-fit : r .len + h * (w + 1) ≤ length o
-  rows-fit = omega (arith, sized, text-short (lent w h par ts) il)
+  rows-fit = omega (arith, sized, text-short (lent 1 w h par ts) il refl)
 
   long : length body ≡ h * (w + 1)
   long = joined-long w h ts (omega (arith, il .count, mul-comm w h))
 
   pub text-put : (t u : List ℕ) → t ≡ take (r .len - 0) (r .bytes) ++ drop (length (take (r .len - 0) (r .bytes))) o → u ≡ sets t (r .len) body
-      → TextPut (lent w h par ts) o u (r .len + h * (w + 1))
+      → TextPut (lent 1 w h par ts) o u (r .len + h * (w + 1))
   text-put t u et eu = record {
     size = sized;
     text = eu
@@ -132,19 +132,19 @@ module _ (w h par : ℕ) (ts o : List ℕ) (il : IsLevel (lent w h par ts)) (roo
 -- ---- the answers of the writer
 
 module _ (l : Level) (old : List ℕ) where
-  none : (c : ℕ) → (c ≡ 0 → ⊥) → First (writingLevel 1001 l (length old)) c → TextWritesAs l old old (written.Refused c)
+  none : (c : ℕ) → (c ≡ 0 → ⊥) → First (writingUpto 1 1001 l (length old)) c → TextWritesAs l old old (written.Refused c)
   none c n f = record { code = f; value = λ z. absurd (n z); text = λ z. absurd (n z); kept = λ _. refl }
 
   pub refused-4 : (1001 ≤ length old → ⊥) → TextWritesAs l old old (written.Refused 4)
-  refused-4 n = none 4 (λ z. omega arith) (stops 0 (writingLevel 1001 l (length old)) 4 (n, refl))
+  refused-4 n = none 4 (λ z. omega arith) (stops 0 (writingUpto 1 1001 l (length old)) 4 (n, refl))
 
-  pub refused-later : (c : ℕ) → 1001 ≤ length old → (c ≡ 0 → ⊥) → First (asked (λ ask. ask l) lending) c → TextWritesAs l old old (written.Refused c)
+  pub refused-later : (c : ℕ) → 1001 ≤ length old → (c ≡ 0 → ⊥) → First (asked (λ ask. ask l) (lending 1)) c → TextWritesAs l old old (written.Refused c)
   refused-later c a n f = none c n (inr (a, f))
 
-  pub wrote : (new : List ℕ) (c n : ℕ) → 1001 ≤ length old → c ≡ 0 → First (asked (λ ask. ask l) lending) c → TextPut l old new n
+  pub wrote : (new : List ℕ) (c n : ℕ) → 1001 ≤ length old → c ≡ 0 → First (asked (λ ask. ask l) (lending 1)) c → TextPut l old new n
       → TextWritesAs l old new (written.Length n)
   wrote new c n a z f P = record {
-    code = inr (a, subst (First (asked (λ ask. ask l) lending)) z f);
+    code = inr (a, subst (First (asked (λ ask. ask l) (lending 1))) z f);
     value = λ _. P .size;
     text = λ _. P .text ∙ ap (λ (k : ℕ). textOf l ++ drop k old) (P .size);
     kept = λ k. absurd (k refl);

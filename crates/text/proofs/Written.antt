@@ -1,12 +1,12 @@
 -- The text of a level: how long it is, and that it says that level.
-use mathlib.Core.Path.{_≡_, refl, sym, ap, ap₂, _∙_}
+use mathlib.Core.Path.{_≡_, refl, sym, ap, ap₂, _∙_, subst}
 use mathlib.Core.List.{List, [], _∷_, _++_, map, append-nil}
 use Prim.Native.Nat.{ℕ, zero, suc, _+_, _*_, _-_, _≤_, max}
 use native.Mathlib.Nat.{zero-mul, suc-mul, mul-comm, mul-le-mul, max-zero, max-eq-left, le-refl}
 use native.Mathlib.Omega.{arith}
 use lib.ListN.{length, getD, take, drop, replicate, length-append, length-drop, length-map, take-append-drop, drop-of-length-le}
 use lib.Seq.{getD-drop, length-take-le}
-use Rattle.level.specs.Level.{Level, IsLevel}
+use Rattle.level.specs.Level.{Level, AllTiles, IsLevel}
 use Rattle.lending.proofs.Writing.{codes-all}
 use Rattle.typed.specs.Letters.{tileOf, letterOf}
 use Rattle.typed.specs.Text.{joined, firstLine, Letters, Rows, longest, board, Typed, levelTyped, rowsOf, textOf}
@@ -92,7 +92,7 @@ module _ (w : ℕ) where
 abbrev rowsIn : Level → List (List ℕ)
 rowsIn l = rowsOf (l .width) (l .height) (l .tiles)
 
-module _ (l : Level) (il : IsLevel l) where
+module _ (l : Level) (il : IsLevel l) (first : l .version ≡ 1) where
   counted : length (l .tiles) ≡ l .height * l .width
   counted = il .count ∙ mul-comm (l .width) (l .height)
 
@@ -105,7 +105,7 @@ module _ (l : Level) (il : IsLevel l) where
       omega (arith, text-size, decimal-short (l .par), rows-few (l .width) (l .height) (il .ranged .sized .not-wider) (il .ranged .sized .not-higher))
 
   small : Small (l .tiles)
-  small = codes-all (l .tiles) (il .codes)
+  small = codes-all 1 (l .tiles) (subst (λ (v : ℕ). AllTiles v (l .tiles)) first (il .codes))
 
   -- it is typed as it should be
   pub text-typed : Typed (textOf l) (l .par) (rowsOf (l .width) (l .height) (l .tiles))
@@ -121,7 +121,7 @@ module _ (l : Level) (il : IsLevel l) where
   -- and it says that level
   pub typed-level : levelTyped (l .par) (rowsOf (l .width) (l .height) (l .tiles)) ≡ l
   typed-level = λ i. record {
-    version = sym (il .ranged .known) i;
+    version = sym first i;
     width = wide i;
     height = rows-high (l .width) (l .height) (l .tiles) i;
     par = l .par;

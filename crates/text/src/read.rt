@@ -6,6 +6,7 @@ ghost use Rattle.level.specs.Level.{Sized};
 ghost use Rattle.typed.specs.Parts.{Shown};
 ghost use Rattle.text.specs.Reading.{TextReadsAs};
 ghost use Rattle.text.specs.Parts.{RowsReadAs};
+use super::write::VERSION;
 use level::TILES_MOST;
 use record::read::RecordRead;
 
@@ -17,12 +18,13 @@ fn judge(body: &[u8], par: usize, w: usize, h: usize, tiles: &mut [u8]) -> Recor
     let mut board = [0u8; TILES_MOST];
     typed::rows::put(body, w, &mut board);
     let m = w * h;
-    let code = lending::check(w, h, par, &board[0..m]);
+    let code = lending::check(VERSION, VERSION, w, h, par, &board[0..m]);
     if code != 0 {
         return RecordRead::Refused(code);
     }
     rules::copy(&board[0..m], tiles);
     RecordRead::Level {
+        version: VERSION,
         width: w,
         height: h,
         par: par,

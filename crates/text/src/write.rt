@@ -12,6 +12,9 @@ ghost use Rattle.text.specs.Parts.{TextPut};
 ghost use Rattle.text.specs.Writing.{TextWritesAs};
 use code::word::Written;
 
+// The version of the levels that are typed: there is no letter for a pit.
+pub const VERSION: usize = 1;
+
 // The bytes of the longest text.
 pub const TEXT_MOST: usize = 1001;
 
@@ -42,8 +45,8 @@ fn put_rows(w: usize, h: usize, tiles: &[u8], text: &mut [u8], j: usize)
 
 // The text of a level, in front of the buffer; its length is returned.
 fn put_text(w: usize, h: usize, par: usize, tiles: &[u8], text: &mut [u8]) -> usize
-    requires { ⌜ IsLevel (lent w h par (now tiles)) × (textMost ≤ length (now text)) ⌝ }
-    ensures { λ r. ⌜ TextPut (lent w h par (now (tiles .entry))) (now (text .entry)) (now (text .exit)) r ⌝ }
+    requires { ⌜ IsLevel (lent 1 w h par (now tiles)) × (textMost ≤ length (now text)) ⌝ }
+    ensures { λ r. ⌜ TextPut (lent 1 w h par (now (tiles .entry))) (now (text .entry)) (now (text .exit)) r ⌝ }
 {
     let line = typed::line::line_of(par);
     let n = line.len;
@@ -53,14 +56,21 @@ fn put_text(w: usize, h: usize, par: usize, tiles: &[u8], text: &mut [u8]) -> us
     n + h * (w + 1)
 }
 
-// Writes the text of a level.
-pub fn write(w: usize, h: usize, par: usize, tiles: &[u8], text: &mut [u8]) -> Written
-    ensures { λ r. ⌜ TextWritesAs (lent w h par (now (tiles .entry))) (now (text .entry)) (now (text .exit)) r ⌝ }
+// Writes the text of a level of the version that is told, which is 1.
+pub fn write(
+    version: usize,
+    w: usize,
+    h: usize,
+    par: usize,
+    tiles: &[u8],
+    text: &mut [u8],
+) -> Written
+    ensures { λ r. ⌜ TextWritesAs (lent version w h par (now (tiles .entry))) (now (text .entry)) (now (text .exit)) r ⌝ }
 {
     if text.len() < TEXT_MOST {
         return Written::Refused(4);
     }
-    let code = lending::check(w, h, par, tiles);
+    let code = lending::check(VERSION, version, w, h, par, tiles);
     if code != 0 {
         return Written::Refused(code);
     }

@@ -2,7 +2,7 @@
 use mathlib.Core.Path.{_≡_, refl}
 use mathlib.Core.Logic.{_⊎_, inl, inr}
 use mathlib.Core.List.{[], _∷_}
-use Prim.Native.Nat.{ℕ, zero, suc, _≤_, _<_}
+use Prim.Native.Nat.{ℕ, zero, suc, _+_, _≤_, _<_}
 use native.Mathlib.Omega.{arith}
 use lib.ListN.{getD}
 use borrow.Author.Tests.{lt-ltb, le-ltb}
@@ -36,26 +36,31 @@ adds-none (suc (suc (suc (suc (suc (suc (suc c))))))) h = (refl, refl, refl, ref
 pub weighed-in : (t : ℕ) → t < 7 → weighed t ≡ packed (adds t)
 weighed-in t h = rw (lt-ltb t 7 h)
 
-pub weighed-out : (t : ℕ) → 7 ≤ t → weighed t ≡ 281474976710656
-weighed-out t h = rw (le-ltb t 7 h)
+pub weighed-pit : (t : ℕ) → 7 ≤ t → t < 8 → weighed t ≡ 1099511627776
+weighed-pit t h k = rw (le-ltb t 7 h, lt-ltb t 8 k)
 
-pub weighed-small : (t : ℕ) → weighed t ≤ 281474976710656
-weighed-small t = go (lt-or-ge t 7)
-  where
-    go : (t < 7) ⊎ (7 ≤ t) → weighed t ≤ 281474976710656
-    go (inl h) = omega (arith, weighed-in t h, adds-small t)
-    go (inr h) = omega (arith, weighed-out t h)
+pub weighed-out : (t : ℕ) → 8 ≤ t → weighed t ≡ 1125899906842624
+weighed-out t h = let k : 7 ≤ t = omega arith in rw (le-ltb t 7 k, le-ltb t 8 h)
 
-pub packs : (a b c d e f g : ℕ) → a ≡ packed (adds 0) → b ≡ packed (adds 1) → c ≡ packed (adds 2) → d ≡ packed (adds 3) → e ≡ packed (adds 4)
-    → f ≡ packed (adds 5) → g ≡ packed (adds 6) → Packs (a ∷ b ∷ c ∷ d ∷ e ∷ f ∷ g ∷ 281474976710656 ∷ [])
-packs a b c d e f g ea eb ec ed ee ef eg = record { row-at = go; other = refl }
+pub weighed-small : (t : ℕ) → weighed t ≤ 1125899906842624
+weighed-small t = go (lt-or-ge t 7) (lt-or-ge t 8)
   where
-    go : (t : ℕ) → t < 7 → getD (a ∷ b ∷ c ∷ d ∷ e ∷ f ∷ g ∷ 281474976710656 ∷ []) t 0 ≡ packed (adds t)
-    go zero h = ea
-    go (suc zero) h = eb
-    go (suc (suc zero)) h = ec
-    go (suc (suc (suc zero))) h = ed
-    go (suc (suc (suc (suc zero)))) h = ee
-    go (suc (suc (suc (suc (suc zero))))) h = ef
-    go (suc (suc (suc (suc (suc (suc zero)))))) h = eg
-    go (suc (suc (suc (suc (suc (suc (suc t))))))) h = absurd (omega arith)
+    go : (t < 7) ⊎ (7 ≤ t) → (t < 8) ⊎ (8 ≤ t) → weighed t ≤ 1125899906842624
+    go (inl h) k = omega (arith, weighed-in t h, adds-small t)
+    go (inr h) (inl k) = omega (arith, weighed-pit t h k)
+    go (inr h) (inr k) = omega (arith, weighed-out t k)
+
+pub packs : (a b c d e f g h : ℕ) → a ≡ packed (adds 0) → b ≡ packed (adds 1) → c ≡ packed (adds 2) → d ≡ packed (adds 3) → e ≡ packed (adds 4)
+    → f ≡ packed (adds 5) → g ≡ packed (adds 6) → h ≡ packed (adds 7) → Packs (a ∷ b ∷ c ∷ d ∷ e ∷ f ∷ g ∷ (h + 1099511627776) ∷ 1125899906842624 ∷ [])
+packs a b c d e f g h ea eb ec ed ee ef eg eh = record { row-at = go; other = refl }
+  where
+    go : (t : ℕ) → t < 8 → getD (a ∷ b ∷ c ∷ d ∷ e ∷ f ∷ g ∷ (h + 1099511627776) ∷ 1125899906842624 ∷ []) t 0 ≡ weighed t
+    go zero l = ea
+    go (suc zero) l = eb
+    go (suc (suc zero)) l = ec
+    go (suc (suc (suc zero))) l = ed
+    go (suc (suc (suc (suc zero)))) l = ee
+    go (suc (suc (suc (suc (suc zero))))) l = ef
+    go (suc (suc (suc (suc (suc (suc zero)))))) l = eg
+    go (suc (suc (suc (suc (suc (suc (suc zero))))))) l = omega (arith, eh)
+    go (suc (suc (suc (suc (suc (suc (suc (suc t)))))))) l = absurd (omega arith)

@@ -26,12 +26,12 @@ addsAt part t = weighed (fieldAt part (3 * t) 3)
 -- what all its groups of eight tiles add, the last of them perhaps cut short or not there
 pub record Counted (part : List ℕ) (r : ℕ) : Type 0 where
   pub all : r ≡ sumOf (8 * (length part / 3 + 1)) (addsAt part)
-  pub small : r ≤ 2251799813685248 * (length part / 3 + 1)
+  pub small : r ≤ 9007199254740992 * (length part / 3 + 1)
 
 -- what its groups from g on add
 pub record CountedFrom (part : List ℕ) (g r : ℕ) : Type 0 where
   pub rest : sumOf (8 * g) (addsAt part) + r ≡ sumOf (8 * (length part / 3 + 1)) (addsAt part)
-  pub small : r ≤ 2251799813685248 * (length part / 3 + 1 - g)
+  pub small : r ≤ 9007199254740992 * (length part / 3 + 1 - g)
 
 -- what n times three tiles add, the last three in the lowest nine bits, where a tile adds w
 unfoldable pub triplesOf : (ℕ → ℕ) → ℕ → ℕ → ℕ

@@ -8,7 +8,7 @@ use super::group::wide;
 
 // What the 24 tiles of nine bytes add, eight of them as one number and the last. The table is used in this one place, so that it stays one load.
 fn nine(v: u64, z: u8) -> u64
-    ensures { λ r. ⌜ (r ≡ triplesOf weighed 8 (v * 256 + z)) × (r ≤ 6755399441055744) ⌝ }
+    ensures { λ r. ⌜ (r ≡ triplesOf weighed 8 (v * 256 + z)) × (r ≤ 27021597764222976) ⌝ }
 {
     let mut t = v % 2 * 256 + wide(z);
     let mut u = v / 2;
@@ -24,7 +24,7 @@ fn nine(v: u64, z: u8) -> u64
 }
 
 // Two tiles by the rows.
-fn pair(rows: &[u64; 8], a: u64) -> u64
+fn pair(rows: &[u64; 9], a: u64) -> u64
     requires { ⌜ Packs (now rows) × (a < 64) ⌝ }
     ensures { λ r. ⌜ r ≡ weighed (a / 8) + weighed (a % 8) ⌝ }
 {
@@ -32,9 +32,9 @@ fn pair(rows: &[u64; 8], a: u64) -> u64
 }
 
 // What the eight tiles in the lowest 24 bits add.
-fn eight(rows: &[u64; 8], v: u64) -> u64
+fn eight(rows: &[u64; 9], v: u64) -> u64
     requires { ⌜ Packs (now rows) ⌝ }
-    ensures { λ r. ⌜ (r ≡ pairsOf weighed 4 v) × (r ≤ 2251799813685248) ⌝ }
+    ensures { λ r. ⌜ (r ≡ pairsOf weighed 4 v) × (r ≤ 9007199254740992) ⌝ }
 {
     let mut u = v;
     let mut s: u64 = 0;

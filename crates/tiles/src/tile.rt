@@ -13,8 +13,8 @@ pub struct Adds {
     pub off: u64,
 }
 
-// Floor, wall, crate, goal, crate on goal, player, player on goal.
-const ADDS: [Adds; 7] = [
+// Floor, wall, crate, goal, crate on goal, player, player on goal, pit.
+const ADDS: [Adds; 8] = [
     Adds {
         player: 0,
         crate_: 0,
@@ -57,26 +57,32 @@ const ADDS: [Adds; 7] = [
         goal: 1,
         off: 0,
     },
+    Adds {
+        player: 0,
+        crate_: 0,
+        goal: 0,
+        off: 0,
+    },
 ];
 
 fn adds_of(t: usize) -> Adds
-    requires { ⌜ t ≤ 6 ⌝ }
+    requires { ⌜ t ≤ 7 ⌝ }
     ensures { λ r. ⌜ Same r (adds t) ⌝ }
 {
     ADDS[t]
 }
 
-// Row t in one number, twelve bits for each sum.
+// Row t in one number, ten bits for each sum.
 fn pack(t: usize) -> u64
-    requires { ⌜ t ≤ 6 ⌝ }
+    requires { ⌜ t ≤ 7 ⌝ }
     ensures { λ r. ⌜ r ≡ packed (adds t) ⌝ }
 {
     let a = adds_of(t);
-    a.player + 4096 * a.crate_ + 16777216 * a.goal + 68719476736 * a.off
+    a.player + 1024 * a.crate_ + 1048576 * a.goal + 1073741824 * a.off
 }
 
-// The rows packed, made once a call and lent; last what is added for what is no tile code.
-pub fn rows() -> [u64; 8]
+// The rows packed, made once a call and lent. The pit is counted too, above the sums, and last what is no tile code.
+pub fn rows() -> [u64; 9]
     ensures { λ r. ⌜ Packs r ⌝ }
 {
     [
@@ -87,17 +93,18 @@ pub fn rows() -> [u64; 8]
         pack(4),
         pack(5),
         pack(6),
-        281474976710656,
+        pack(7) + 1099511627776,
+        1125899906842624,
     ]
 }
 
 // What a tile adds, by the rows that are lent.
-pub fn weigh(rows: &[u64; 8], t: u8) -> u64
+pub fn weigh(rows: &[u64; 9], t: u8) -> u64
     requires { ⌜ Packs (now rows) ⌝ }
     ensures { λ r. ⌜ r ≡ weighed t ⌝ }
 {
-    if t < 7 {
+    if t < 8 {
         return rows[t as usize];
     }
-    rows[7]
+    rows[8]
 }

@@ -13,6 +13,7 @@ use Rattle.rules.proofs.Laws.{hold-first, all-hold}
 use Rattle.rules.proofs.Numbers.{lt-or-ge}
 use Rattle.account.proofs.Lanes.{getD-past}
 use Rattle.level.specs.Level.{AllTiles}
+use Rattle.level.proofs.Versions.{first-known}
 use Rattle.level.proofs.Unfinished.{some-two}
 use Rattle.tiny.specs.declared.Found.{Found}
 use Rattle.tiny.specs.declared.Found.the-variants as answer
@@ -55,7 +56,7 @@ ruled w h c b = record { long = b .count; codes = b .codes; fair = b .playable }
 
 pub board : (w h : ℕ) → Tiny w h → (c : List ℕ) → Ruled (w * h) c → LegalBoard w h c
 board w h t c r = record {
-  ranged = record { known = refl; sized = tiny-sized w h t; par-small = omega arith };
+  ranged = record { known = first-known; sized = tiny-sized w h t; par-small = omega arith };
   count = r .long;
   codes = r .codes;
   playable = r .fair;

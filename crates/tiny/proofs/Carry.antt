@@ -63,7 +63,7 @@ module _ (b : List ℕ) (i : ℕ) (f : AllTiles 1 b) (h : i < length b) where
         more = record {
           codes = s .more .codes;
           up = λ q. omega (arith, s .more .up q, before b i 0, none, l);
-          top = λ q c g. omega (arith, s .more .top q c g, before b i 0, l, codes-all c g i);
+          top = λ q c g. omega (arith, s .more .top q c g, before b i 0, l, codes-all 1 c g i);
         };
         rest = λ k g. s .rest k (omega arith) ∙ getD-set-other b i k 0 0 (λ e. omega (arith, e, g));
       }
@@ -109,7 +109,7 @@ clear-end old new k i h s j a = ⊎-elim (λ l. s .floor j a (omega arith)) (λ 
 module _ (old cleared : List ℕ) (k : ℕ) (f : AllTiles 1 old)
     (front : (i : ℕ) → i < k → getD cleared i 0 ≡ getD old i 0) (floor : (i : ℕ) → k ≤ i → getD cleared i 0 ≡ 0) where
   pub cleared-codes : AllTiles 1 cleared
-  cleared-codes i h = ⊎-elim (λ l. omega (arith, front i l, codes-all old f i)) (λ l. omega (arith, floor i l)) (lt-or-ge i k)
+  cleared-codes i h = ⊎-elim (λ l. omega (arith, front i l, codes-all 1 old f i)) (λ l. omega (arith, floor i l)) (lt-or-ge i k)
 
   pub passed : (new : List ℕ) (r : Bool) → Stepped k cleared new r → Passed k old new r
   passed new r s =

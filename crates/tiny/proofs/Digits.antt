@@ -23,10 +23,10 @@ pub same-tiles : (n : ℕ) (a b : List ℕ) → AllTiles 1 a → AllTiles 1 b �
 unfolding digits
 same-tiles zero a b s t e i h = absurd (omega arith)
 same-tiles (suc n) a b s t e i h =
-    go (same-tiles n a b s t (omega (arith, e, codes-all a s n, codes-all b t n)) i) (eq-or-lt-of-le {n = i} {m = n} (omega arith))
+    go (same-tiles n a b s t (omega (arith, e, codes-all 1 a s n, codes-all 1 b t n)) i) (eq-or-lt-of-le {n = i} {m = n} (omega arith))
   where
     go : (i < n → getD a i 0 ≡ getD b i 0) → (i ≡ n) ⊎ (i < n) → getD a i 0 ≡ getD b i 0
-    go f (inl q) = subst (λ (j : ℕ). getD a j 0 ≡ getD b j 0) (sym q) (omega (arith, e, codes-all a s n, codes-all b t n))
+    go f (inl q) = subst (λ (j : ℕ). getD a j 0 ≡ getD b j 0) (sym q) (omega (arith, e, codes-all 1 a s n, codes-all 1 b t n))
     go f (inr q) = f q
 
 -- boards of one size are told apart by their numbers
@@ -38,7 +38,7 @@ same-board a b s t l e =
 pub digits-below : (n : ℕ) (a : List ℕ) → AllTiles 1 a → digits n a < 7 ^ n
 unfolding digits
 digits-below zero a s = omega arith
-digits-below (suc n) a s = omega (arith, digits-below n a s, codes-all a s n, pow-suc 7 n)
+digits-below (suc n) a s = omega (arith, digits-below n a s, codes-all 1 a s n, pow-suc 7 n)
 
 -- ---- by the first tiles
 
@@ -50,7 +50,7 @@ front-less (suc n) k a b s h l = go (λ g. front-less n k a b s g l) (eq-or-lt-o
   where
     go : (k ≤ n → digits n a < digits n b) → (k ≡ suc n) ⊎ (k < suc n) → digits (suc n) a < digits (suc n) b
     go f (inl e) = subst (λ (j : ℕ). digits j a < digits j b) e l
-    go f (inr g) = omega (arith, f (omega arith), codes-all a s n)
+    go f (inr g) = omega (arith, f (omega arith), codes-all 1 a s n)
 
 -- the greater number has first tiles that are not less
 pub front-kept : (n k : ℕ) (a b : List ℕ) → AllTiles 1 b → k ≤ n → digits n a ≤ digits n b → digits k a ≤ digits k b

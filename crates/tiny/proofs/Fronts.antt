@@ -8,7 +8,7 @@ use lib.Seq.{take-suc, getD-take, length-take-le, ext-getD}
 use Rattle.level.specs.Tile.{totals}
 use Rattle.level.specs.Level.{AllTiles, Playable}
 use Rattle.tiles.specs.Sum.{weighed, weight}
-use Rattle.fields.proofs.Tiles.{at-most-each, all-below, sums}
+use Rattle.fields.proofs.Tiles.{at-most-each, sums}
 use Rattle.lending.proofs.Writing.{codes-all}
 use Rattle.tiny.specs.Parts.{Lost, Stuck}
 
@@ -30,24 +30,24 @@ joined (t ∷ a) b =
 
 module _ (x left : ℕ) where
   -- no board that begins so keeps the rule, if what it adds does not
-  lost-by : ((front back : List ℕ) → (x % 4096 ≡ totals front .player) → (x / 4096 % 4096 ≡ totals front .crate') → (x / 16777216 % 4096 ≡ totals front .goal)
+  lost-by : ((front back : List ℕ) → (x % 1024 ≡ totals front .player) → (x / 1024 % 1024 ≡ totals front .crate') → (x / 1048576 % 1024 ≡ totals front .goal)
       → length back ≡ left → Playable 1 (totals (front ++ back)) → ⊥) → Lost x left
   lost-by f = record {
     never = λ front back e c s l p.
-        let q = sums front x s e (all-below front x s e c) in
+        let q = sums front x s e in
         f front back (q .player-is) (q .crate-is) (q .goal-is) l p;
   }
 
-  pub two-players : 1 < x % 4096 → Lost x left
+  pub two-players : 1 < x % 1024 → Lost x left
   two-players h = lost-by (λ front back p c g l k. omega (arith, h, p, joined front back .player-is, k .one-player))
 
-  pub crates-behind : x / 16777216 % 4096 + left < x / 4096 % 4096 → Lost x left
+  pub crates-behind : x / 1048576 % 1024 + left < x / 1024 % 1024 → Lost x left
   crates-behind h = lost-by (λ front back p c g l k.
-      omega (arith, h, c, g, l, joined front back .crate-is, joined front back .goal-is, at-most-each back, k .as-many))
+      omega (arith, h, c, g, l, joined front back .crate-is, joined front back .goal-is, at-most-each back, k .as-many (omega arith)))
 
-  pub goals-behind : x / 4096 % 4096 + left < x / 16777216 % 4096 → Lost x left
+  pub goals-behind : x / 1024 % 1024 + left < x / 1048576 % 1024 → Lost x left
   goals-behind h = lost-by (λ front back p c g l k.
-      omega (arith, h, c, g, l, joined front back .crate-is, joined front back .goal-is, at-most-each back, k .as-many))
+      omega (arith, h, c, g, l, joined front back .crate-is, joined front back .goal-is, at-most-each back, k .as-many (omega arith)))
 
 -- ---- the sum of the first tiles
 
@@ -71,7 +71,7 @@ weight-front b i h = ap (λ (k : ℕ). weight (take k b)) one ∙ ap weight (tak
 codes-front : (b : List ℕ) (k : ℕ) → AllTiles 1 b → AllTiles 1 (take k b)
 codes-front b k f i h =
     let l : i < k = omega (arith, h, length-take k b) in
-    omega (arith, getD-take k b i 0 l, codes-all b f i)
+    omega (arith, getD-take k b i 0 l, codes-all 1 b f i)
 
 same-front : (b c : List ℕ) (k : ℕ) → k ≤ length b → length c ≡ length b → ((i : ℕ) → i < k → getD c i 0 ≡ getD b i 0) → take k c ≡ take k b
 same-front b c k h l f = ext-getD 0 (take k c) (take k b) (in-c ∙ sym in-b) at

@@ -52,11 +52,11 @@ fellow (suc (suc (suc (suc (suc (suc (suc u))))))) p g = absurd (omega (arith, p
 
 behind : (u : ℕ) → Playable 1 (totals (2 ∷ u ∷ [])) → u ≡ 6
 unfolding totals
-behind u p = fellow u (omega (arith, p .one-player)) (omega (arith, p .as-many))
+behind u p = fellow u (omega (arith, p .one-player)) (omega (arith, p .as-many (omega arith)))
 
 in-front : (u : ℕ) → Playable 1 (totals (u ∷ 2 ∷ [])) → u ≡ 6
 unfolding totals
-in-front u p = fellow u (omega (arith, p .one-player)) (omega (arith, p .as-many))
+in-front u p = fellow u (omega (arith, p .one-player)) (omega (arith, p .as-many (omega arith)))
 
 -- a size of two tiles, 2 by 1 or 1 by 2
 module _ (w h : ℕ) (t : Tiny w h) (two : w * h ≡ 2) where
@@ -71,12 +71,12 @@ module _ (w h : ℕ) (t : Tiny w h) (two : w * h ≡ 2) where
   is-crate-first : LegalBoard w h crate-first
   unfolding totals
   is-crate-first =
-      pair-board 2 6 (omega arith) (omega arith) (record { one-player = refl; some-crate = omega arith; as-many = refl; unfinished = omega arith })
+      pair-board 2 6 (omega arith) (omega arith) (record { one-player = refl; some-crate = omega arith; enough = omega arith; as-many = λ _. refl; unfinished = omega arith })
 
   is-player-first : LegalBoard w h player-first
   unfolding totals
   is-player-first =
-      pair-board 6 2 (omega arith) (omega arith) (record { one-player = refl; some-crate = omega arith; as-many = refl; unfinished = omega arith })
+      pair-board 6 2 (omega arith) (omega arith) (record { one-player = refl; some-crate = omega arith; enough = omega arith; as-many = λ _. refl; unfinished = omega arith })
 
   pub two-tiles : (c : List ℕ) → LegalBoard w h c → (c ≡ crate-first) ⊎ (c ≡ player-first)
   two-tiles [] l = absurd (omega (arith, l .count, two))

@@ -22,7 +22,7 @@ pub record Tiny (w h : ℕ) : Type 0 where
 
 -- FORMAT 16.2: a legal board of that size: with par 0 it is a level
 abbrev pub LegalBoard : ℕ → ℕ → List ℕ → Type 0
-LegalBoard w h b = IsLevel (lent w h 0 b)
+LegalBoard w h b = IsLevel (lent 1 w h 0 b)
 
 -- FORMAT 16.3: the first n tiles as one number in base 7, the first of them highest
 unfoldable pub digits : ℕ → List ℕ → ℕ
@@ -70,7 +70,7 @@ nextNumbers (answer.Refused c) = refused c
 -- FORMAT 9.8, 9.9, 16.6: what is asked of a given board; it need not be legal
 abbrev pub giving : ℕ → ℕ → Place → List Rule
 giving w h start = []
-giving w h (after g) = unless 8 (Counted (lent w h 0 g)) ∷ unless 9 (Coded (lent w h 0 g)) ∷ []
+giving w h (after g) = unless 8 (Counted (lent 1 w h 0 g)) ∷ unless 9 (Coded (lent 1 w h 0 g)) ∷ []
 
 -- FORMAT 9.4, 9.14, 9.40. 4: the tile buffer; 14: the size; 8 and 9 of a given board
 abbrev pub stepping : ℕ → ℕ → Place → ℕ → List Rule

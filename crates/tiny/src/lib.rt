@@ -19,6 +19,9 @@ pub enum Found {
     Refused(u8),
 }
 
+// The version of tiny boards.
+const VERSION: usize = 1;
+
 // The most tiles of a tiny board.
 const TINY_MOST: usize = 6;
 
@@ -116,9 +119,9 @@ fn lost(x: u64, left: usize) -> bool
     requires { ⌜ left ≤ tinyMost ⌝ }
     ensures { λ r. ⌜ (r ≡ true → Lost x left) ⌝ }
 {
-    let players = x % 4096;
-    let crates = x / 4096 % 4096;
-    let goals = x / 16777216 % 4096;
+    let players = x % 1024;
+    let crates = x / 1024 % 1024;
+    let goals = x / 1048576 % 1024;
     let most = left as u64;
     if 1 < players {
         return true;
@@ -133,7 +136,7 @@ fn lost(x: u64, left: usize) -> bool
 }
 
 // 0 for a legal board; else how many of its first tiles no legal board begins with.
-fn stuck(rows: &[u64; 8], board: &[u8]) -> usize
+fn stuck(rows: &[u64; 9], board: &[u8]) -> usize
     requires { ⌜ Packs (now rows) × AllTiles 1 (now board) × (1 ≤ length (now board)) × (length (now board) ≤ tinyMost) ⌝ }
     ensures { λ r. ⌜ Stuck (now (board .entry)) r ⌝ }
 {
@@ -147,7 +150,7 @@ fn stuck(rows: &[u64; 8], board: &[u8]) -> usize
             return i;
         }
     }
-    if fields::tile::sum_code(x) != 0 {
+    if fields::tile::sum_code(VERSION, x) != 0 {
         return n;
     }
     0

@@ -76,7 +76,7 @@ module _ (bs : List ℕ) (bits : ℕ) where
     pub g : ℕ
     pub few : g ≤ from
     pub sum-is : sum ≡ sumOf (8 * g) (addsAt (partOf bs))
-    pub small : sum ≤ 2251799813685248 * (2 * g)
+    pub small : sum ≤ 9007199254740992 * (2 * g)
     pub on : from < length bs → from ≡ 3 + 3 * g
     pub all : length bs ≤ from → length (partOf bs) ≤ 3 * g
     pub clear : (p : ℕ) → bits ≤ p → p < 8 * from → bitAt bs p ≡ 0

@@ -82,8 +82,9 @@ fn weigh(
     Weighed { blank: true, sum }
 }
 
-// Refusals 7 to 10 of the record in the first cells of the mended strip.
+// Refusals 7 to 10 of the record in the first cells of the mended strip, by a reader of versions up to one of them.
 fn judge(
+    upto: usize,
     strip: &[u8],
     cells: &[u16; FIXES],
     bytes: &[u8; FIXES],
@@ -93,10 +94,10 @@ fn judge(
     scratch: &mut [u8],
 ) -> Judged
     requires { ⌜ Lent (now strip) count to (length (now scratch)) × Within 1 16 lanes ⌝ }
-    ensures { λ r. ⌜ JudgedAs lanes (take to (patched (now (cells .entry)) (now (bytes .entry)) count (now (strip .entry)))) r ⌝ }
+    ensures { λ r. ⌜ JudgedAs upto lanes (take to (patched (now (cells .entry)) (now (bytes .entry)) count (now (strip .entry)))) r ⌝ }
 {
     let f = head(strip, cells, bytes, count, to, scratch);
-    if !fields::head::head_ranged(f.version, f.width, f.height) {
+    if !fields::head::head_ranged(upto, f.version, f.width, f.height) {
         return fields::judged::refused(7);
     }
     let m = f.width * f.height;
@@ -108,7 +109,7 @@ fn judge(
     if !blank {
         return fields::judged::refused(8);
     }
-    let code = fields::tile::sum_code(w.sum);
+    let code = fields::tile::sum_code(f.version, w.sum);
     fields::judged::answer(f, code)
 }
 
@@ -150,6 +151,7 @@ fn unpack(
 
 // The record in the first cells of the mended strip judged; its tiles are written only where nothing is refused.
 pub fn accept(
+    upto: usize,
     strip: &[u8],
     cells: &[u16; FIXES],
     bytes: &[u8; FIXES],
@@ -160,10 +162,10 @@ pub fn accept(
     scratch: &mut [u8],
 ) -> Judged
     requires { ⌜ Lent (now strip) count to (length (now scratch)) × Within 1 16 lanes × (tilesMost ≤ length (now tiles)) ⌝ }
-    ensures { λ r. ⌜ AcceptedAs lanes (take to (patched (now (cells .entry)) (now (bytes .entry)) count (now (strip .entry)))) (now (tiles .entry)) (now
+    ensures { λ r. ⌜ AcceptedAs upto lanes (take to (patched (now (cells .entry)) (now (bytes .entry)) count (now (strip .entry)))) (now (tiles .entry)) (now
         (tiles .exit)) r ⌝ }
 {
-    let j = judge(strip, cells, bytes, count, lanes, to, scratch);
+    let j = judge(upto, strip, cells, bytes, count, lanes, to, scratch);
     let refusal = j.code;
     if refusal != 0 {
         return j;

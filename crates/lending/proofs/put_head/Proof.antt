@@ -4,6 +4,9 @@ use borrow.Author.Needs.{needs}
 use Rattle.lending.proofs.put_head.Statement.{statement}
 use Rattle.lending.proofs.put_head.Tie as tie
 
+mul-out : tie.Need-mul-out
+mul-out c = search needs
+
 add-out : tie.Need-add-out
 add-out c = search needs
 
@@ -13,11 +16,11 @@ cast-out c = search needs
 slice-write-out : tie.Need-slice-write-out
 slice-write-out c = search needs
 
-mul-out : tie.Need-mul-out
-mul-out c = search needs
-
 mul-out-2 : tie.Need-mul-out-2
 mul-out-2 c = search needs
+
+mul-out-3 : tie.Need-mul-out-3
+mul-out-3 c = search needs
 
 add-out-2 : tie.Need-add-out-2
 add-out-2 c = search needs
@@ -47,11 +50,12 @@ pub put-head-spec : {M : Type 1} → statement M
 put-head-spec =
     tie.close
     (tie.spec
+    mul-out
     add-out
     cast-out
     slice-write-out
-    mul-out
     mul-out-2
+    mul-out-3
     add-out-2
     add-out-3
     cast-out-2

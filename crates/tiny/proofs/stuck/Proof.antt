@@ -10,50 +10,37 @@ use Rattle.tiny.proofs.Given.{is-fair, not-fair}
 use Rattle.tiny.proofs.Fronts.{weight-none, weight-front, stuck-front, stuck-whole, stuck-free}
 use Rattle.tiny.proofs.stuck.Statement.{statement}
 use Rattle.tiny.proofs.stuck.Tie as tie
-use Rattle.tiny.proofs.stuck.Reads as reads
-use Rattle.tiny.proofs.stuck.Lts as lts
-use Rattle.fields.proofs.tile.sum_code.Reads as sum-code-reads
-use Rattle.tiles.proofs.tile.weigh.Reads as weigh-reads
-use Rattle.tiny.proofs.lost.Reads as lost-reads
 
 abbrev Inv-loop : tie.InvT-loop
-Inv-loop rows board n x₀ i₀ x i = (i ≤ length board) × (x ≡ weight (take i board)) × (x ≤ 281474976710656 * i)
+Inv-loop rows board n x₀ i₀ x i = (i ≤ length board) × (x ≡ weight (take i board)) × (x ≤ 1125899906842624 * i)
 
 abbrev μ-loop : tie.MeasureT-loop
 μ-loop rows board n x₀ i₀ x i = length board - i
 
--- src/lib.rt:131:5
 loop-holds : tie.Need-loop-holds Inv-loop μ-loop
 loop-holds c = (search needs, weight-none (c .before .args .board .now), search needs)
 
--- src/lib.rt:132:39
 shared-slice-read-weigh : tie.Need-shared-slice-read-weigh Inv-loop μ-loop
 shared-slice-read-weigh c = search needs
 
--- src/lib.rt:132:14
 weigh-requires : tie.Need-weigh-requires Inv-loop μ-loop
 weigh-requires c κs = c .before .before .before .before .pre .0
 
--- src/lib.rt:132:9
 add-x : tie.Need-add-x Inv-loop μ-loop
 add-x c =
     let l = c .before .before .before .loop in
     let s = c .before .before .before .before .before in
     omega (arith, weighed-small (getD (s .args .board .now) (l .i) 0), c .weigh .ensures, s .pre .3)
 
--- src/lib.rt:133:9
 add-i : tie.Need-add-i Inv-loop μ-loop
 add-i c = search needs
 
--- src/lib.rt:134:20
 sub-lost : tie.Need-sub-lost Inv-loop μ-loop
 sub-lost c = search needs
 
--- src/lib.rt:134:12
 lost-requires : tie.Need-lost-requires Inv-loop μ-loop
 lost-requires c κs = omega (arith, c .before .before .before .before .before .pre .3)
 
--- src/lib.rt:135:13
 returns : tie.Need-returns Inv-loop μ-loop
 returns c =
     let s = c .before .before .before .before .before .before .before in
@@ -62,11 +49,9 @@ returns c =
     stuck-front b (s .pre .1) (s .pre .3) (l .i + 1) (l .x + c .before .before .weigh .result) (length b - (l .i + 1)) (omega arith) (omega arith)
     (omega (arith, l .inv .1, weight-front b (l .i) (omega arith), c .before .before .weigh .ensures)) (omega arith) (c .before .lost .ensures (c .if1 .taken))
 
--- src/lib.rt:131:5
 loop-less : tie.Need-loop-less Inv-loop μ-loop
 loop-less c = search needs
 
--- src/lib.rt:131:5
 loop-again : tie.Need-loop-again Inv-loop μ-loop
 loop-again c =
     let b = c .before .before .before .before .before .before .before .args .board .now in
@@ -77,11 +62,9 @@ loop-again c =
       omega (arith, l .inv .2, weighed-small (getD b (l .i) 0), w .ensures),
     )
 
--- src/lib.rt:138:8
 sum-code-requires : tie.Need-sum-code-requires Inv-loop μ-loop
 sum-code-requires c κs = search needs
 
--- src/lib.rt:139:9
 returns-2 : tie.Need-returns-2 Inv-loop μ-loop
 returns-2 c =
     let s = c .before .before .before .before .before in
@@ -91,7 +74,6 @@ returns-2 c =
     stuck-whole b (s .pre .1) (s .pre .3) (length b) (s .pre .2) refl
     (not-fair b (c .before .sum-code .result) (c .before .sum-code .ensures .code-of b (omega (arith, s .pre .3)) whole) (s .pre .1) (c .if2 .taken))
 
--- src/lib.rt:124:1
 returns-3 : tie.Need-returns-3 Inv-loop μ-loop
 returns-3 c =
     let s = c .before .before .before .before .before in

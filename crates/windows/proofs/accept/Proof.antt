@@ -20,7 +20,7 @@ returns : tie.Need-returns
 returns c =
     let a = c .before .before .before .before .before .before .before .before .args in
     let j = c .before .before .before .judge in
-    rejected (a .lanes) (recordIn (a .strip .now) (a .cells .now) (a .bytes .now) (a .count) (a .to)) (j .result) (j .ensures) (a .tiles .now)
+    rejected (a .upto) (a .lanes) (recordIn (a .strip .now) (a .cells .now) (a .bytes .now) (a .count) (a .to)) (j .result) (j .ensures) (a .tiles .now)
     (λ z. omega (arith, z, c .if1 .taken))
 
 mul-m : tie.Need-mul-m
@@ -35,8 +35,8 @@ unpack-requires c κs =
     let z : j .result .code ≡ 0 = omega (arith, c .before .before .before .if1 .left) in
     let e = length-record (a .strip .now) (a .cells .now) (a .bytes .now) (a .count) (a .to) (o .pre .0 .inside) in
     let few = j .ensures .spells z .few in
-    let room = room-for (a .lanes) bs (j .result) (j .ensures) (a .tiles .now) z (o .pre .1 .from) in (
-      record { few = o .pre .0 .few; some = o .pre .0 .some; short = o .pre .0 .short; inside = o .pre .0 .inside; room = omega (arith, j .kept .1 .1 .1 .1 .1 .1 .0, o .pre .0 .room) },
+    let room = room-for (a .upto) (a .lanes) bs (j .result) (j .ensures) (a .tiles .now) z (o .pre .1 .from) in (
+      record { few = o .pre .0 .few; some = o .pre .0 .some; short = o .pre .0 .short; inside = o .pre .0 .inside; room = omega (arith, j .kept .1 .1 .1 .1 .1 .1 .1 .0, o .pre .0 .room) },
       few,
       omega (arith, room, length-part bs, e, o .pre .0 .some),
       omega (arith, few, o .pre .2),
@@ -55,7 +55,7 @@ returns-2 c =
     let bs = recordIn (a .strip .now) (a .cells .now) (a .bytes .now) (a .count) (a .to) in
     let j = c .before .before .before .before .before .before .before .before .before .before .before .judge in
     let z : j .result .code ≡ 0 = omega (arith, c .before .before .before .before .before .before .before .before .if1 .left) in
-    accepted (a .lanes) bs (j .result) (j .ensures) (a .tiles .now) z _
+    accepted (a .upto) (a .lanes) bs (j .result) (j .ensures) (a .tiles .now) z _
     (c .before .before .before .before .unpack .ensures ∙ ap (λ (ts : List ℕ). ts ++ drop (j .result .width * j .result .height) (a .tiles .now)) (sym (tilesFrom-part bs
     (j .result .width * j .result .height))))
 

@@ -24,7 +24,7 @@ returns c =
     let bs = recordIn (a .strip .now) (a .cells .now) (a .bytes .now) (a .count) (a .to) in
     let e = length-record (a .strip .now) (a .cells .now) (a .bytes .now) (a .count) (a .to) (c .before .before .before .before .before .before .before .before .before .pre .0 .inside) in
     let f = c .before .before .before .before .before .head in
-    not-ranged (a .lanes) (a .to) bs e (f .result) (f .ensures) (c .before .before .head-ranged .result) (c .before .if1 .taken) (c .before .before .head-ranged .ensures) (c .refused .result) (c .refused .ensures)
+    not-ranged (a .upto) (a .lanes) (a .to) bs e (f .result) (f .ensures) (c .before .before .head-ranged .result) (c .before .if1 .taken) (c .before .before .head-ranged .ensures) (c .refused .result) (c .refused .ensures)
 
 mul-m : tie.Need-mul-m
 mul-m c =
@@ -53,7 +53,7 @@ returns-2 c =
     let bs = recordIn (a .strip .now) (a .cells .now) (a .bytes .now) (a .count) (a .to) in
     let e = length-record (a .strip .now) (a .cells .now) (a .bytes .now) (a .count) (a .to) (c .before .before .before .before .before .before .before .before .before .before .before .before .pre .0 .inside) in
     let f = c .before .before .before .before .before .before .before .before .head in
-    not-fitting (a .lanes) (a .to) bs e (f .result) (f .ensures) (c .before .before .before .before .before .head-ranged .result) (c .before .before .before .before .if1 .left) (c .before .before .before .before .before .head-ranged .ensures) (c .before .before .fits2 .result) (c .before .if2 .taken) (c .before .before .fits2 .ensures) (c .refused2 .result) (c .refused2 .ensures)
+    not-fitting (a .upto) (a .lanes) (a .to) bs e (f .result) (f .ensures) (c .before .before .before .before .before .head-ranged .result) (c .before .before .before .before .if1 .left) (c .before .before .before .before .before .head-ranged .ensures) (c .before .before .fits2 .result) (c .before .if2 .taken) (c .before .before .fits2 .ensures) (c .refused2 .result) (c .refused2 .ensures)
 
 mul-weigh : tie.Need-mul-weigh
 mul-weigh c =
@@ -86,7 +86,7 @@ returns-3 c =
     let bs = recordIn (a .strip .now) (a .cells .now) (a .bytes .now) (a .count) (a .to) in
     let e = length-record (a .strip .now) (a .cells .now) (a .bytes .now) (a .count) (a .to) (c .before .before .before .before .before .before .before .before .before .before .before .before .before .before .before .before .before .pre .0 .inside) in
     let f = c .before .before .before .before .before .before .before .before .before .before .before .before .before .head in
-    not-blank-after (a .lanes) (a .to) bs e (f .result) (f .ensures) (c .before .before .before .before .before .before .before .before .before .before .head-ranged .result) (c .before .before .before .before .before .before .before .before .before .if1 .left) (c .before .before .before .before .before .before .before .before .before .before .head-ranged .ensures) (c .before .before .before .before .before .before .before .fits2 .result) (c .before .before .before .before .before .before .if2 .left) (c .before .before .before .before .before .before .before .fits2 .ensures)
+    not-blank-after (a .upto) (a .lanes) (a .to) bs e (f .result) (f .ensures) (c .before .before .before .before .before .before .before .before .before .before .head-ranged .result) (c .before .before .before .before .before .before .before .before .before .if1 .left) (c .before .before .before .before .before .before .before .before .before .before .head-ranged .ensures) (c .before .before .before .before .before .before .before .fits2 .result) (c .before .before .before .before .before .before .if2 .left) (c .before .before .before .before .before .before .before .fits2 .ensures)
     (c .before .before .before .before .weigh .result) (c .before .before .before .before .weigh .ensures) (c .before .if3 .taken) (c .refused3 .result) (c .refused3 .ensures)
 
 sum-code-requires : tie.Need-sum-code-requires
@@ -104,7 +104,7 @@ returns-4 c =
     let bs = recordIn (a .strip .now) (a .cells .now) (a .bytes .now) (a .count) (a .to) in
     let e = length-record (a .strip .now) (a .cells .now) (a .bytes .now) (a .count) (a .to) (c .before .before .before .before .before .before .before .before .before .before .before .before .before .before .before .before .before .before .pre .0 .inside) in
     let f = c .before .before .before .before .before .before .before .before .before .before .before .before .before .before .head in
-    by-answer (a .lanes) (a .to) bs e (f .result) (f .ensures) (c .before .before .before .before .before .before .before .before .before .before .before .head-ranged .result) (c .before .before .before .before .before .before .before .before .before .before .if1 .left) (c .before .before .before .before .before .before .before .before .before .before .before .head-ranged .ensures) (c .before .before .before .before .before .before .before .before .fits2 .result) (c .before .before .before .before .before .before .before .if2 .left) (c .before .before .before .before .before .before .before .before .fits2 .ensures)
+    by-answer (a .upto) (a .lanes) (a .to) bs e (f .result) (f .ensures) (c .before .before .before .before .before .before .before .before .before .before .before .head-ranged .result) (c .before .before .before .before .before .before .before .before .before .before .if1 .left) (c .before .before .before .before .before .before .before .before .before .before .before .head-ranged .ensures) (c .before .before .before .before .before .before .before .before .fits2 .result) (c .before .before .before .before .before .before .before .if2 .left) (c .before .before .before .before .before .before .before .before .fits2 .ensures)
     (c .before .before .before .before .before .weigh .result) (c .before .before .before .before .before .weigh .ensures) (c .before .before .if3 .left) (c .before .before .before .before .before .before .before .before .before .before .before .before .before .before .before .before .before .before .pre .1 .from) (c .before .sum-code .result)
     (c .before .sum-code .ensures) (c .answer .result) (c .answer .ensures)
 

@@ -7,10 +7,10 @@ use Rattle.boards.proofs.board.block.Statement.{statement}
 use Rattle.boards.proofs.board.block.Tie as tie
 
 abbrev Inv-loop : tie.InvT-loop
-Inv-loop rows tiles k x₀ others₀ c₀ x others c = (c ≤ 7) × (x ≡ addedBy (tilesAt tiles k) 64 c) × (others ≡ leftOf (tilesAt tiles k) 64 c)
+Inv-loop rows tiles k x₀ others₀ c₀ x others c = (c ≤ 8) × (x ≡ addedBy (tilesAt tiles k) 64 c) × (others ≡ leftOf (tilesAt tiles k) 64 c)
 
 abbrev μ-loop : tie.MeasureT-loop
-μ-loop rows tiles k x₀ others₀ c₀ x others c = 7 - c
+μ-loop rows tiles k x₀ others₀ c₀ x others c = 8 - c
 
 loop-holds : tie.Need-loop-holds Inv-loop μ-loop
 loop-holds c =
@@ -79,7 +79,7 @@ mul-result c =
     let o = c .before .before .before .before in
     let l = c .before .before .loop in
     let t = tilesAt (o .args .tiles .now) (o .args .k) in
-    let z : l .c ≡ 7 = omega arith in
+    let z : l .c ≡ 8 = omega arith in
     let e = row-last t (o .args .rows .now) (o .pre .0) 64 (l .x) (l .others) (l .inv .1 ∙ ap (addedBy t 64) z) (l .inv .2 ∙ ap (leftOf t 64) z) in
     omega (arith, e, sum-small t 64)
 
@@ -88,7 +88,7 @@ add-result c =
     let o = c .before .before .before .before in
     let l = c .before .before .loop in
     let t = tilesAt (o .args .tiles .now) (o .args .k) in
-    let z : l .c ≡ 7 = omega arith in
+    let z : l .c ≡ 8 = omega arith in
     let e = row-last t (o .args .rows .now) (o .pre .0) 64 (l .x) (l .others) (l .inv .1 ∙ ap (addedBy t 64) z) (l .inv .2 ∙ ap (leftOf t 64) z) in
     omega (arith, e, sum-small t 64)
 
@@ -97,7 +97,7 @@ returns c =
     let o = c .before .before .before .before in
     let l = c .before .before .loop in
     let t = tilesAt (o .args .tiles .now) (o .args .k) in
-    let z : l .c ≡ 7 = omega arith in
+    let z : l .c ≡ 8 = omega arith in
     let e = row-last t (o .args .rows .now) (o .pre .0) 64 (l .x) (l .others) (l .inv .1 ∙ ap (addedBy t 64) z) (l .inv .2 ∙ ap (leftOf t 64) z) in
     e
 

@@ -11,7 +11,7 @@ use Rattle.boards.proofs.board.rest.Tie as tie
 
 abbrev Inv-loop : tie.InvT-loop
 Inv-loop rows tiles k x₀ i₀ x i =
-    (k ≤ i) × (i ≤ length tiles) × (x + 281474976710656 * k ≤ 281474976710656 * i) × (x + weight (drop i tiles) ≡ weight (drop k tiles))
+    (k ≤ i) × (i ≤ length tiles) × (x + 1125899906842624 * k ≤ 1125899906842624 * i) × (x + weight (drop i tiles) ≡ weight (drop k tiles))
 
 abbrev μ-loop : tie.MeasureT-loop
 μ-loop rows tiles k x₀ i₀ x i = length tiles - i

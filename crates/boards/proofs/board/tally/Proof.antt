@@ -9,7 +9,7 @@ use Rattle.boards.proofs.board.tally.Statement.{statement}
 use Rattle.boards.proofs.board.tally.Tie as tie
 
 abbrev Inv-loop : tie.InvT-loop
-Inv-loop tiles rows n x₀ g₀ x g = (g ≤ n) × (x ≤ 18014398509481984 * g) × (x + weight (drop (64 * g) tiles) ≡ weight tiles)
+Inv-loop tiles rows n x₀ g₀ x g = (g ≤ n) × (x ≤ 72057594037927936 * g) × (x + weight (drop (64 * g) tiles) ≡ weight tiles)
 
 abbrev μ-loop : tie.MeasureT-loop
 μ-loop tiles rows n x₀ g₀ x g = n - g

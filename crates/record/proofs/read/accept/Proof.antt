@@ -12,7 +12,7 @@ returns : tie.Need-returns
 returns c =
     let a = c .before .before .before .before .args in
     let j = c .before .judge in
-    rejected (a .lanes) (a .bs .now) (j .result) (j .ensures) (a .tiles .now) (λ z. omega (arith, z, c .if1 .taken))
+    rejected (a .upto) (a .lanes) (a .bs .now) (j .result) (j .ensures) (a .tiles .now) (λ z. omega (arith, z, c .if1 .taken))
 
 mul-m : tie.Need-mul-m
 mul-m c = omega (arith, c .before .before .judge .ensures .spells (omega (arith, c .before .if1 .left)) .few)
@@ -32,7 +32,7 @@ unpack-requires c κs =
     let j = c .before .before .before .before .judge in
     let z : j .result .code ≡ 0 = omega (arith, c .before .before .before .if1 .left) in
     let few = j .ensures .spells z .few in
-    let room = room-for (o .args .lanes) (o .args .bs .now) (j .result) (j .ensures) (o .args .tiles .now) z (o .pre .1 .from) in
+    let room = room-for (o .args .upto) (o .args .lanes) (o .args .bs .now) (j .result) (j .ensures) (o .args .tiles .now) z (o .pre .1 .from) in
     (omega (arith, few), omega (arith, room), omega (arith, few, o .pre .2))
 
 same-length : tie.Need-same-length
@@ -43,7 +43,7 @@ returns-2 c =
     let a = c .before .before .before .before .before .before .before .before .before .before .args in
     let j = c .before .before .before .before .before .before .before .judge in
     let z : j .result .code ≡ 0 = omega (arith, c .before .before .before .before .before .before .if1 .left) in
-    accepted (a .lanes) (a .bs .now) (j .result) (j .ensures) (a .tiles .now) z _ (c .before .before .unpack .ensures)
+    accepted (a .upto) (a .lanes) (a .bs .now) (j .result) (j .ensures) (a .tiles .now) z _ (c .before .before .unpack .ensures)
 
 pub accept-spec : {M : Type 1} → statement M
 accept-spec =

@@ -22,8 +22,8 @@ returns c =
     let t = c .before .before .head-ranged in
     let f = c .before .before .before .head-of in
     let a = c .before .before .before .before .before .args in
-    judged-7 (a .lanes) (a .bs .now) (c .refused .result) (c .refused .ensures)
-    (λ h. denied (Opens (f .result)) (t .result) (not-true (t .result) (c .before .if1 .taken)) (t .ensures) (head-of-level (a .bs .now) (f .result) (f .ensures) h))
+    judged-7 (a .upto) (a .lanes) (a .bs .now) (c .refused .result) (c .refused .ensures)
+    (λ h. denied (Opens (a .upto) (f .result)) (t .result) (not-true (t .result) (c .before .if1 .taken)) (t .ensures) (head-of-level (a .bs .now) (f .result) (f .ensures) (a .upto) h))
 
 mul-m : tie.Need-mul-m
 mul-m c =
@@ -46,8 +46,8 @@ returns-2 c =
     let t = q .before .before .before .head-ranged in
     let f = q .before .before .before .before .head-of in
     let a = q .before .before .before .before .before .before .args in
-    judged-8 (a .lanes) (a .bs .now) (c .refused2 .result) (c .refused2 .ensures)
-    (headed (a .bs .now) (f .result) (f .ensures) (said (Opens (f .result)) (t .result) (not-false (t .result) (q .before .before .if1 .left)) (t .ensures)))
+    judged-8 (a .upto) (a .lanes) (a .bs .now) (c .refused2 .result) (c .refused2 .ensures)
+    (headed (a .bs .now) (f .result) (f .ensures) (a .upto) (said (Opens (a .upto) (f .result)) (t .result) (not-false (t .result) (q .before .before .if1 .left)) (t .ensures)))
     (denied (Shaped (a .lanes) (a .bs .now)) (q .shaped .result) (not-true (q .shaped .result) (c .before .if2 .taken)) (q .shaped .ensures))
 
 sub-tally : tie.Need-sub-tally
@@ -76,9 +76,9 @@ returns-3 c =
     let t = q .before .before .before .head-ranged in
     let f = q .before .before .before .before .head-of in
     let o = q .before .before .before .before .before .before in
-    judged-answer (o .args .bs .now) (f .result) (f .ensures) (o .args .lanes) (b .result) (c .answer .result) (c .answer .ensures)
-    (judged-by-tiles (o .args .bs .now) (f .result) (f .ensures) (o .args .lanes) (s .tally .result) (b .result) (o .pre .1 .from)
-    (said (Opens (f .result)) (t .result) (not-false (t .result) (q .before .before .if1 .left)) (t .ensures))
+    judged-answer (o .args .bs .now) (f .result) (f .ensures) (o .args .upto) (o .args .lanes) (b .result) (c .answer .result) (c .answer .ensures)
+    (judged-by-tiles (o .args .bs .now) (f .result) (f .ensures) (o .args .upto) (o .args .lanes) (s .tally .result) (b .result) (o .pre .1 .from)
+    (said (Opens (o .args .upto) (f .result)) (t .result) (not-false (t .result) (q .before .before .if1 .left)) (t .ensures))
     (said (Shaped (o .args .lanes) (o .args .bs .now)) (q .shaped .result) (not-false (q .shaped .result) (s .before .before .if2 .left)) (q .shaped .ensures))
     (counted-summed _ (s .tally .result) (s .tally .ensures)) (b .ensures))
 

@@ -30,7 +30,7 @@ returns : tie.Need-returns
 returns c =
     let a = c .before .before .before .before .before .before .before .before .before .args in
     let r = c .before .before .accept in
-    subst (λ (bs : List ℕ). AcceptedAs 4 bs (a .tiles .now) (r .last .1 .1 .0) (r .result))
+    subst (λ (bs : List ℕ). AcceptedAs (a .upto) 4 bs (a .tiles .now) (r .last .1 .1 .1 .0) (r .result))
     (sym (data-clean (a .strip .now) (a .cells .now) (a .bytes .now) (a .count) (omega (arith, c .before .before .before .before .before .if1 .taken)))) (r .ensures)
 
 accept-requires-2 : tie.Need-accept-requires-2
@@ -46,7 +46,7 @@ returns-2 : tie.Need-returns-2
 returns-2 c =
     let a = c .before .before .before .before .before .before .before .before .before .before .before .args in
     let r = c .before .before .before .before .accept2 in
-    subst (λ (bs : List ℕ). AcceptedAs 4 bs (a .tiles .now) (r .last .1 .1 .1 .1 .1 .1 .0) (r .result)) (sym (data-mended (a .strip .now) (a .cells .now) (a .bytes .now) (a .count))) (r .ensures)
+    subst (λ (bs : List ℕ). AcceptedAs (a .upto) 4 bs (a .tiles .now) (r .last .1 .1 .1 .1 .1 .1 .1 .0) (r .result)) (sym (data-mended (a .strip .now) (a .cells .now) (a .bytes .now) (a .count))) (r .ensures)
 
 pub accept-spec : {M : Type 1} → statement M
 accept-spec =

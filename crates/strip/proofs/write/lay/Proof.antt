@@ -10,7 +10,7 @@ put-record-requires : tie.Need-put-record-requires
 put-record-requires c κs =
     let a = c .before .before .before .args in
     let p = c .before .before .before .pre in
-    (p .0, omega (arith, p .1, record-fits (lent (a .w) (a .h) (a .par) (a .tiles .now)) (p .0)))
+    (p .0, omega (arith, p .1, record-fits (lent (a .version) (a .w) (a .h) (a .par) (a .tiles .now)) (p .0)))
 
 add-k : tie.Need-add-k
 add-k c = search needs
@@ -40,7 +40,7 @@ returns c =
     let r = c .before .before .before .before .before .before .before .before .before .before .put-record in
     let f = c .before .before .before .before .before .before .fill in
     let k = c .before .before .put-checks in
-    laid-as 4 (omega arith) (lent (a .w) (a .h) (a .par) (a .tiles .now)) (a .out .now) (r .last .1 .1 .1 .1 .0) (f .last .0) (k .last .0) (r .result) _
+    laid-as 4 (omega arith) (lent (a .version) (a .w) (a .h) (a .par) (a .tiles .now)) (a .out .now) (r .last .1 .1 .1 .1 .1 .0) (f .last .0) (k .last .0) (r .result) _
     (r .ensures) refl
     (f .ensures) (k .ensures) (omega (arith, r .ensures .short, p .1)) (record { cell = λ j h. omega (arith, c .slice-known4 .given j) })
 

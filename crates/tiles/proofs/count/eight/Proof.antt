@@ -10,7 +10,7 @@ use Rattle.tiles.proofs.count.eight.Statement.{statement}
 use Rattle.tiles.proofs.count.eight.Tie as tie
 
 abbrev Inv-loop : tie.InvT-loop
-Inv-loop rows v u₀ s₀ n₀ u s n = (n ≤ 4) × (s + 562949953421312 * n ≤ 2251799813685248) × (s + pairsOf weighed n u ≡ pairsOf weighed 4 v)
+Inv-loop rows v u₀ s₀ n₀ u s n = (n ≤ 4) × (s + 2251799813685248 * n ≤ 9007199254740992) × (s + pairsOf weighed n u ≡ pairsOf weighed 4 v)
 
 abbrev μ-loop : tie.MeasureT-loop
 μ-loop rows v u₀ s₀ n₀ u s n = n

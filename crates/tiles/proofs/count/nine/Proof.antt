@@ -10,7 +10,7 @@ use Rattle.tiles.proofs.count.nine.Tie as tie
 
 abbrev Inv-loop : tie.InvT-loop
 Inv-loop v z t₀ u₀ s₀ n₀ t u s n =
-    (n ≤ 8) × (s + 844424930131968 * n ≤ 6755399441055744) × (s + triplesOf weighed n (u * 512 + t % 512) ≡ triplesOf weighed 8 (v * 256 + z))
+    (n ≤ 8) × (s + 3377699720527872 * n ≤ 27021597764222976) × (s + triplesOf weighed n (u * 512 + t % 512) ≡ triplesOf weighed 8 (v * 256 + z))
 
 abbrev μ-loop : tie.MeasureT-loop
 μ-loop v z t₀ u₀ s₀ n₀ t u s n = n

@@ -11,7 +11,7 @@ use Rattle.tiles.proofs.count.rest.Tie as tie
 
 abbrev Inv-loop : tie.InvT-loop
 Inv-loop part g rows x₀ h₀ x h =
-    (g ≤ h) × (3 * h ≤ length part + 2) × (x ≤ 2251799813685248 * (h - g)) × (sumOf (8 * g) (addsAt part) + x ≡ sumOf (8 * h) (addsAt part))
+    (g ≤ h) × (3 * h ≤ length part + 2) × (x ≤ 9007199254740992 * (h - g)) × (sumOf (8 * g) (addsAt part) + x ≡ sumOf (8 * h) (addsAt part))
 
 abbrev μ-loop : tie.MeasureT-loop
 μ-loop part g rows x₀ h₀ x h = length part - 3 * h

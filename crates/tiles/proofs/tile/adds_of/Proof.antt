@@ -13,7 +13,7 @@ row : ℕ → ℕ → ℕ → ℕ → Adds
 row p c g o = record { player = p; «crate_» = c; goal = g; off = o }
 
 rows : List Adds
-rows = row 0 0 0 0 ∷ row 0 0 0 0 ∷ row 0 1 0 1 ∷ row 0 0 1 0 ∷ row 0 1 1 0 ∷ row 1 0 0 0 ∷ row 1 0 1 0 ∷ []
+rows = row 0 0 0 0 ∷ row 0 0 0 0 ∷ row 0 1 0 1 ∷ row 0 0 1 0 ∷ row 0 1 1 0 ∷ row 1 0 0 0 ∷ row 1 0 1 0 ∷ row 0 0 0 0 ∷ []
 
 right : (t : ℕ) → Same (getD rows t (row 0 0 0 0)) (adds t)
 unfolding rows row
@@ -24,7 +24,8 @@ right (suc (suc (suc zero))) = record { player-is = refl; crate-is = refl; goal-
 right (suc (suc (suc (suc zero)))) = record { player-is = refl; crate-is = refl; goal-is = refl; off-is = refl }
 right (suc (suc (suc (suc (suc zero))))) = record { player-is = refl; crate-is = refl; goal-is = refl; off-is = refl }
 right (suc (suc (suc (suc (suc (suc zero)))))) = record { player-is = refl; crate-is = refl; goal-is = refl; off-is = refl }
-right (suc (suc (suc (suc (suc (suc (suc t))))))) = record { player-is = refl; crate-is = refl; goal-is = refl; off-is = refl }
+right (suc (suc (suc (suc (suc (suc (suc zero))))))) = record { player-is = refl; crate-is = refl; goal-is = refl; off-is = refl }
+right (suc (suc (suc (suc (suc (suc (suc (suc t)))))))) = record { player-is = refl; crate-is = refl; goal-is = refl; off-is = refl }
 
 mul-result : tie.Need-mul-result
 mul-result c = search needs

@@ -1,4 +1,4 @@
-use Rattle.tiles.proofs.Rows.{weighed-in, weighed-out}
+use Rattle.tiles.proofs.Rows.{weighed-out}
 use native.Mathlib.Omega.{arith}
 use mathlib.Core.Path.{sym, _∙_}
 use borrow.Author.Needs.{needs}
@@ -12,7 +12,7 @@ element-copy-out-result : tie.Need-element-copy-out-result
 element-copy-out-result c = search needs
 
 returns : tie.Need-returns
-returns c = let a = c .before .before .args in c .before .before .pre .row-at (a .t) (omega arith) ∙ sym (weighed-in (a .t) (omega arith))
+returns c = let a = c .before .before .args in c .before .before .pre .row-at (a .t) (omega arith)
 
 element-copy-out-result-2 : tie.Need-element-copy-out-result-2
 element-copy-out-result-2 c = search needs

@@ -6,8 +6,8 @@ use Rattle.patches.specs.Patched.{patched}
 use Rattle.strip.proofs.Entering.{entered, ready}
 use Rattle.strip.proofs.Reader.{early-as, lane-as, finished-as}
 use borrow.Author.Needs.{needs}
-use Rattle.strip.proofs.read.read.Statement.{statement}
-use Rattle.strip.proofs.read.read.Tie as tie
+use Rattle.strip.proofs.read.read_upto.Statement.{statement}
+use Rattle.strip.proofs.read.read_upto.Tie as tie
 
 enter-requires : tie.Need-enter-requires
 enter-requires c κs = search needs
@@ -15,7 +15,7 @@ enter-requires c κs = search needs
 returns : tie.Need-returns
 returns c =
     let a = c .before .before .before .before .before .before .args in
-    early-as 4 (a .strip .now) (a .marks .now) (a .tiles .now) (a .scratch .now) (c .before .enter .result .code) (c .if1 .taken)
+    early-as (a .upto) 4 (a .strip .now) (a .marks .now) (a .tiles .now) (a .scratch .now) (c .before .enter .result .code) (c .if1 .taken)
     (c .before .enter .ensures .first)
 
 mend-requires : tie.Need-mend-requires
@@ -34,7 +34,7 @@ returns-2 c =
     let z = c .before .before .before .before .if1 .left in
     let h = entered (a .strip .now) (a .marks .now) (length (a .tiles .now)) (length (a .scratch .now)) (g .result .code) z (g .ensures .first) in
     let r = ready (a .strip .now) (a .marks .now) (length (a .tiles .now)) (length (a .scratch .now)) h in
-    lane-as 4 (a .strip .now) (a .marks .now) (a .tiles .now) (a .scratch .now) (omega arith) (omega arith) _ h
+    lane-as (a .upto) 4 (a .strip .now) (a .marks .now) (a .tiles .now) (a .scratch .now) (omega arith) (omega arith) _ h
     (c .before .mend .result .beyond) (c .before .mend .ensures .lost (omega arith))
 
 accept-requires : tie.Need-accept-requires
@@ -71,13 +71,13 @@ returns-3 c =
     let m = c .before .before .before .before .before .before .before .before .before .before .before .mend in
     let four : 4 ≤ m .result .beyond = omega arith in
     let x = c .before .before .before .before .before .accept in
-    finished-as 4 (a .strip .now) (a .marks .now) (a .tiles .now) (a .scratch .now) (omega arith) (omega arith) _ h
+    finished-as (a .upto) 4 (a .strip .now) (a .marks .now) (a .tiles .now) (a .scratch .now) (omega arith) (omega arith) _ h
     (patched (m .last .1 .1 .1 .1 .0) (m .last .1 .1 .1 .1 .1 .0) (m .result .noted) (a .strip .now))
-    (m .ensures .found four) (m .result .mended) (m .result .repainted) (m .ensures .count four) (m .ensures .repaints four) (x .last .1 .1 .1 .1 .0) (c .finish .result)
-    (c .finish .ensures _ (a .tiles .now) (x .last .1 .1 .1 .1 .0) (x .ensures))
+    (m .ensures .found four) (m .result .mended) (m .result .repainted) (m .ensures .count four) (m .ensures .repaints four) (x .last .1 .1 .1 .1 .1 .0) (c .finish .result)
+    (c .finish .ensures (a .upto) _ (a .tiles .now) (x .last .1 .1 .1 .1 .1 .0) (x .ensures))
 
-pub read-spec : {M : Type 1} → statement M
-read-spec =
+pub read-upto-spec : {M : Type 1} → statement M
+read-upto-spec =
     tie.close
     (tie.spec
     enter-requires

@@ -276,6 +276,8 @@ static void check_readers(const struct picture *p, unsigned version)
         check_number(both.result, 7, "another version");
     if (zav_code(both.result) == ZAV_DONE)
         check_number(zav_level_version(both.result), version, "its version");
+    if (version == 2 && zav_code(both.result) == ZAV_BAD_TILE)
+        group_fail("three bits say no code above 7");
     if (version != 2 && memcmp(both.tiles, first.tiles, sizeof both.tiles) != 0)
         group_fail("other tiles for version 1");
 }

@@ -146,7 +146,7 @@ static void check_cells(const struct worked *w, const char *whole,
     }
 }
 
-/* FORMAT 12.8 to 12.10 and 12.15. */
+/* FORMAT 12.8 to 12.10, 12.15 and 12.16. */
 static void test_worked(void)
 {
     struct picture p;
@@ -155,6 +155,8 @@ static void test_worked(void)
     check_cells(&worked_level, "level 2 1 par 5 mended 0 wear 0\n",
                 "level 2 1 par 5 mended 1 wear 4\n");
     check_cells(&worked_finished, finished, finished);
+    check_cells(&worked_pit, "level 2 2 par 5 mended 0 wear 0\n",
+                "level 2 2 par 5 mended 1 wear 4\n");
     for (size_t i = 0; i < scaled(20); i++) {
         picture_worked(&p, &worked_level);
         damage_lane(&p, 2, 3, 0, ANY_BYTE);

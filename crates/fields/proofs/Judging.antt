@@ -74,12 +74,12 @@ module _ (bs : List ℕ) (f : Head) (hd : Heads bs f) where
       };
       par-small = omega (arith, field-below bs 14 10);
     };
-    in-time = omega (arith, hd .version, k .version-taken .in-time);
+    not-newer = omega (arith, hd .version, k .version-taken .not-newer);
   }
 
   pub head-of-level : (upto : ℕ) → Taken upto (levelOf bs) → Opens upto f
   head-of-level upto t = record {
-    version-taken = record { known = subst Known (sym (hd .version)) (t .ranged .known); in-time = omega (arith, hd .version, t .in-time) };
+    version-taken = record { known = subst Known (sym (hd .version)) (t .ranged .known); not-newer = omega (arith, hd .version, t .not-newer) };
     wide = omega (arith, hd .width, t .ranged .sized .wide);
     high = omega (arith, hd .height, t .ranged .sized .high);
   }

@@ -16,7 +16,7 @@ pub record Heads (bs : List ℕ) (r : Head) : Type 0 where
 -- a version that there is, and that is taken: any up to this one
 pub record VersionTaken (upto version : ℕ) : Type 0 where
   pub known : Known version
-  pub in-time : version ≤ upto
+  pub not-newer : version ≤ upto
 
 -- of such a version, and of a size that a level has
 pub record HeadRanged (upto version width height : ℕ) : Type 0 where

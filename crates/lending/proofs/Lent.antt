@@ -12,10 +12,10 @@ use Rattle.lending.specs.Lending.{InRange}
 -- the ranges, of numbers and of the level that has them
 module _ (upto v w h par : ℕ) (tiles : List ℕ) where
   pub ranged-is : InRange upto v w h par → Taken upto (lent v w h par tiles)
-  ranged-is r = record { ranged = record { known = r .version-taken .known; sized = r .sized; par-small = r .par-small }; in-time = r .version-taken .in-time }
+  ranged-is r = record { ranged = record { known = r .version-taken .known; sized = r .sized; par-small = r .par-small }; not-newer = r .version-taken .not-newer }
 
   pub ranged-has : Taken upto (lent v w h par tiles) → InRange upto v w h par
-  ranged-has t = record { version-taken = record { known = t .ranged .known; in-time = t .in-time }; sized = t .ranged .sized; par-small = t .ranged .par-small }
+  ranged-has t = record { version-taken = record { known = t .ranged .known; not-newer = t .not-newer }; sized = t .ranged .sized; par-small = t .ranged .par-small }
 
 module _ (upto : ℕ) (l : Level) where
   pub lent-level : (c : ℕ) → c ≡ 0 → First (asked (λ ask. ask l) (lending upto)) c → IsLevel l × (l .version ≤ upto)

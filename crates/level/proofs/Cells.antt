@@ -117,7 +117,7 @@ module _ (v h : ℕ) (known : Known v) (sized : Within 1 2 h) (ts : List ℕ) wh
   }
 
   taken : Taken 2 (board v h ts)
-  taken = record { ranged = ranged; in-time = known .to }
+  taken = record { ranged = ranged; not-newer = known .to }
 
   codes : T (allBelow (suc (codeMost v)) ts) → Coded (board v h ts)
   codes small i l = omega (arith, below-at (suc (codeMost v)) ts small i l)

@@ -116,10 +116,10 @@ not-nine upto R t coded (inr (a, inr (b, inr (c, inr (d, e))))) = omega (arith, 
 
 -- a level passes what is asked of one that is lent, and what passes is one
 pub level-passes : (upto : ℕ) (l : Level) → IsLevel l → l .version ≤ upto → Hold (asked (λ ask. ask l) (lending upto))
-level-passes upto l il early = (record { ranged = il .ranged; in-time = early }, (il .count, (il .codes, (il .playable, tt))))
+level-passes upto l il early = (record { ranged = il .ranged; not-newer = early }, (il .count, (il .codes, (il .playable, tt))))
 
 pub level-passed : (upto : ℕ) (l : Level) → Hold (asked (λ ask. ask l) (lending upto)) → IsLevel l × (l .version ≤ upto)
-level-passed upto l (r, (c, (k, (p, none)))) = (record { ranged = r .ranged; count = c; codes = k; playable = p }, r .in-time)
+level-passed upto l (r, (c, (k, (p, none)))) = (record { ranged = r .ranged; count = c; codes = k; playable = p }, r .not-newer)
 
 -- the record of a board, a level or not, with zero bytes after it
 module _ (R : ℕ) (some : 0 < R) (l : Level) (rec bs : List ℕ) (co : Counted l) (is : IsRecord l rec)

@@ -97,7 +97,7 @@ module _ (O : Ops) (F : IsField O) (bytes : O .size ≤ 256) (R : ℕ) (some : 0
     -- a mended strip whose record passes is a level's
     pub level-reached : {upto : ℕ} → Hold (asked (λ ask. ask (dataOf R t)) (judging upto R)) → Reached O R upto marks s (levelOf (dataOf R t)) t
     level-reached h =
-        let x = level-strip t m (M .reach .same-length ∙ full) (M .cells) (M .clean) h in record { is-level = x .0; in-time = h .0 .in-time; is-strip = x .1; reach = M .reach }
+        let x = level-strip t m (M .reach .same-length ∙ full) (M .cells) (M .clean) h in record { is-level = x .0; not-newer = h .0 .not-newer; is-strip = x .1; reach = M .reach }
 
     -- a level's strip within reach is the mended strip, and spells the level
     reached-is : {upto : ℕ} (l : Level) (u : List ℕ) → Reached O R upto marks s l u → u ≡ t
@@ -122,7 +122,7 @@ module _ (O : Ops) (F : IsField O) (bytes : O .size ≤ 256) (R : ℕ) (some : 0
         passed =
             subst (λ (x : List ℕ). First (asked (λ ask. ask (dataOf R x)) (judging upto R)) 0) (reached-is l u r)
             (strip-alike l u (r .is-level .count) (r .is-strip) upto 0
-            (hold-first (asked (λ ask. ask l) (lending upto)) (level-passes upto l (r .is-level) (r .in-time))))
+            (hold-first (asked (λ ask. ask l) (lending upto)) (level-passes upto l (r .is-level) (r .not-newer))))
 
   -- where the strip of a board is within reach, the strip read is refused as the board is
   pub board-found : (marks s u : List ℕ) (m : ℕ) → length s ≡ R * (m + 5) → m + 5 ≤ order → (l : Level) → Counted l → IsStrip O R l u → StripReach R marks s u

@@ -41,7 +41,7 @@ module _ (R : ℕ) (some : 0 < R) (marks r s : List ℕ) (m : ℕ) (full : lengt
   }
 
   pub same-reached : {upto : ℕ} (O : Ops) (l : Level) (t : List ℕ) → Reached O R upto marks r l t → Reached O R upto marks s l t
-  same-reached O l t h = record { is-level = h .is-level; in-time = h .in-time; is-strip = h .is-strip; reach = same-strip-reach t (h .reach) }
+  same-reached O l t h = record { is-level = h .is-level; not-newer = h .not-newer; is-strip = h .is-strip; reach = same-strip-reach t (h .reach) }
 
   pub same-mends : (O : Ops) (t : List ℕ) → Mends O R marks r t → Mends O R marks s t
   same-mends O t h = record { cells = h .cells; clean = h .clean; reach = same-strip-reach t (h .reach) }

@@ -44,7 +44,7 @@ pub but-two : (v : ℕ) → v ≢ 2 → TakeAlike 2 1 v
 but-two v other = ((λ h. omega arith), (λ h. omega arith))
 
 pub taken-alike : (m n : ℕ) (l : Level) → TakeAlike m n (l .version) → Taken m l → Taken n l
-taken-alike m n l takes t = record { ranged = t .ranged; in-time = takes .0 (t .in-time) }
+taken-alike m n l takes t = record { ranged = t .ranged; not-newer = takes .0 (t .not-newer) }
 
 -- they judge alike what they are told of, if the version is judged alike
 pub judging-alike : (m n R : ℕ) (t u : (List ℕ → Type 0) → Type 0) → ((ask : List ℕ → Type 0) → t ask → u ask) → ((ask : List ℕ → Type 0) → u ask → t ask)

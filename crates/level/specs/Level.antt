@@ -76,10 +76,10 @@ pub record IsLevel (l : Level) : Type 0 where
 
 -- ---- the refusals of what is no level
 
--- FORMAT 9.7: within the ranges, and of a version that is taken: any up to this one
+-- FORMAT 9.7: within the ranges, and of a version that is taken. A reader or writer takes every version up to one of them, which is 1 or the newest.
 pub record Taken (upto : ℕ) (l : Level) : Type 0 where
   pub ranged : Ranged l
-  pub in-time : l .version ≤ upto
+  pub not-newer : l .version ≤ upto
 
 -- FORMAT 9.10: for readers and writers alike, of texts too
 abbrev pub ruling : Question Level

@@ -85,7 +85,7 @@ module _ (O : Ops) (R : ℕ) where
   -- FORMAT 11.2: a level of a version up to this one, with its strip, of the same length and within reach
   pub record Reached (upto : ℕ) (marks s : List ℕ) (l : Level) (t : List ℕ) : Type 0 where
     pub is-level : IsLevel l
-    pub in-time : l .version ≤ upto
+    pub not-newer : l .version ≤ upto
     pub is-strip : IsStrip l t
     pub reach : StripReach R marks s t
 

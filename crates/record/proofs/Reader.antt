@@ -34,7 +34,7 @@ whole-record bs by s =
 
 module _ (upto : ℕ) (bs old : List ℕ) where
   none : (new : List ℕ) (c : ℕ) → new ≡ old → (c ≡ 0 → ⊥) → First (readingRecord upto bs (length old)) c → RecordReadsAs upto bs old new (read.Refused c)
-  none new c e n f = record { code = f; is-level = λ z. absurd (n z); in-time = λ z. absurd (n z); is-record = λ z. absurd (n z); past = λ z. absurd (n z); kept = λ _. e }
+  none new c e n f = record { code = f; is-level = λ z. absurd (n z); not-newer = λ z. absurd (n z); is-record = λ z. absurd (n z); past = λ z. absurd (n z); kept = λ _. e }
 
   pub not-read-1 : (Within 4 364 (length bs) → ⊥) → RecordReadsAs upto bs old old (read.Refused 1)
   not-read-1 n = none old 1 refl (λ z. omega arith) (stops 0 (readingRecord upto bs (length old)) 1 (n, refl))
@@ -54,7 +54,7 @@ module _ (upto : ℕ) (bs old : List ℕ) where
       record {
         code = inr (a, inr (b, subst (First (asked (λ ask. ask bs) (judging upto 1))) z (A .first)));
         is-level = λ _. subst IsLevel e (spelled-level bs (p .0 .ranged) (p .1 .1 .0) (p .1 .1 .1 .0));
-        in-time = λ _. omega (arith, A .version z, p .0 .in-time);
+        not-newer = λ _. omega (arith, A .version z, p .0 .not-newer);
         is-record = λ _. subst (λ (l : Level). IsRecord l bs) e (whole-record bs by (p .1 .0));
         past = λ _. tiles-past bs old new (r .version) (r .width) (r .height) (r .par) (A .version z) (A .width z) (A .height z) (A .par z) (A .tiles z);
         kept = λ k. absurd (k refl);

@@ -91,7 +91,7 @@ level-is-read upto l bs old new a il early is room A =
 -- and nothing else is
 pub read-is-record : (upto : ℕ) (bs old new : List ℕ) (a : RecordRead) → RecordReadsAs upto bs old new a → recordNumbers a .code ≡ 0
     → (l : Level) × IsLevel l × (l .version ≤ upto) × IsRecord l bs
-read-is-record upto bs old new a A z = (returned (recordNumbers a) new, A .is-level z, A .in-time z, A .is-record z)
+read-is-record upto bs old new a A z = (returned (recordNumbers a) new, A .is-level z, A .not-newer z, A .is-record z)
 
 -- What the writer wrote, read by a reader that takes its version, is the level that was lent, in its version.
 pub record-read-back : (upto : ℕ) (l : Level) (out out' old new : List ℕ) (a : Written) (b : RecordRead) → RecordWritesAs l out out' a → writtenNumbers a .code ≡ 0
@@ -190,4 +190,4 @@ pub record-version-refused : (upto : ℕ) (bs old new : List ℕ) (a : RecordRea
     → (fieldAt bs 0 4 ≤ upto → ⊥) → RecordReadsAs upto bs old new a → recordNumbers a .code ≡ 7
 record-version-refused upto bs old new a fits room late A =
     first-fixes (readingRecord upto bs (length old)) (recordNumbers a .code) 7 (A .code)
-    (inr (fits, inr (room, inl ((λ t. late (t .in-time)), refl))))
+    (inr (fits, inr (room, inl ((λ t. late (t .not-newer)), refl))))

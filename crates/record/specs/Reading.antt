@@ -20,7 +20,7 @@ recordNumbers (read.Refused c) = refusedAt c 0
 pub record RecordReadsAs (upto : ℕ) (bs old new : List ℕ) (a : RecordRead) : Type 0 where
   pub code : First (readingRecord upto bs (length old)) (recordNumbers a .code)
   pub is-level : recordNumbers a .code ≡ 0 → IsLevel (returned (recordNumbers a) new)
-  pub in-time : recordNumbers a .code ≡ 0 → recordNumbers a .version ≤ upto
+  pub not-newer : recordNumbers a .code ≡ 0 → recordNumbers a .version ≤ upto
   pub is-record : recordNumbers a .code ≡ 0 → IsRecord (returned (recordNumbers a) new) bs
   pub past : recordNumbers a .code ≡ 0
       → drop (recordNumbers a .width * recordNumbers a .height) new ≡ drop (recordNumbers a .width * recordNumbers a .height) old

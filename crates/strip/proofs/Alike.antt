@@ -195,12 +195,12 @@ module _ (m n R : ℕ) (some : 0 < R) (short : columns R 364 + 5 ≤ 255) (x y :
     early : returned (stripNumbers a) t1 .version ≤ n
     early =
         subst (λ (l : Level). TakeAlike m n (l .version)) spells
-        (takes (za .strip) (reached-mends gf256 field256 R some marks r (returned (stripNumbers a) t1) (za .strip) (za .reached))) .0 (za .reached .in-time)
+        (takes (za .strip) (reached-mends gf256 field256 R some marks r (returned (stripNumbers a) t1) (za .strip) (za .reached))) .0 (za .reached .not-newer)
 
     reached : Reached gf256 R n marks s (returned (stripNumbers a) t1) (za .strip)
     reached =
         same-reached R some marks r s (h .0 .k + 5) (full h) (matched h) same gf256 (returned (stripNumbers a) t1) (za .strip)
-        (record { is-level = za .reached .is-level; in-time = early; is-strip = za .reached .is-strip; reach = za .reached .reach })
+        (record { is-level = za .reached .is-level; not-newer = early; is-strip = za .reached .is-strip; reach = za .reached .reach })
 
     level : returned (stripNumbers a) t1 ≡ returned (stripNumbers b) t2
     level = zb .only (returned (stripNumbers a) t1) (za .strip) reached

@@ -88,7 +88,7 @@ module _ (R : ℕ) (two : 2 ≤ R) where
     version-refused t M late =
         first-fixes (entering R s marks (length tiles) (length scratch) ++ mending upto gf256 R s marks) (stripNumbers a .code) 7 (A .code)
         (after (entering R s marks (length tiles) (length scratch)) (mending upto gf256 R s marks) 7 h
-        (inr (mendable gf256 field256 R some marks s t M, inl ((λ f. late (f t M .in-time)), refl))))
+        (inr (mendable gf256 field256 R some marks s t M, inl ((λ f. late (f t M .not-newer)), refl))))
 
     -- FORMAT 9.55: 9 does not arise where the strip is mended to a record of version 2.
     pub v2-coded : (t : List ℕ) → Mends gf256 R marks s t → fieldAt (dataOf R t) 0 4 ≡ 2 → stripNumbers a .code ≢ 9
@@ -182,7 +182,7 @@ module _ (R : ℕ) (two : 2 ≤ R) where
   strip-v1-same s marks tiles t1 t2 u u' v v' a b eu A B reads =
       strip-v1-alike s marks tiles t1 t2 u u' v v' a b eu (λ t M. ⊎-elim (λ q e.
       omega (arith, e, q .1, mended-version newest s marks tiles t1 u u' a A (q .0) t M)) (λ z e.
-      omega (arith, e, B .level z .reached .in-time, mended-version 1 s marks tiles t2 v v' b B z t M)) reads) A B
+      omega (arith, e, B .level z .reached .not-newer, mended-version 1 s marks tiles t2 v v' b B z t M)) reads) A B
 
   -- FORMAT 10.10: of two readers, one asks for x bytes of scratch and one for y, and each is lent enough: the same numbers and tile bytes.
   pub any-scratch : (upto x y : ℕ) (s marks tiles t1 t2 u u' v v' : List ℕ) (a b : Reading) → x ≤ length u → y ≤ length v
@@ -295,7 +295,7 @@ module _ (R : ℕ) (two : 2 ≤ R) where
       )
         where
           at : Reached gf256 R upto marks s l t
-          at = record { is-level = wrote-level; in-time = early; is-strip = wrote-strip; reach = reach }
+          at = record { is-level = wrote-level; not-newer = early; is-strip = wrote-strip; reach = reach }
 
           z : stripNumbers (r .answer) .code ≡ 0
           z =

@@ -90,7 +90,7 @@ module _ (body : List ℕ) (w h par : ℕ) (S : Shown body w h) where
       asked-typing : (c : ℕ) → First (asked (λ ask. ask (levelTyped par rows)) (lending 1)) c → First (asked (λ ask. ask (levelTyped par rows)) typing) c
       asked-typing c (inl p) = absurd (p .0 (record {
         ranged = record { known = first-known; sized = rw (← S .width, ← S .height) sized; par-small = par-small };
-        in-time = omega arith;
+        not-newer = omega arith;
       }))
       asked-typing c (inr (r, inl p)) = absurd (p .0 (board-long (longest rows) rows (omega arith)))
       asked-typing c (inr (r, inr (n, inl p))) = absurd (p .0 (coded (longest rows) rows (S .has .letters)))

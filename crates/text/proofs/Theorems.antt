@@ -71,7 +71,7 @@ pub other-version-untyped : (l : Level) (old new : List ℕ) (a : Written) → l
     → writtenNumbers a .code ≡ 7
 other-version-untyped l old new a other room A =
     first-fixes (writingUpto 1 1001 l (length old)) (writtenNumbers a .code) 7 (A .code)
-    (inr (room, inl ((λ t. other (omega (arith, t .ranged .known .from, t .in-time))), refl)))
+    (inr (room, inl ((λ t. other (omega (arith, t .ranged .known .from, t .not-newer))), refl)))
 
 -- A level has one written text: what stands in front of the buffer is its text, whatever the buffer was.
 pub one-text : (l : Level) (old new : List ℕ) (a : Written) → TextWritesAs l old new a → writtenNumbers a .code ≡ 0

@@ -186,6 +186,7 @@ static const struct {
     /* no crate off its goal: there is none at all, or every one is on a goal */
     {10, TEXT("par 5\n@\n")},
     {10, TEXT("par 5\n*@\n")},
+    {10, TEXT("par 5\n$$@\n")},
     {10, TEXT("par 5\n*@ \n")},
     {10, TEXT("par 5\n*\n\n@\n")},
     {10, TEXT("par 5\n****\n*@**\n")},

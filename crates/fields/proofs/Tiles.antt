@@ -54,16 +54,16 @@ record Counts (ts : List ℕ) : Type 0 where
   few : (totals ts .player ≤ length ts) × (totals ts .crate' ≤ length ts) × (totals ts .goal ≤ length ts) × (totals ts .off ≤ totals ts .crate')
 
 -- what a tile adds to it
-record Counted (t : ℕ) : Type 0 where
+record TileCounts (t : ℕ) : Type 0 where
   sum : weighed t + 1099511627776 * over 7 t ≡ packed (adds t) + 1099511627776 * over 6 t + 1125899906842624 * over 7 t
   fewer : over 7 t ≤ over 6 t
   one : over 6 t ≤ 1
 
-counted : (t : ℕ) → Counted t
+tile-counts : (t : ℕ) → TileCounts t
 unfolding over
-counted t = go (lt-or-ge t 7) (lt-or-ge t 8)
+tile-counts t = go (lt-or-ge t 7) (lt-or-ge t 8)
   where
-    go : (t < 7) ⊎ (7 ≤ t) → (t < 8) ⊎ (8 ≤ t) → Counted t
+    go : (t < 7) ⊎ (7 ≤ t) → (t < 8) ⊎ (8 ≤ t) → TileCounts t
     go (inl h) k =
         let a : t ≤ 6 = omega arith in let b : t ≤ 7 = omega arith in
         record { sum = rw (le-ltb 6 t a, le-ltb 7 t b) (omega (arith, weighed-in t h)); fewer = rw (le-ltb 6 t a, le-ltb 7 t b) (omega arith); one = rw (le-ltb 6 t a) (omega arith) }
@@ -79,7 +79,7 @@ unfolding weight totals above
 counts [] = record { sum = refl; fewer = omega arith; short = omega arith; few = (omega arith, omega arith, omega arith, omega arith) }
 counts (t ∷ ts) =
     let r = counts ts in
-    let c = counted t in
+    let c = tile-counts t in
     record {
       sum = omega (arith, r .sum, c .sum);
       fewer = omega (arith, r .fewer, c .fewer);

@@ -284,8 +284,8 @@ module _ (R : ℕ) (two : 2 ≤ R) where
           told-six upto s marks legal matched good j hj
           (six-beyond gf256 field256 R some marks s (legal .k + 5) (legal .cells) words l t j matched wrote-strip same hj six) r
 
-      -- FORMAT 11.10: with damage within reach in every lane its level is returned, where its version is taken; mended is the number of unmarked cells that changed, and
-      -- repainted that of the marked ones.
+      -- FORMAT 11.10: with damage within reach in every lane its level is returned, if its version is taken; mended is the number of unmarked cells
+      -- that changed, and repainted that of the marked ones.
       pub damaged-read-back : l .version ≤ upto → StripReach R marks s t
           → Answers upto R s marks (λ x tiles'. Gives l x tiles' × (x .mended ≡ differing marks s t) × (x .repainted ≡ repainted marks s t))
       damaged-read-back early reach r = (

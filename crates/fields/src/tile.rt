@@ -43,17 +43,19 @@ fn matched(version: usize, crates: u64, goals: u64) -> bool
 pub fn sum_code(version: usize, x: u64) -> u8
     ensures { λ r. ⌜ SumCode version x r ⌝ }
 {
-    if !coded(version, x) {
-        return 9;
-    }
+    let known = coded(version, x);
     let players = x % 1024;
     let crates = x / 1024 % 1024;
     let goals = x / 1048576 % 1024;
     let off = x / 1073741824 % 1024;
+    let paired = matched(version, crates, goals);
+    if !known {
+        return 9;
+    }
     if players != 1 {
         return 10;
     }
-    if !matched(version, crates, goals) {
+    if !paired {
         return 10;
     }
     if off == 0 {

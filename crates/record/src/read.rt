@@ -18,11 +18,12 @@ fn judge(upto: usize, bs: &[u8], lanes: usize) -> Judged
     ensures { λ r. ⌜ JudgedAs upto lanes (now (bs .entry)) r ⌝ }
 {
     let f = fields::head::head_of(bs);
-    if !fields::head::head_ranged(upto, f.version, f.width, f.height) {
+    let opens = fields::head::head_ranged(upto, f.version, f.width, f.height);
+    let fits = fields::shape::shaped(bs, lanes, f.width * f.height);
+    if !opens {
         return fields::judged::refused(7);
     }
-    let m = f.width * f.height;
-    if !fields::shape::shaped(bs, lanes, m) {
+    if !fits {
         return fields::judged::refused(8);
     }
     let code = fields::tile::sum_code(f.version, tiles::count::tally(&bs[3..]));

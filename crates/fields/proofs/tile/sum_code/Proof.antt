@@ -15,19 +15,22 @@ use Rattle.fields.proofs.tile.sum_code.Tie as tie
 coded-requires : tie.Need-coded-requires
 coded-requires c κs = search needs
 
+matched-requires : tie.Need-matched-requires
+matched-requires c κs = search needs
+
 returns : tie.Need-returns
 returns c = record {
   code-of = λ ts h e. (
-      let a = c .before .before .args in
-      let k = c .before .coded in
+      let a = c .before .before .before .args in
+      let k = c .before .before .coded in
       inl (denied (AllTiles (a .version) ts) (k .result) (not-true (k .result) (c .if1 .taken)) (k .ensures .says ts h e), refl));
 }
 
 returns-2 : tie.Need-returns-2
 returns-2 c = record {
   code-of = λ ts h e. (
-      let a = c .before .before .before .args in
-      let k = c .before .before .coded in
+      let a = c .before .before .before .before .args in
+      let k = c .before .before .before .coded in
       let s = sums ts (a .x) h e in
       inr (
         said (AllTiles (a .version) ts) (k .result) (not-false (k .result) (c .before .if1 .left)) (k .ensures .says ts h e),
@@ -35,18 +38,15 @@ returns-2 c = record {
       ));
 }
 
-matched-requires : tie.Need-matched-requires
-matched-requires c κs = search needs
-
 returns-3 : tie.Need-returns-3
 returns-3 c = record {
   code-of = λ ts h e. (
       let a = c .before .before .before .before .before .args in
       let k = c .before .before .before .before .coded in
-      let m = c .before .matched in
+      let m = c .before .before .before .matched in
       let s = sums ts (a .x) h e in
       inr (
-        said (AllTiles (a .version) ts) (k .result) (not-false (k .result) (c .before .before .before .if1 .left)) (k .ensures .says ts h e),
+        said (AllTiles (a .version) ts) (k .result) (not-false (k .result) (c .before .before .if1 .left)) (k .ensures .says ts h e),
         inl (
           (λ p. denied (Matched (a .version) (a .x / 1024 % 1024) (a .x / 1048576 % 1024)) (m .result) (not-true (m .result) (c .if3 .taken)) (m .ensures) (record {
             enough = omega (arith, p .enough, s .crate-is, s .goal-is);
@@ -64,7 +64,7 @@ returns-4 c = record {
       let k = c .before .before .before .before .before .coded in
       let s = sums ts (a .x) h e in
       inr (
-        said (AllTiles (a .version) ts) (k .result) (not-false (k .result) (c .before .before .before .before .if1 .left)) (k .ensures .says ts h e),
+        said (AllTiles (a .version) ts) (k .result) (not-false (k .result) (c .before .before .before .if1 .left)) (k .ensures .says ts h e),
         inl (λ p. omega (arith, p .unfinished, s .off-is, c .if4 .taken), refl),
       ));
 }
@@ -74,21 +74,21 @@ returns-5 c = record {
   code-of = λ ts h e. (
       let a = c .before .before .before .before .before .before .args in
       let k = c .before .before .before .before .before .coded in
-      let m = c .before .before .matched in
+      let m = c .before .before .before .before .matched in
       let s = sums ts (a .x) h e in
       let g = said (Matched (a .version) (a .x / 1024 % 1024) (a .x / 1048576 % 1024)) (m .result) (not-false (m .result) (c .before .if3 .left)) (m .ensures) in
       let p : Playable (a .version) (totals ts) = record {
-        one-player = omega (arith, s .player-is, c .before .before .before .if2 .left);
+        one-player = omega (arith, s .player-is, c .before .before .if2 .left);
         some-crate = omega (arith, s .off-is, s .off-crates, c .if4 .left);
         enough = omega (arith, s .crate-is, s .goal-is, g .enough);
         as-many = λ early. sym (s .crate-is) ∙ g .as-many early ∙ s .goal-is;
         unfinished = omega (arith, s .off-is, c .if4 .left);
       } in
       inr (
-        said (AllTiles (a .version) ts) (k .result) (not-false (k .result) (c .before .before .before .before .if1 .left)) (k .ensures .says ts h e),
+        said (AllTiles (a .version) ts) (k .result) (not-false (k .result) (c .before .before .before .if1 .left)) (k .ensures .says ts h e),
         inr (p, refl),
       ));
 }
 
 pub sum-code-spec : {M : Type 1} → statement M
-sum-code-spec = tie.close (tie.spec coded-requires returns returns-2 matched-requires returns-3 returns-4 returns-5)
+sum-code-spec = tie.close (tie.spec coded-requires matched-requires returns returns-2 returns-3 returns-4 returns-5)

@@ -1,11 +1,12 @@
 /*
  * archive.c - a whole archive scanned, beside libfec, timed in one run.
  *
- * 100,000 strips of levels of any size stand in memory one behind the other:
- * most clean, some damaged, some beyond reach. Ours reads them in turn, each to
- * the same tile buffer. libfec is given the same strips dealt out to lanes
- * beforehand, as in strips.c, and called four times a strip. Strips a second
- * for both and how many times faster ours is; only the ratio travels.
+ * 100,000 strips of four lanes, of levels of any size, stand in memory one
+ * behind the other: most clean, some damaged, some beyond reach. Ours reads
+ * them in turn, each to the same tile buffer. libfec is given the same strips
+ * dealt out to lanes beforehand, as in strips.c, and called four times a strip.
+ * Strips a second for both and how many times faster ours is; only the ratio
+ * travels.
  */
 #include <fec.h>
 #include <stdio.h>
@@ -19,7 +20,9 @@
 enum {
     STRIPS = 100000,
     ROUNDS = 2, /* of a run */
-    ROOM = STRIPS * REF_STRIP_MAX
+    LONGEST = ZAV_STRIP_LONGEST(REF_LANES),
+    LANE_MAX = LONGEST / REF_LANES,
+    ROOM = STRIPS * LONGEST
 };
 
 /* ---- the mix, 100 % in all ---- */
@@ -59,15 +62,15 @@ struct entry {
 };
 
 struct archive {
-    void *fec[REF_LANE_MAX + 1]; /* by the length of a lane */
+    void *fec[LANE_MAX + 1]; /* by the length of a lane */
     struct entry entry[STRIPS];
     uint8_t strips[ROOM];
     uint8_t marks[ROOM];
     uint8_t written[ROOM]; /* lanes, one behind the other */
     uint8_t lanes[ROOM];
     uint8_t work[ROOM]; /* what a pass changes */
-    erasures marked[STRIPS];
-    erasures work_marked[STRIPS];
+    int marked[STRIPS][REF_LANES][REF_CHECK_BYTES];
+    int work_marked[STRIPS][REF_LANES][REF_CHECK_BYTES];
     uint8_t tiles[REF_TILES_MAX];
     uint8_t scratch[REF_SCRATCH_MIN];
     uint64_t result[STRIPS];
@@ -82,10 +85,10 @@ static size_t put_strip(struct archive *a, int i, size_t at)
 
     draw_any_level(&level);
     e->damage = draw_share();
-    draw_damaged(&s, &level, e->damage);
+    draw_damaged(&s, REF_LANES, &level, e->damage);
     e->at = at;
     e->cells = s.picture.strip_len;
-    e->due = due_result(&level, e->damage, e->cells);
+    e->due = due_result(&level, e->damage, REF_LANES, e->cells);
 
     const size_t len = lane_len(&s.picture);
 
@@ -95,7 +98,7 @@ static size_t put_strip(struct archive *a, int i, size_t at)
         memcpy(a->written + at + lane * len, s.written[lane], len);
         memcpy(a->lanes + at + lane * len, s.lane[lane], len);
     }
-    memcpy(a->marked[i], s.marked, sizeof s.marked);
+    memcpy(a->marked[i], s.marked, sizeof a->marked[i]);
     return at + e->cells;
 }
 
@@ -126,7 +129,7 @@ static void our_scan(void *batch)
     for (int i = 0; i < STRIPS; i++) {
         const struct entry *e = &a->entry[i];
 
-        a->result[i] = zav_strip_read(a->strips + e->at, e->cells,
+        a->result[i] = zav_strip_read(REF_LANES, a->strips + e->at, e->cells,
                                       a->marks + e->at, e->cells, a->tiles,
                                       REF_TILES_MAX, a->scratch,
                                       REF_SCRATCH_MIN);
@@ -186,7 +189,7 @@ int main(void)
 {
     static struct archive a;
 
-    for (size_t len = REF_WORD_MIN; len <= REF_LANE_MAX; len++)
+    for (size_t len = REF_WORD_MIN; len <= LANE_MAX; len++)
         a.fec[len] = new_fec(len);
     draw_seed(1);
     printf("an archive of %d strips, %zu cells in all\n", STRIPS, fill(&a));
@@ -195,7 +198,7 @@ int main(void)
     print_heads("libfec");
     printf("%-33s", "scan");
     compare(&a);
-    for (size_t len = REF_WORD_MIN; len <= REF_LANE_MAX; len++)
+    for (size_t len = REF_WORD_MIN; len <= LANE_MAX; len++)
         free_rs_char(a.fec[len]);
     return 0;
 }

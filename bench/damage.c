@@ -11,11 +11,11 @@ bool is_reached(const struct damage *d)
     return 2 * d->wrong + d->marked <= REF_REACH;
 }
 
-void draw_damaged(struct damaged *s, const struct board *level,
+void draw_damaged(struct damaged *s, size_t lanes, const struct board *level,
                   const struct damage *d)
 {
-    picture_board(&s->picture, level);
-    for (size_t lane = 0; lane < REF_LANES; lane++) {
+    picture_board(&s->picture, lanes, level);
+    for (size_t lane = 0; lane < lanes; lane++) {
         struct sample l;
 
         take_lane(&s->picture, lane, &l);
@@ -29,9 +29,9 @@ void draw_damaged(struct damaged *s, const struct board *level,
 }
 
 uint64_t due_result(const struct board *level, const struct damage *d,
-                    size_t cells)
+                    size_t lanes, size_t cells)
 {
-    const size_t damaged = REF_LANES - d->first_lane;
+    const size_t damaged = lanes - d->first_lane;
     const unsigned mended = (unsigned)(damaged * d->wrong);
 
     if (!is_reached(d))
@@ -42,7 +42,7 @@ uint64_t due_result(const struct board *level, const struct damage *d,
         .height = (unsigned)level->height, .par = (unsigned)level->par,
         .mended = mended,
         .repainted = (unsigned)(damaged * d->marked),
-        .wear = ref_wear(mended, cells)});
+        .wear = ref_wear(mended, cells), .lanes = (unsigned)lanes});
 }
 
 void fec_read_lane(void *fec, uint8_t *word, const struct damage *d,

@@ -18,23 +18,25 @@ struct damage {
 /* Is the strip that was written within reach? */
 bool is_reached(const struct damage *d);
 
-typedef uint8_t lanes[REF_LANES][REF_LANE_MAX];
-typedef int erasures[REF_LANES][REF_CHECK_BYTES];
+/* As many as a strip can have; those past its own lanes are not used. */
+typedef uint8_t dealt[REF_LANES_MAX][REF_LANE_MAX];
+typedef int erasures[REF_LANES_MAX][REF_CHECK_BYTES];
 
 struct damaged {
     struct picture picture; /* what we are given */
-    lanes written;          /* what is right, and what libfec is given */
-    lanes lane;
+    dealt written;          /* what is right, and what libfec is given */
+    dealt lane;
     erasures marked;
 };
 
-/* The level's strip, damaged. No byte under a mark is right. */
-void draw_damaged(struct damaged *s, const struct board *level,
+/* The level's strip of so many lanes, damaged. No byte under a mark is
+   right. */
+void draw_damaged(struct damaged *s, size_t lanes, const struct board *level,
                   const struct damage *d);
 
 /* What our reader must say of it: the level, or refusal 6. */
 uint64_t due_result(const struct board *level, const struct damage *d,
-                    size_t cells);
+                    size_t lanes, size_t cells);
 
 /* libfec on one lane of it. */
 void fec_read_lane(void *fec, uint8_t *word, const struct damage *d,

@@ -30,7 +30,7 @@ struct batch {
     size_t k;
     marking *mark;
     struct picture first[PAIRS], second[PAIRS];
-    uint8_t cells[PAIRS][REF_STRIP_MAX], marks[PAIRS][REF_STRIP_MAX];
+    uint8_t cells[PAIRS][REF_POOL_MAX], marks[PAIRS][REF_POOL_MAX];
     uint64_t result[PAIRS];
 };
 
@@ -65,7 +65,7 @@ static void fill(void *batch)
     struct batch *b = batch;
 
     for (int i = 0; i < PAIRS; i++) {
-        picture_length(&b->first[i], b->k);
+        picture_length(&b->first[i], REF_LANES, b->k);
         b->second[i] = b->first[i];
         b->mark(&b->first[i]);
         b->mark(&b->second[i]);
@@ -172,8 +172,7 @@ static void time_length(size_t k)
     b.k = k;
     for (size_t m = 0; m < COUNT(markings); m++) {
         b.mark = markings[m].mark;
-        printf("%5zu  %-26s", REF_LANES * (k + REF_CHECK_BYTES),
-               markings[m].name);
+        printf("%5zu  %-26s", ref_strip_len(REF_LANES, k), markings[m].name);
         print_row(&row);
     }
 }
@@ -184,7 +183,7 @@ int main(void)
     printf("ns per pair of pictures pooled\n");
     printf("%5s  %-26s", "cells", "marked in each");
     print_heads("reference");
-    time_length(REF_K_MAX);
-    time_length(1);
+    time_length(ref_k_max(REF_LANES));
+    time_length(ref_k_min(REF_LANES));
     return 0;
 }

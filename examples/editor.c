@@ -11,7 +11,8 @@
 
 #include "zavullimen_strips.h"
 
-enum { WIDTH = 6, HEIGHT = 4, PAR = 12 };
+/* A strip does not say how many lanes it has; whoever sends it does. */
+enum { LANES = ZAV_STRIP_LANES, WIDTH = 6, HEIGHT = 4, PAR = 12 };
 
 /* The level of game.c: 1 wall, 2 crate, 3 goal, 4 crate on goal, 5 player. */
 static const uint8_t tiles[WIDTH * HEIGHT] = {
@@ -39,22 +40,23 @@ static void damage(struct picture *p)
     p->marks[25] = 1;
 }
 
-/* The strip within reach is the one that is written for the level read. True
- * if there is one; the reader's answer says how many cells differ. */
+/* The strip within reach is the one that is written for the level read, with
+ * the lanes read. True if there is one; the reader's answer says how many cells
+ * differ. */
 static bool redraw(const struct picture *p, uint8_t drawn[ZAV_STRIP_MAX],
                    uint64_t *answer)
 {
     static uint8_t level[ZAV_TILES_MAX], scratch[ZAV_SCRATCH_MIN];
 
-    *answer = zav_strip_read(p->cells, p->len, p->marks, p->len, level,
+    *answer = zav_strip_read(LANES, p->cells, p->len, p->marks, p->len, level,
                              sizeof level, scratch, sizeof scratch);
     if (zav_code(*answer) != ZAV_DONE)
         return false;
 
     const size_t width = zav_width(*answer), height = zav_height(*answer);
 
-    zav_strip_write(zav_level_version(*answer), width, height,
-                    zav_par(*answer), level, width * height, drawn,
+    zav_strip_write(zav_lanes(*answer), zav_level_version(*answer), width,
+                    height, zav_par(*answer), level, width * height, drawn,
                     ZAV_STRIP_MAX);
     return true;
 }
@@ -85,8 +87,8 @@ int main(void)
     uint8_t drawn[ZAV_STRIP_MAX];
     uint64_t answer;
 
-    p.len = zav_length(zav_strip_write(ZAV_LEVEL_V1, WIDTH, HEIGHT, PAR, tiles,
-                                       sizeof tiles, p.cells,
+    p.len = zav_length(zav_strip_write(LANES, ZAV_LEVEL_V1, WIDTH, HEIGHT, PAR,
+                                       tiles, sizeof tiles, p.cells,
                                        sizeof p.cells));
     damage(&p);
     if (!redraw(&p, drawn, &answer)) {

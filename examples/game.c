@@ -9,7 +9,9 @@
 
 #include "zavullimen_strips.h"
 
-enum { WIDTH = 6, HEIGHT = 4, PAR = 12 };
+/* A strip does not say how many lanes it has: whoever writes it and whoever
+ * reads it name the same number, 2, 4, 8 or 16. */
+enum { LANES = ZAV_STRIP_LANES, WIDTH = 6, HEIGHT = 4, PAR = 12 };
 
 /* By tile code: floor, wall, crate, goal, crate on goal, player, player on
  * goal, and pit. The level has no pit, so that version 1 is enough for it; one
@@ -44,7 +46,8 @@ static void print_level(uint64_t result, const uint8_t *tiles)
            zav_mended(result), zav_repainted(result), zav_wear(result));
 }
 
-/* Lane p mod 4 is where cell p belongs; only refusal 6 has a lane to tell. */
+/* Lane p mod LANES is where cell p belongs; only refusal 6 has a lane to
+ * tell. */
 static void print_refusal(uint64_t result)
 {
     printf("refused %u: %s", zav_code(result),
@@ -54,12 +57,13 @@ static void print_refusal(uint64_t result)
     putchar('\n');
 }
 
-/* The buffers are as long as any strip needs, so they can be kept. */
+/* The buffers are as long as any strip needs, whatever its lanes, so they can
+ * be kept. */
 static void read_picture(const uint8_t *cells, const uint8_t *marks, size_t len)
 {
     static uint8_t tiles[ZAV_TILES_MAX], scratch[ZAV_SCRATCH_MIN];
-    const uint64_t result = zav_strip_read(cells, len, marks, len, tiles,
-                                           sizeof tiles, scratch,
+    const uint64_t result = zav_strip_read(LANES, cells, len, marks, len,
+                                           tiles, sizeof tiles, scratch,
                                            sizeof scratch);
 
     if (zav_code(result) == ZAV_DONE)
@@ -75,9 +79,9 @@ int main(void)
 
     type_level(tiles);
 
-    const uint64_t written = zav_strip_write(ZAV_LEVEL_V1, WIDTH, HEIGHT, PAR,
-                                             tiles, sizeof tiles, strip,
-                                             sizeof strip);
+    const uint64_t written = zav_strip_write(LANES, ZAV_LEVEL_V1, WIDTH,
+                                             HEIGHT, PAR, tiles, sizeof tiles,
+                                             strip, sizeof strip);
 
     if (zav_code(written) != ZAV_DONE) {
         print_refusal(written);

@@ -11,8 +11,9 @@
 
 #include "zavullimen_strips.h"
 
-enum { WIDTH = 6, HEIGHT = 4, PAR = 12, COLOUR = 0xEE,
-       MOST = ZAV_STICKER_MARKED + 2 };
+/* More lanes bear wider stickers: 2, 4, 8 or 16 may stand here. */
+enum { LANES = ZAV_STRIP_LANES, WIDTH = 6, HEIGHT = 4, PAR = 12, COLOUR = 0xEE,
+       MOST = ZAV_STICKER_MARKED(LANES) + 2 };
 
 /* The level of game.c: 1 wall, 2 crate, 3 goal, 4 crate on goal, 5 player. */
 static const uint8_t level[WIDTH * HEIGHT] = {
@@ -42,8 +43,8 @@ static enum outcome try_sticker(const uint8_t *strip, size_t len, size_t start,
     memset(spoilt + start, COLOUR, cells);
     memset(marks + start, marked, cells);
 
-    const uint64_t result = zav_strip_read(spoilt, len, marks, len, tiles,
-                                           sizeof tiles, scratch,
+    const uint64_t result = zav_strip_read(LANES, spoilt, len, marks, len,
+                                           tiles, sizeof tiles, scratch,
                                            sizeof scratch);
 
     if (zav_code(result) != ZAV_DONE)
@@ -65,9 +66,9 @@ static void print_tries(const uint8_t *strip, size_t len, size_t cells,
 int main(void)
 {
     uint8_t strip[ZAV_STRIP_MAX];
-    const uint64_t written = zav_strip_write(ZAV_LEVEL_V1, WIDTH, HEIGHT, PAR,
-                                             level, sizeof level, strip,
-                                             sizeof strip);
+    const uint64_t written = zav_strip_write(LANES, ZAV_LEVEL_V1, WIDTH,
+                                             HEIGHT, PAR, level, sizeof level,
+                                             strip, sizeof strip);
 
     if (zav_code(written) != ZAV_DONE) {
         printf("refused %u: %s\n", zav_code(written),
@@ -82,8 +83,8 @@ int main(void)
         printf("the strip has the sticker's colour: choose another\n");
         return 1;
     }
-    printf("a strip of %zu cells: up to %d may be covered, %d if marked\n\n",
-           len, ZAV_STICKER_UNMARKED, ZAV_STICKER_MARKED);
+    printf("%zu cells in %d lanes: up to %d may be covered, %d if marked\n\n",
+           len, LANES, ZAV_STICKER_UNMARKED(LANES), ZAV_STICKER_MARKED(LANES));
     printf("             nobody marked it              marked\n");
     printf("cells      read   refused   another      read   refused   another\n");
     for (size_t cells = 1; cells <= MOST; cells++) {

@@ -27,7 +27,7 @@ extern "C" {
 #define ZAV_DATA_MAX 250
 #define ZAV_WORD_MIN 6      /* bytes in a word */
 #define ZAV_WORD_MAX 255
-#define ZAV_LANE_MAX 96     /* cells in a lane; at least ZAV_WORD_MIN */
+#define ZAV_LANE_MAX 187    /* cells in a lane; at least ZAV_WORD_MIN */
 
 /* The code of a result: ZAV_DONE, or the number of the refusal. */
 enum zav_result_code {
@@ -45,7 +45,8 @@ enum zav_result_code {
     ZAV_BAD_TEXT = 11,
     ZAV_BAD_ROWS = 12,
     ZAV_UNEQUAL_STRIPS = 13,
-    ZAV_NOT_TINY = 14
+    ZAV_NOT_TINY = 14,
+    ZAV_BAD_LANES = 15
 };
 
 /* What a code says, for people; the text may change, the code does not. */
@@ -87,6 +88,8 @@ static inline const char *zav_refusal_text(unsigned code)
     case ZAV_NOT_TINY:
         return "the width or the height is 0, or the board has more than 6 "
                "tiles";
+    case ZAV_BAD_LANES:
+        return "the lane count is none of 2, 4, 8 and 16";
     default:
         return "unknown refusal";
     }
@@ -149,7 +152,7 @@ uint64_t zav_word_repair(uint8_t *word, size_t len,
                          const uint8_t *marks, size_t marks_len);
 
 /*
- * The same repair for a lane of 6 to 96 cells: the lane is replaced, and
+ * The same repair for a lane of 6 to 187 cells: the lane is replaced, and
  * mended and repainted returned. Nothing is written when refused, and the marks
  * never are. Lane and marks must not overlap.
  */

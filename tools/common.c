@@ -1,4 +1,5 @@
-/* common.c - what the tools share: input, strips, refusals, progress. */
+/* common.c - what the tools share: lanes, input, strips, refusals,
+ * progress. */
 #define _POSIX_C_SOURCE 200809L /* for isatty */
 #include "common.h"
 
@@ -13,6 +14,79 @@ bool wants_help(int argc, char **argv)
     return argc == 2 && (strcmp(argv[1], "--help") == 0 ||
                          strcmp(argv[1], "-h") == 0);
 }
+
+/* ---- lanes ---- */
+
+const size_t lane_counts[LANE_COUNTS] = {2, 4, 8, 16};
+
+/* The word as it must be: no sign, no zero in front. */
+static bool set_lanes(struct lanes *l, const char *word, bool or_any)
+{
+    static const char *const words[LANE_COUNTS] = {"2", "4", "8", "16"};
+
+    l->given = true;
+    l->count = ANY_LANES;
+    for (size_t i = 0; i < LANE_COUNTS; i++)
+        if (strcmp(word, words[i]) == 0)
+            l->count = lane_counts[i];
+    return l->count != ANY_LANES || (or_any && strcmp(word, "any") == 0);
+}
+
+/* The word is NULL where there is none. */
+static bool refuse_lanes(const char *tool, const char *word, const char *why,
+                         bool or_any)
+{
+    fprintf(stderr, "%s: --lanes", tool);
+    if (word != NULL) {
+        putc(' ', stderr);
+        print_name(stderr, word);
+    }
+    fprintf(stderr, ": %s 2, 4, 8 or 16%s\n", why,
+            or_any ? ", or any to try each that fits" : "");
+    return false;
+}
+
+/* A name may start with a dash if it stands after "--", and be a dash. */
+static bool is_option(const char *word)
+{
+    return word[0] == '-' && word[1] != '\0' && strcmp(word, "--") != 0;
+}
+
+/* Leave out two arguments, and keep the NULL after the last. */
+static void leave_out_two(int *argc, char **argv, int from)
+{
+    *argc -= 2;
+    for (int i = from; i <= *argc; i++)
+        argv[i] = argv[i + 2];
+}
+
+bool take_lanes(struct lanes *l, const char *tool, bool or_any, int *argc,
+                char **argv)
+{
+    int i = 1;
+
+    *l = (struct lanes){ZAV_STRIP_LANES, false};
+    while (i < *argc && is_option(argv[i])) {
+        const char *word = argv[i + 1];
+
+        if (strcmp(argv[i], "--lanes") != 0) {
+            i++;
+            continue;
+        }
+        if (word == NULL)
+            return refuse_lanes(tool, word, "a lane count must follow,",
+                                or_any);
+        if (l->given)
+            return refuse_lanes(tool, word, "it is there twice; name one of",
+                                or_any);
+        if (!set_lanes(l, word, or_any))
+            return refuse_lanes(tool, word, "a lane count is", or_any);
+        leave_out_two(argc, argv, i);
+    }
+    return true;
+}
+
+/* ---- cells ---- */
 
 bool take_cells(struct cells *c, FILE *file)
 {
@@ -35,24 +109,25 @@ bool take_cells_of(struct cells *c, const char *path)
     return taken;
 }
 
-uint64_t read_cells(const struct cells *c, uint8_t tiles[ZAV_TILES_MAX])
+uint64_t read_cells(size_t lanes, const struct cells *c,
+                    uint8_t tiles[ZAV_TILES_MAX])
 {
     uint8_t scratch[ZAV_SCRATCH_MIN];
     const size_t len = c->len / 2;
 
     if (c->len % 2 != 0 || c->len > CELLS_MAX)
         return ZAV_BAD_LENGTH;
-    return zav_strip_read(c->bytes, len, c->bytes + len, len, tiles,
+    return zav_strip_read(lanes, c->bytes, len, c->bytes + len, len, tiles,
                           ZAV_TILES_MAX, scratch, sizeof scratch);
 }
 
-uint64_t put_cells(FILE *out, size_t version, size_t width, size_t height,
-                   size_t par, const uint8_t *tiles)
+uint64_t put_cells(FILE *out, size_t lanes, size_t version, size_t width,
+                   size_t height, size_t par, const uint8_t *tiles)
 {
     uint8_t strip[ZAV_STRIP_MAX];
     static const uint8_t marks[ZAV_STRIP_MAX];
-    const uint64_t result = zav_strip_write(version, width, height, par, tiles,
-                                            width * height, strip,
+    const uint64_t result = zav_strip_write(lanes, version, width, height, par,
+                                            tiles, width * height, strip,
                                             sizeof strip);
 
     if (zav_code(result) == ZAV_DONE) {
@@ -62,18 +137,26 @@ uint64_t put_cells(FILE *out, size_t version, size_t width, size_t height,
     return result;
 }
 
-const char *refusal_words(unsigned code)
+/* ---- words ---- */
+
+void print_words(FILE *out, size_t lanes, unsigned code)
 {
-    if (code == ZAV_BAD_LENGTH)
-        return "not a strip of 24 to 384 cells, a multiple of 4, followed by "
-               "as many marks";
-    return zav_refusal_text(code);
+    if (code != ZAV_BAD_LENGTH)
+        fputs(zav_refusal_text(code), out);
+    else if (lanes == ANY_LANES)
+        fputs("not as long as a strip of 2, 4, 8 or 16 lanes followed by as "
+              "many marks", out);
+    else
+        fprintf(out, "not a strip of %zu to %zu cells, a multiple of %zu, "
+                "followed by as many marks", ZAV_STRIP_SHORTEST(lanes),
+                ZAV_STRIP_LONGEST(lanes), lanes);
 }
 
-void print_refusal(FILE *out, uint64_t result)
+void print_refusal(FILE *out, size_t lanes, uint64_t result)
 {
-    fprintf(out, "refused %u lane %u: %s\n", zav_code(result),
-            zav_lane(result), refusal_words(zav_code(result)));
+    fprintf(out, "refused %u lane %u: ", zav_code(result), zav_lane(result));
+    print_words(out, lanes, zav_code(result));
+    putc('\n', out);
 }
 
 /* The character in front of a text in UTF-8; its length is returned, or 0 if
@@ -139,6 +222,8 @@ int complain(const char *tool, const char *name, const char *why)
     fprintf(stderr, "%s\n", why);
     return NOT_RUN;
 }
+
+/* ---- progress, and the end ---- */
 
 static struct {
     bool shown;

@@ -1,10 +1,10 @@
 /*
  * zavmake.c - make the strip of a level that was typed as text.
  *
- * zavmake [FILE] reads a text from the file or from standard input, and writes
- * the level's strip followed by as many zero marks to standard output: what
- * zavshow reads. Nothing is written but whole strips. The help below says what
- * a text is, and how it ends.
+ * zavmake [--lanes N] [FILE] reads a text from the file or from standard input,
+ * and writes the level's strip, of four lanes or of N, followed by as many zero
+ * marks to standard output: what zavshow reads. Nothing is written but whole
+ * strips. The help below says what a text is, and how it ends.
  */
 #include <errno.h>
 #include <stdlib.h>
@@ -16,7 +16,7 @@
 static const char tool[] = "zavmake";
 
 static const char help[] =
-    "usage: zavmake [FILE] > CELLS\n"
+    "usage: zavmake [--lanes N] [FILE] > CELLS\n"
     "Writes the strip of a level, followed by as many zero marks. FILE is the "
     "level as text;\n"
     "without FILE it comes from standard input. The first line is 'par', one "
@@ -28,6 +28,9 @@ static const char help[] =
     "A level has one player, as many crates as goals, and a crate off its "
     "goal. Texts are\n"
     "levels of version 1: a pit cannot be typed.\n"
+    "--lanes: the strip has N lanes, 2, 4, 8 or 16; without it four. It does "
+    "not say how many:\n"
+    "whoever is to read it must be told, if it is not four.\n"
     "Exit status: 0 a strip was written; 1 the text is no level; 2 the input "
     "could not be\n"
     "read, the output not be written, or the command makes no sense.\n";
@@ -88,14 +91,15 @@ static bool take_text_of(struct text *t, const char *path)
 /* ---- the strip ---- */
 
 /* Texts are levels of version 1. */
-static int write_strip(uint64_t level, const uint8_t *tiles)
+static int write_strip(size_t lanes, uint64_t level, const uint8_t *tiles)
 {
-    const uint64_t result = put_cells(stdout, ZAV_LEVEL_V1, zav_width(level),
-                                      zav_height(level), zav_par(level), tiles);
+    const uint64_t result = put_cells(stdout, lanes, ZAV_LEVEL_V1,
+                                      zav_width(level), zav_height(level),
+                                      zav_par(level), tiles);
 
     if (zav_code(result) != ZAV_DONE) {
         fprintf(stderr, "%s: ", tool);
-        print_refusal(stderr, result);
+        print_refusal(stderr, lanes, result);
         return REFUSED;
     }
     return FINE;
@@ -103,14 +107,14 @@ static int write_strip(uint64_t level, const uint8_t *tiles)
 
 /* Whether the text is a level is the library's to say; where it went wrong is
  * looked for only then. */
-static int make(const struct text *t, const char *name)
+static int make(size_t lanes, const struct text *t, const char *name)
 {
     uint8_t tiles[ZAV_TILES_MAX];
     const uint64_t level =
         zav_text_read(t->bytes, t->len, tiles, sizeof tiles);
 
     if (zav_code(level) == ZAV_DONE)
-        return write_strip(level, tiles);
+        return write_strip(lanes, level, tiles);
     begin_complaint(tool, name);
     print_slip(stderr, t->bytes, t->len, zav_code(level));
     return REFUSED;
@@ -118,21 +122,26 @@ static int make(const struct text *t, const char *name)
 
 int main(int argc, char **argv)
 {
-    const bool named = argc == 2;
-    const char *name = named ? argv[1] : "standard input";
+    struct lanes lanes;
     struct text t = {NULL, 0, 0};
     int status;
 
+    if (!take_lanes(&lanes, tool, false, &argc, argv))
+        return NOT_RUN;
     if (wants_help(argc, argv)) {
         fputs(help, stdout);
         return finish(tool, FINE);
     }
+
+    const bool named = argc == 2;
+    const char *name = named ? argv[1] : "standard input";
+
     if (argc > 2 || (named && argv[1][0] == '-')) {
         fputs(help, stderr);
         return NOT_RUN;
     }
     if (named ? take_text_of(&t, name) : take_text(&t, stdin))
-        status = finish(tool, make(&t, name));
+        status = finish(tool, make(lanes.count, &t, name));
     else
         status = complain(tool, name, strerror(errno));
     free(t.bytes);

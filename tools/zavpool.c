@@ -1,11 +1,12 @@
 /*
  * zavpool.c - pool two or more pictures of one strip.
  *
- * zavpool FILE FILE... reads strips, each followed by as many marks, raw bytes,
- * and writes the pooled strip and its marks to standard output: what zavshow
- * reads. The counts go to standard error, a line for each picture that is
- * added, and so does a line for each that gives a level by itself. Nothing is
- * written unless all of them were pooled. The help below says how it ends.
+ * zavpool FILE FILE... reads strips of four lanes, each followed by as many
+ * marks, raw bytes, and writes the pooled strip and its marks to standard
+ * output: what zavshow reads. The counts go to standard error, a line for each
+ * picture that is added, and so does a line for each that gives a level by
+ * itself. Nothing is written unless all of them were pooled. The help below
+ * says how it ends.
  */
 #include <errno.h>
 #include <string.h>
@@ -32,6 +33,8 @@ static const char help[] =
     "Of three pictures the first two are pooled, and then the outcome with the "
     "third: a cell\n"
     "in which the first two are in conflict is then the third's alone to say.\n"
+    "The strips have four lanes, 24 to 384 cells; other lane counts cannot be "
+    "named.\n"
     "Exit status: 0 a pooled strip was written; 1 a file is no strip with "
     "marks, or they have\n"
     "different lengths; 2 a file could not be read, the output not be written, "
@@ -56,7 +59,9 @@ static uint64_t pool(struct cells *all, const struct cells *one)
 static int refuse(const char *name, unsigned code)
 {
     begin_complaint(tool, name);
-    fprintf(stderr, "refused %u: %s\n", code, refusal_words(code));
+    fprintf(stderr, "refused %u: ", code);
+    print_words(stderr, ZAV_STRIP_LANES, code);
+    putc('\n', stderr);
     return REFUSED;
 }
 
@@ -78,7 +83,7 @@ static int take(struct cells *c, const char *name)
     if (!take_cells_of(c, name))
         return complain(tool, name, strerror(errno));
 
-    const unsigned code = zav_code(read_cells(c, tiles));
+    const unsigned code = zav_code(read_cells(ZAV_STRIP_LANES, c, tiles));
 
     if (code == ZAV_BAD_LENGTH || code == ZAV_BAD_MARK)
         return refuse(name, code);

@@ -1,12 +1,13 @@
 /*
  * zavscan.c - check many strips in one go.
  *
- * zavscan [-q] PATH... reads every file named and every file in the folders
- * named, each a strip followed by as many marks, in name order. Folders inside
- * folders are passed over. A line is printed for each file that is refused or
- * cannot be read and for each folder passed over, and a summary at the end;
- * with -q the summary alone. On a terminal, standard error shows how far it
- * is. The help below says how it ends.
+ * zavscan [-q] [--lanes N] PATH... reads every file named and every file in the
+ * folders named, each a strip, of four lanes or of N, followed by as many
+ * marks, in name order. Folders inside folders are passed over. A line is
+ * printed for each file that is refused or cannot be read and for each folder
+ * passed over, with --lanes any also for each that is read, and a summary at
+ * the end; with -q the summary alone. On a terminal, standard error shows how
+ * far it is. The help below says what --lanes any does, and how it ends.
  */
 #define _POSIX_C_SOURCE 200809L /* for folders and strdup */
 #include <dirent.h>
@@ -16,17 +17,26 @@
 #include <sys/stat.h>
 #include <unistd.h>
 
-#include "common.h"
+#include "tries.h"
 
 static const char tool[] = "zavscan";
 
 static const char help[] =
-    "usage: zavscan [-q] FOLDER-OR-FILE...\n"
+    "usage: zavscan [-q] [--lanes N] FOLDER-OR-FILE...\n"
     "Checks the files named and the files in the folders named, each a strip "
     "followed by as\n"
     "many marks, raw bytes. Folders inside folders are passed over; name them "
     "to have them\n"
     "checked. -q: the summary only.\n"
+    "--lanes: the strips have N lanes, 2, 4, 8 or 16; without it four. A strip "
+    "does not say\n"
+    "how many. --lanes any tries each count that fits the length: a file is "
+    "read only if just\n"
+    "one of them gives a level, and its line says which. If several do, it is "
+    "refused: the\n"
+    "sender must say which it is. A file that each count refuses is summed up "
+    "under the\n"
+    "highest of its numbers.\n"
     "Exit status: 0 every file was read as a level; 1 some were refused; 2 "
     "some files could\n"
     "not be read or folders were passed over, the output could not be "
@@ -145,7 +155,17 @@ enum { CODES = 32 }; /* as many as the code's bits can say */
 
 struct counts {
     size_t files, read, mended, of_version_2, unreadable, passed_over;
+    size_t read_with[ZAV_LANES_MAX + 1];
     size_t refused, refused_by[CODES];
+    size_t several;  /* refused, for several lane counts give a level */
+    bool fit_others; /* some were refused with four lanes, and fit others */
+};
+
+/* What is asked for, and what was found. */
+struct job {
+    struct lanes lanes;
+    bool quiet;
+    struct counts found;
 };
 
 /* ---- files ---- */
@@ -170,56 +190,71 @@ static void begin_line(const char *path)
     printf(": ");
 }
 
-static void judge(const char *path, const struct cells *c, bool quiet,
-                  struct counts *to)
+/* Its lanes are said where nobody named them. */
+static void count_level(const char *path, uint64_t result, struct job *j)
 {
-    uint8_t tiles[ZAV_TILES_MAX];
-    const uint64_t result = read_cells(c, tiles);
-
-    if (zav_code(result) == ZAV_DONE) {
-        to->read++;
-        to->mended += zav_mended(result) > 0;
-        to->of_version_2 += zav_level_version(result) == ZAV_LEVEL_V2;
-        return;
-    }
-    to->refused++;
-    to->refused_by[zav_code(result)]++;
-    if (!quiet) {
+    j->found.read++;
+    j->found.mended += zav_mended(result) > 0;
+    j->found.of_version_2 += zav_level_version(result) == ZAV_LEVEL_V2;
+    j->found.read_with[zav_lanes(result)]++;
+    if (j->lanes.count == ANY_LANES && !j->quiet) {
         begin_line(path);
-        print_refusal(stdout, result);
+        printf("read with %u lanes\n", zav_lanes(result));
     }
 }
 
-static void scan_file(const char *path, bool quiet, struct counts *to)
+static void judge(const char *path, const struct cells *c, struct job *j)
+{
+    uint8_t tiles[ZAV_TILES_MAX];
+    struct tries t;
+
+    try_lanes(&t, &j->lanes, c, tiles);
+    if (t.levels == 1) {
+        count_level(path, t.result, j);
+        return;
+    }
+    j->found.refused++;
+    if (t.levels > 1)
+        j->found.several++;
+    else
+        j->found.refused_by[zav_code(t.result)]++;
+    j->found.fit_others |= t.fits_others;
+    if (!j->quiet) {
+        begin_line(path);
+        print_refusals(stdout, &t);
+    }
+}
+
+static void scan_file(const char *path, struct job *j)
 {
     struct cells c;
     const char *why = take_file(&c, path);
 
-    to->files++;
+    j->found.files++;
     if (why == NULL) {
-        judge(path, &c, quiet, to);
+        judge(path, &c, j);
         return;
     }
-    to->unreadable++;
-    if (!quiet) {
+    j->found.unreadable++;
+    if (!j->quiet) {
         begin_line(path);
         printf("unreadable: %s\n", why);
     }
 }
 
-static void scan_name(const struct name *n, bool quiet, struct counts *to)
+static void scan_name(const struct name *n, struct job *j)
 {
     if (n->kind == PLAIN) {
-        scan_file(n->path, quiet, to);
+        scan_file(n->path, j);
         return;
     }
     if (n->kind == INSIDE) {
-        to->passed_over++;
+        j->found.passed_over++;
     } else {
-        to->files++;
-        to->unreadable++;
+        j->found.files++;
+        j->found.unreadable++;
     }
-    if (quiet)
+    if (j->quiet)
         return;
     begin_line(n->path);
     if (n->kind == INSIDE)
@@ -230,30 +265,50 @@ static void scan_name(const struct name *n, bool quiet, struct counts *to)
                strerror(n->why));
 }
 
-static void scan(struct names *n, bool quiet, struct counts *to)
+static void scan(struct names *n, struct job *j)
 {
     if (n->count > 0)
         qsort(n->at, n->count, sizeof *n->at, by_name);
     begin_progress(n->count);
     for (size_t i = 0; i < n->count; i++) {
         show_progress(i);
-        scan_name(&n->at[i], quiet, to);
+        scan_name(&n->at[i], j);
         free(n->at[i].path);
     }
     free(n->at);
     hide_progress();
 }
 
-static void print_summary(const struct counts *of)
+static void print_lanes(const struct counts *of)
+{
+    for (size_t i = 0; i < LANE_COUNTS; i++)
+        if (of->read_with[lane_counts[i]] > 0)
+            printf("  %zu with %zu lanes\n", of->read_with[lane_counts[i]],
+                   lane_counts[i]);
+}
+
+static void print_codes(const struct counts *of, size_t lanes)
+{
+    for (unsigned code = 1; code < CODES; code++)
+        if (of->refused_by[code] > 0) {
+            printf("  %zu by refusal %u: ", of->refused_by[code], code);
+            print_words(stdout, lanes, code);
+            putchar('\n');
+        }
+    if (of->several > 0)
+        printf("  %zu for several lane counts that give a level: the sender "
+               "must say which\n", of->several);
+}
+
+static void print_summary(const struct counts *of, size_t lanes)
 {
     printf("files %zu\n", of->files);
     printf("read %zu, of them mended %zu, of version 2 %zu\n", of->read,
            of->mended, of->of_version_2);
+    if (lanes == ANY_LANES)
+        print_lanes(of);
     printf("refused %zu\n", of->refused);
-    for (unsigned code = 1; code < CODES; code++)
-        if (of->refused_by[code] > 0)
-            printf("  %zu by refusal %u: %s\n", of->refused_by[code], code,
-                   refusal_words(code));
+    print_codes(of, lanes);
     printf("unreadable %zu\n", of->unreadable);
     printf("folders passed over %zu\n", of->passed_over);
 }
@@ -269,17 +324,18 @@ static int status_of(const struct counts *of)
 int main(int argc, char **argv)
 {
     struct names n = {NULL, 0, 0};
-    struct counts found = {0};
-    bool quiet = false;
+    struct job j = {.quiet = false};
     int option;
 
+    if (!take_lanes(&j.lanes, tool, true, &argc, argv))
+        return NOT_RUN;
     if (wants_help(argc, argv)) {
         fputs(help, stdout);
         return finish(tool, FINE);
     }
     opterr = 0; /* getopt would print the letter as it is */
     while ((option = getopt(argc, argv, "q")) == 'q')
-        quiet = true;
+        j.quiet = true;
     if (option != -1)
         complain(tool, (char[]){'-', (char)optopt, '\0'},
                  "there is no such option");
@@ -289,7 +345,9 @@ int main(int argc, char **argv)
     }
     for (int i = optind; i < argc; i++)
         add_path(&n, argv[i]);
-    scan(&n, quiet, &found);
-    print_summary(&found);
-    return finish(tool, status_of(&found));
+    scan(&n, &j);
+    print_summary(&j.found, j.lanes.count);
+    if (j.found.fit_others)
+        hint_lanes(tool, "the length of what was refused");
+    return finish(tool, status_of(&j.found));
 }

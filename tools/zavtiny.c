@@ -2,11 +2,11 @@
  * zavtiny.c - all legal boards of a tiny size, in order.
  *
  * zavtiny WIDTH HEIGHT prints each as a text with par 0, one after the other;
- * zavtiny WIDTH HEIGHT FOLDER writes each as a strip followed by as many zero
- * marks to a file of its own. No file that is there is written over, and if
- * one cannot be written, none is left behind. Their number is said on standard
- * error; on a terminal that also shows how far it is. The help below says how
- * it ends.
+ * zavtiny [--lanes N] WIDTH HEIGHT FOLDER writes each as a strip, of four lanes
+ * or of N, followed by as many zero marks to a file of its own. No file that is
+ * there is written over, and if one cannot be written, none is left behind.
+ * Their number is said on standard error; on a terminal that also shows how far
+ * it is. The help below says how it ends.
  */
 #define _POSIX_C_SOURCE 200809L /* for folders and isatty */
 #include <errno.h>
@@ -20,7 +20,8 @@
 static const char tool[] = "zavtiny";
 
 static const char help[] =
-    "usage: zavtiny WIDTH HEIGHT [FOLDER]\n"
+    "usage: zavtiny WIDTH HEIGHT\n"
+    "       zavtiny [--lanes N] WIDTH HEIGHT FOLDER\n"
     "All legal boards of a size of at most 6 tiles, in the order of their tile "
     "codes. They are\n"
     "levels of version 1, and printed as texts with par 0, each starting with "
@@ -29,7 +30,8 @@ static const char help[] =
     "followed by as\n"
     "many zero marks: the third of 4 by 1 to 4x1-0003.cells. Files that are "
     "there are not\n"
-    "written over.\n"
+    "written over. --lanes: the strips have N lanes, 2, 4, 8 or 16; without it "
+    "four.\n"
     "The number of boards is said on standard error.\n"
     "Exit status: 0 all boards were written; 1 there is no such size; 2 the "
     "output could not\n"
@@ -100,7 +102,8 @@ static int print_texts(size_t width, size_t height)
 struct folder {
     const char *path;
     char *name;
-    bool made; /* it was not there before */
+    bool made;    /* it was not there before */
+    size_t lanes; /* of the strips in it */
 };
 
 /* False if there is no folder and none can be made; errno says why. */
@@ -127,13 +130,14 @@ static const char *name_board(struct folder *f, const struct walk *w)
 
 /* False if the file was there or could not be written; errno says why, and of
  * a file that was begun nothing is left. */
-static bool write_board(const char *path, const struct walk *w)
+static bool write_board(struct folder *f, const struct walk *w)
 {
+    const char *path = name_board(f, w);
     FILE *file = fopen(path, "wbx"); /* x: it must be new */
 
     if (file == NULL)
         return false;
-    put_cells(file, ZAV_LEVEL_V1, w->width, w->height, 0, w->tiles);
+    put_cells(file, f->lanes, ZAV_LEVEL_V1, w->width, w->height, 0, w->tiles);
 
     bool written = fflush(file) == 0;
     int why = errno;
@@ -166,7 +170,7 @@ static int write_strips(size_t width, size_t height, struct folder *f)
 
     while (zav_length(step(&w)) != 0) {
         show_progress(w.count - 1);
-        if (!write_board(name_board(f, &w), &w)) {
+        if (!write_board(f, &w)) {
             const int why = errno;
 
             hide_progress();
@@ -179,9 +183,10 @@ static int write_strips(size_t width, size_t height, struct folder *f)
     return FINE;
 }
 
-static int fill_folder(size_t width, size_t height, const char *path)
+static int fill_folder(size_t width, size_t height, size_t lanes,
+                       const char *path)
 {
-    struct folder f;
+    struct folder f = {.lanes = lanes};
     int status;
 
     if (enter_folder(&f, path))
@@ -214,7 +219,8 @@ static int refuse(char **sides, unsigned code)
     return REFUSED;
 }
 
-static int list(size_t width, size_t height, size_t count, const char *folder)
+static int list(size_t width, size_t height, size_t count, size_t lanes,
+                const char *folder)
 {
     int status = FINE;
 
@@ -223,7 +229,7 @@ static int list(size_t width, size_t height, size_t count, const char *folder)
     if (folder == NULL)
         status = print_texts(width, height);
     else if (count > 0)
-        status = fill_folder(width, height, folder);
+        status = fill_folder(width, height, lanes, folder);
     if (status == FINE)
         fprintf(stderr, "%zu boards of %zu by %zu\n", count, width, height);
     return status;
@@ -231,8 +237,11 @@ static int list(size_t width, size_t height, size_t count, const char *folder)
 
 int main(int argc, char **argv)
 {
+    struct lanes lanes;
     size_t side[2], count;
 
+    if (!take_lanes(&lanes, tool, false, &argc, argv))
+        return NOT_RUN;
     if (wants_help(argc, argv)) {
         fputs(help, stdout);
         return finish(tool, FINE);
@@ -241,6 +250,9 @@ int main(int argc, char **argv)
         fputs(help, stderr);
         return NOT_RUN;
     }
+    if (lanes.given && argc == 3)
+        return complain(tool, "--lanes",
+                        "texts have no lanes; name a folder for strips");
     for (int i = 0; i < 2; i++)
         if (!take_number(argv[1 + i], &side[i]))
             return complain(tool, argv[1 + i],
@@ -250,5 +262,6 @@ int main(int argc, char **argv)
 
     if (zav_code(end) != ZAV_DONE)
         return refuse(argv + 1, zav_code(end));
-    return list(side[0], side[1], count, argc == 4 ? argv[3] : NULL);
+    return list(side[0], side[1], count, lanes.count,
+                argc == 4 ? argv[3] : NULL);
 }

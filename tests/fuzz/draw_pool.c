@@ -36,8 +36,8 @@ size_t draw_input(size_t number, uint8_t input[INPUT_ROOM])
     draw_head(input, (uint8_t)(number % 2));
     draw_any_board(&b);
 
-    const size_t cells = ref_lay_strip(data, ref_k_of(record_of(&b, data)),
-                                       first);
+    const size_t k = ref_k_of(REF_LANES, record_of(&b, data));
+    const size_t cells = ref_lay_strip(REF_LANES, data, k, first);
     uint8_t *second = first + 2 * cells;
     const size_t len = HEAD + 4 * cells;
 

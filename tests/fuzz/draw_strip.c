@@ -18,41 +18,52 @@ static void draw_head(uint8_t head[HEAD], uint8_t flags)
     head[HEIGHT_AT] = (uint8_t)draw_below(34);
     draw_bytes(head + PAR_AT, 2);
     head[PAR_AT + 1] &= 7;
+    head[LANES_AT] = draw_below(16) ? (uint8_t)draw_below(ANY_LANES)
+                                    : draw_byte();
+}
+
+/* The lanes that the head says; where there are no strips of so many, four. */
+static size_t lanes_to_lay(const uint8_t head[HEAD])
+{
+    const size_t lanes = lanes_of(head[LANES_AT]);
+
+    return ref_is_lane_count(lanes) ? lanes : REF_LANES;
 }
 
 /* A board's record filled up for a strip, and a few cells to damage. */
-static size_t draw_laid(uint8_t *body)
+static size_t draw_laid(size_t lanes, uint8_t *body)
 {
     struct board b;
 
     draw_any_board(&b);
-    memset(body, 0, REF_RECORD_MAX);
+    memset(body, 0, REF_LAID_MAX);
 
-    const size_t half = REF_LANES * ref_k_of(record_of(&b, body));
+    const size_t half = lanes * ref_k_of(lanes, record_of(&b, body));
 
     if (draw_below(4) == 0)
         body[draw_below(half)] ^= draw_nonzero();
     memset(body + half, 0, half);
-    for (size_t i = draw_below(9); i > 0 && 3 * i <= half; i--)
-        draw_bytes(body + half + 3 * (i - 1), 3);
+    for (size_t i = draw_below(2 * lanes + 1); i > 0; i--)
+        if (3 * i <= half)
+            draw_bytes(body + half + 3 * (i - 1), 3);
     return 2 * half;
 }
 
 /* A board's strip with wrong and marked cells, or nothing but noise. */
-static size_t draw_halves(uint8_t *body)
+static size_t draw_halves(size_t lanes, uint8_t *body)
 {
-    uint8_t data[REF_RECORD_MAX] = {0};
+    uint8_t data[REF_LAID_MAX] = {0};
     struct board b;
 
     draw_any_board(&b);
 
-    const size_t cells = ref_lay_strip(data, ref_k_of(record_of(&b, data)),
-                                       body);
+    const size_t k = ref_k_of(lanes, record_of(&b, data));
+    const size_t cells = ref_lay_strip(lanes, data, k, body);
 
     memset(body + cells, 0, cells);
-    for (size_t wrong = draw_below(9); wrong > 0; wrong--)
+    for (size_t wrong = draw_below(2 * lanes + 1); wrong > 0; wrong--)
         body[draw_below(cells)] = draw_byte();
-    for (size_t marked = draw_below(9); marked > 0; marked--) {
+    for (size_t marked = draw_below(2 * lanes + 1); marked > 0; marked--) {
         const size_t cell = draw_below(cells);
 
         body[cells + cell] = 1;
@@ -72,8 +83,9 @@ size_t draw_input(size_t number, uint8_t input[INPUT_ROOM])
 
     draw_head(input, flags);
 
-    const size_t len = HEAD + (flags & LAID ? draw_laid(input + HEAD)
-                                            : draw_halves(input + HEAD));
+    const size_t lanes = lanes_to_lay(input);
+    const size_t len = HEAD + (flags & LAID ? draw_laid(lanes, input + HEAD)
+                                            : draw_halves(lanes, input + HEAD));
 
     return draw_below(16) == 0 ? draw_below(len + 1) : len;
 }

@@ -48,6 +48,14 @@ static uint8_t at(const struct input *in, size_t place)
 
 /* ---- strips ---- */
 
+size_t lanes_of(uint8_t byte)
+{
+    static const size_t counts[LANE_COUNTS] = {4, 2, 8, 16};
+
+    return byte < ANY_LANES ? counts[byte % LANE_COUNTS]
+                            : (size_t)byte - ANY_LANES;
+}
+
 static void take_halves(const struct input *in, struct picture *p)
 {
     const size_t half = in->len / 2;
@@ -74,9 +82,9 @@ static void damage(struct picture *p, const uint8_t *bytes)
 static void lay_and_damage(const struct input *in, struct picture *p)
 {
     const size_t half = in->len / 2;
-    const size_t k = least(half / REF_LANES, REF_K_MAX);
+    const size_t k = least(half / p->lanes, ref_k_max(p->lanes));
 
-    p->strip_len = ref_lay_strip(in->body, k, p->strip);
+    p->strip_len = ref_lay_strip(p->lanes, in->body, k, p->strip);
     memset(p->marks, 0, sizeof p->marks);
     for (size_t i = half; i + 3 <= in->len; i += 3)
         damage(p, in->body + i);
@@ -84,9 +92,10 @@ static void lay_and_damage(const struct input *in, struct picture *p)
 
 static void try_strip(const struct input *in)
 {
-    struct picture p;
+    struct picture p = {.lanes = lanes_of(in->head[LANES_AT])};
 
-    if (in->head[FLAGS_AT] & LAID && in->len >= 2 * REF_LANES)
+    if (in->head[FLAGS_AT] & LAID && ref_is_lane_count(p.lanes) &&
+        in->len >= 2 * p.lanes)
         lay_and_damage(in, &p);
     else
         take_halves(in, &p);
@@ -103,12 +112,23 @@ static void try_strip(const struct input *in)
 
 /* ---- records ---- */
 
+static void write_by(const struct writer *entry, const struct input *in,
+                     const struct board *b)
+{
+    check_writing(entry, b,
+                  least(length_near(entry->room, in->head[BUFFER_AT]),
+                        BUFFER_ROOM));
+}
+
+/* The strip has the lanes that the head says, whether or not they are right. */
 static void write_all(const struct input *in, const struct board *b)
 {
-    for (size_t i = 0; i < WRITERS; i++)
-        check_writing(&writers[i], b,
-                      least(length_near(writers[i].room, in->head[BUFFER_AT]),
-                            BUFFER_ROOM));
+    struct writer strip = writers[STRIP_WRITER];
+
+    strip.lanes = lanes_of(in->head[LANES_AT]);
+    write_by(&writers[RECORD_WRITER], in, b);
+    write_by(&writers[TEXT_WRITER], in, b);
+    write_by(&strip, in, b);
 }
 
 /* A level that was read is written again. */

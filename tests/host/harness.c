@@ -214,7 +214,8 @@ uint64_t packed(struct ref_result r)
            (uint64_t)r.version << 9 | (uint64_t)r.width << 11 |
            (uint64_t)r.height << 16 | (uint64_t)r.par << 21 |
            (uint64_t)r.mended << 31 | (uint64_t)r.repainted << 37 |
-           (uint64_t)r.wear << 44 | (uint64_t)r.length << 48;
+           (uint64_t)r.wear << 44 | (uint64_t)r.lanes << 50 |
+           (uint64_t)r.length << 48;
 }
 
 const char *hex(char text[HEX_TEXT], const uint8_t *bytes, size_t len)

@@ -12,7 +12,13 @@
    the longest strip. */
 enum { STRIP_ROOM = 512, SCRATCH_ROOM = REF_STRIP_MAX + 64 };
 
+/* Every lane count there is, and one of them by lot. */
+enum { LANE_COUNTS = 4 };
+extern const size_t lane_counts[LANE_COUNTS];
+size_t draw_lane_count(void);
+
 struct picture {
+    size_t lanes; /* as they are named to the reader */
     uint8_t strip[STRIP_ROOM];
     size_t strip_len;
     uint8_t marks[STRIP_ROOM];
@@ -21,20 +27,22 @@ struct picture {
     size_t scratch_len;
 };
 
-/* 4k data bytes in clean lanes, no marks, buffers of the least length or more. */
-void picture_data(struct picture *p, const uint8_t *data, size_t k);
+/* k data bytes in each of so many clean lanes, no marks, buffers of the least
+   length or more. */
+void picture_data(struct picture *p, size_t lanes, const uint8_t *data,
+                  size_t k);
 
 /* The board's record, filled up, in the same way. */
-void picture_board(struct picture *p, const struct board *b);
+void picture_board(struct picture *p, size_t lanes, const struct board *b);
 
 /* A level with k data bytes in each lane, or, where there is none, data with a
    level's front. Returns whether there is one. */
-bool picture_length(struct picture *p, size_t k);
+bool picture_length(struct picture *p, size_t lanes, size_t k);
 
 /* A random level's strip, and the level. */
-void picture_any_level(struct picture *p, struct board *b);
+void picture_any_level(struct picture *p, size_t lanes, struct board *b);
 
-/* A strip of FORMAT, no marks, buffers of the least length. */
+/* A strip of FORMAT, of four lanes, no marks, buffers of the least length. */
 void picture_worked(struct picture *p, const struct worked *w);
 
 /* Cells in each lane. */

@@ -52,9 +52,11 @@ uint8_t ref_power(int32_t exponent)
     return result;
 }
 
-/* All products and inverses, worked out once: the search needs millions. */
+/* All products and inverses, worked out once: the search needs millions. So are
+   the powers of alpha that the five sums go by. */
 static uint8_t times[256][256];
 static uint8_t inverse_of[256];
+static uint8_t step_of[SUMS];
 
 static void prepare_tables(void)
 {
@@ -65,6 +67,8 @@ static void prepare_tables(void)
             times[a][b] = ref_product((uint8_t)a, (uint8_t)b);
     for (int a = 1; a < 256; a++)
         inverse_of[a] = inverse((uint8_t)a);
+    for (int row = 0; row < SUMS; row++)
+        step_of[row] = ref_power(FIRST_EXPONENT + row);
 }
 
 /* ---- sums and check bytes ---- */
@@ -73,7 +77,7 @@ void ref_sums(const uint8_t *word, size_t len, uint8_t sums[SUMS])
 {
     prepare_tables();
     for (int row = 0; row < SUMS; row++) {
-        const uint8_t step = ref_power(FIRST_EXPONENT + row);
+        const uint8_t step = step_of[row];
         uint8_t power = 1; /* of the last byte, which has power 0 */
 
         sums[row] = 0;
@@ -106,7 +110,7 @@ static void make_generator(uint8_t generator[SUMS + 1])
     memset(generator, 0, SUMS + 1);
     generator[0] = 1;
     for (int row = 0; row < SUMS; row++) {
-        const uint8_t root = ref_power(FIRST_EXPONENT + row);
+        const uint8_t root = step_of[row];
 
         for (int k = row + 1; k > 0; k--)
             generator[k] ^= ref_product(generator[k - 1], root);
@@ -120,6 +124,7 @@ static void find_check_bytes(const uint8_t *data, size_t data_len,
     uint8_t generator[SUMS + 1];
     uint8_t rest[REF_WORD_MAX] = {0};
 
+    prepare_tables();
     make_generator(generator);
     memcpy(rest, data, data_len);
     for (size_t i = 0; i < data_len; i++) {
@@ -156,7 +161,7 @@ struct search {
 static void find_places(struct search *s)
 {
     for (int row = 0; row < SUMS; row++) {
-        const uint8_t step = ref_power(FIRST_EXPONENT + row);
+        const uint8_t step = step_of[row];
         uint8_t power = 1;
 
         for (size_t i = 0; i < s->len; i++) {

@@ -15,7 +15,7 @@ enum {
     REF_CHECK_BYTES = 5,
     REF_WORD_MIN = 6,
     REF_WORD_MAX = 255,
-    REF_LANE_MAX = 96,
+    REF_LANE_MAX = 187,
     REF_REACH = 5 /* the most that 2e + f may come to */
 };
 
@@ -32,6 +32,7 @@ struct ref_result {
     unsigned version;
     unsigned width, height, par;
     unsigned wear;
+    unsigned lanes; /* of the strip that was read */
 };
 
 uint8_t ref_product(uint8_t a, uint8_t b);

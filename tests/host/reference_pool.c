@@ -7,8 +7,8 @@ static unsigned refusal(const struct ref_picture *first,
                         const struct ref_picture *second, size_t cells_len,
                         size_t marks_len)
 {
-    if (!ref_is_strip_len(first->cells_len) ||
-        !ref_is_strip_len(second->cells_len))
+    if (!ref_is_strip_len(REF_LANES, first->cells_len) ||
+        !ref_is_strip_len(REF_LANES, second->cells_len))
         return 1;
     if (first->cells_len != second->cells_len)
         return 13;

@@ -6,6 +6,9 @@
 
 #include "reference_strip.h"
 
+/* Cells in a strip that can be pooled: those of four lanes. */
+enum { REF_POOL_MIN = 24, REF_POOL_MAX = 384 };
+
 /* Cells and marks, each with its own length. */
 struct ref_picture {
     const uint8_t *cells;

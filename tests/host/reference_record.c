@@ -6,7 +6,7 @@
 
 /* The bits of a record, as characters, in the order in which they are laid. */
 struct text {
-    char bits[8 * REF_RECORD_MAX];
+    char bits[8 * REF_LAID_MAX];
     size_t len;
 };
 

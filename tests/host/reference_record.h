@@ -8,6 +8,7 @@
 
 enum { REF_NEWEST = 2, REF_SIDE_MAX = 31, REF_PAR_MAX = 1023,
        REF_RECORD_MIN = 4, REF_RECORD_MAX = 364,
+       REF_LAID_MAX = 368, /* a record with what fills it up to 16 lanes */
        REF_TILES_MAX = REF_SIDE_MAX * REF_SIDE_MAX };
 
 /* The length of a record with this many tiles. */

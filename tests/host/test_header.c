@@ -6,19 +6,19 @@
 
 #include "draw.h"
 #include "harness.h"
+#include "pictures.h"
 #include "reference_pool.h"
-#include "reference_strip.h"
 #include "reference_text.h"
 #include "reference_tiny.h"
 #include "zavullimen.h"
 
 /* Readers, writers and pooling share bits, so each is unpacked by its own
-   fields. In all the bits of no field are first set and then clear, to see that the
-   unpackers leave them out. */
+   fields. In all the bits of no field are first set and then clear, to see that
+   the unpackers leave them out. */
 
 static const struct ref_result reader_set = {
     .code = 31, .mended = 63, .repainted = 127, .lane = 15, .version = 3,
-    .width = 31, .height = 31, .par = 1023, .wear = 63};
+    .width = 31, .height = 31, .par = 1023, .wear = 63, .lanes = 31};
 
 static struct ref_result draw_reader_result(void)
 {
@@ -30,7 +30,8 @@ static struct ref_result draw_reader_result(void)
                                .width = (unsigned)draw_below(32),
                                .height = (unsigned)draw_below(32),
                                .par = (unsigned)draw_below(1024),
-                               .wear = (unsigned)draw_below(64)};
+                               .wear = (unsigned)draw_below(64),
+                               .lanes = (unsigned)draw_below(32)};
 }
 
 static void check_reader_result(struct ref_result r, uint64_t result)
@@ -45,6 +46,7 @@ static void check_reader_result(struct ref_result r, uint64_t result)
     check_number(zav_height(result), r.height, "height");
     check_number(zav_par(result), r.par, "par");
     check_number(zav_wear(result), r.wear, "wear");
+    check_number(zav_lanes(result), r.lanes, "lanes");
 }
 
 static void test_reader_fields(void)
@@ -122,7 +124,7 @@ static void test_texts(void)
     static const char unknown[] = "unknown refusal";
 
     group_begin("header", "refusals in words");
-    for (unsigned code = 0; code <= 14; code++)
+    for (unsigned code = 0; code <= ZAV_BAD_LANES; code++)
         for (unsigned other = 0; other <= 300; other++) {
             const bool same = strcmp(zav_refusal_text(code),
                                      zav_refusal_text(other)) == 0;
@@ -131,11 +133,12 @@ static void test_texts(void)
             if (same != (code == other))
                 group_fail("%u and %u: the same words or not", code, other);
         }
-    for (unsigned code = 15; code <= 300; code++)
+    for (unsigned code = ZAV_BAD_LANES + 1; code <= 300; code++)
         if (strcmp(zav_refusal_text(code), unknown) != 0)
             group_fail("%u is no refusal, and has words", code);
     if (strcmp(zav_refusal_text(0), "no refusal") != 0)
         group_fail("0 is a refusal");
+    check_number(ZAV_BAD_LANES, 15, "the last refusal");
     group_end();
 }
 
@@ -168,7 +171,7 @@ static void test_sizes(void)
         {"ZAV_RECORD_MAX", ZAV_RECORD_MAX, REF_RECORD_MAX},
         {"ZAV_TILES_MAX", ZAV_TILES_MAX, REF_TILES_MAX},
         {"ZAV_STRIP_LANES", ZAV_STRIP_LANES, REF_LANES},
-        {"ZAV_STRIP_MIN", ZAV_STRIP_MIN, REF_STRIP_MIN},
+        {"ZAV_LANES_MAX", ZAV_LANES_MAX, REF_LANES_MAX},
         {"ZAV_STRIP_MAX", ZAV_STRIP_MAX, REF_STRIP_MAX},
         {"ZAV_SCRATCH_MIN", ZAV_SCRATCH_MIN, REF_SCRATCH_MIN},
         {"ZAV_TEXT_MIN", ZAV_TEXT_MIN, REF_TEXT_MIN},
@@ -186,10 +189,80 @@ static void test_sizes(void)
     group_end();
 }
 
+/* ---- what depends on the lane count ---- */
+
+/* Whoever has a sum of lanes need not put brackets around it. */
+static void check_lanes(size_t lanes)
+{
+    const size_t one_less = lanes - 1;
+
+    group_case();
+    check_number(ZAV_STRIP_SHORTEST(one_less + 1),
+                 ref_strip_len(lanes, ref_k_min(lanes)), "shortest strip");
+    check_number(ZAV_STRIP_LONGEST(one_less + 1),
+                 ref_strip_len(lanes, ref_k_max(lanes)), "longest strip");
+    check_number(ZAV_STICKER_UNMARKED(one_less + 1), 2 * lanes,
+                 "sticker, unmarked");
+    check_number(ZAV_STICKER_MARKED(one_less + 1), 5 * lanes,
+                 "sticker, marked");
+    if (ZAV_STRIP_LONGEST(lanes) > ZAV_STRIP_MAX)
+        group_fail("no buffer is long enough for %zu lanes", lanes);
+}
+
+/* The figures of FORMAT 7.9. */
+static void check_ends(size_t lanes, size_t shortest, size_t longest)
+{
+    check_number(ZAV_STRIP_SHORTEST(lanes), shortest, "shortest");
+    check_number(ZAV_STRIP_LONGEST(lanes), longest, "longest");
+}
+
+static void test_lanes(void)
+{
+    group_begin("header", "sizes for each lane count");
+    for (size_t i = 0; i < LANE_COUNTS; i++)
+        check_lanes(lane_counts[i]);
+    check_ends(2, 14, 374);
+    check_ends(4, 24, 384);
+    check_ends(8, 48, 408);
+    check_ends(16, 96, 448);
+    group_end();
+}
+
+static void check_fits(size_t lanes, size_t length)
+{
+    char what[80];
+
+    group_case();
+    sprintf(what, "%zu lanes, %zu cells", lanes, length);
+    check_number((uint64_t)zav_strip_fits(lanes, length),
+                 ref_is_strip_len(lanes, length), what);
+}
+
+/* Also where a narrower number would be cut to one that is legal. */
+static void test_fits(void)
+{
+    group_begin("header", "lengths that strips can have");
+    for (size_t lanes = 0; lanes <= 40; lanes++)
+        for (size_t length = 0; length <= 500; length++)
+            check_fits(lanes, length);
+    for (int bit = 9; bit < 64; bit++) {
+        const size_t past = (size_t)1 << bit;
+
+        for (size_t i = 0; i < LANE_COUNTS; i++) {
+            check_fits(past + lane_counts[i], 96);
+            check_fits(lane_counts[i], past + 96);
+        }
+    }
+    check_fits(SIZE_MAX, SIZE_MAX);
+    group_end();
+}
+
 void test_header(void)
 {
     test_version();
     test_sizes();
+    test_lanes();
+    test_fits();
     test_reader_fields();
     test_writer_fields();
     test_pool_fields();

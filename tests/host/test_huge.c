@@ -65,13 +65,20 @@ static void check_huge_writer(const struct writer *entry, uint8_t *zeros,
                               uint8_t *more, size_t past)
 {
     group_case();
-    check_number(entry->run(1, 2, 2, 0, zeros, past + 4, more, entry->room),
-                 packed(entry->reference(1, 2, 2, 0, zeros, past + 4, more,
-                                         entry->room)), "tiles");
-    check_number(entry->run(1, 0, 2, 0, zeros, 4, more, past + 4),
-                 packed(entry->reference(1, 0, 2, 0, zeros, 4, more,
-                                         past + 4)),
+    check_number(entry->run(entry->lanes, 1, 2, 2, 0, zeros, past + 4, more,
+                            entry->room),
+                 packed(entry->reference(entry->lanes, 1, 2, 2, 0, zeros,
+                                         past + 4, more, entry->room)),
+                 "tiles");
+    check_number(entry->run(entry->lanes, 1, 0, 2, 0, zeros, 4, more, past + 4),
+                 packed(entry->reference(entry->lanes, 1, 0, 2, 0, zeros, 4,
+                                         more, past + 4)),
                  "buffer");
+    check_number(entry->run(entry->lanes + past, 1, 0, 2, 0, zeros, 4, more,
+                            entry->room),
+                 packed(entry->reference(entry->lanes + past, 1, 0, 2, 0,
+                                         zeros, 4, more, entry->room)),
+                 "lanes");
 }
 
 /* The buffers of the strip reader, and a second picture. */
@@ -81,16 +88,18 @@ struct stretch {
 };
 
 struct lengths {
-    size_t strip, marks, tiles, scratch;
+    size_t lanes, strip, marks, tiles, scratch;
 };
 
 static void check_huge_strip(struct stretch s, struct lengths len)
 {
     group_case();
-    check_number(zav_strip_read(s.strip, len.strip, s.marks, len.marks,
-                                s.tiles, len.tiles, s.scratch, len.scratch),
-                 packed(ref_strip_read(s.strip, len.strip, s.marks, len.marks,
-                                       s.tiles, len.tiles, len.scratch)),
+    check_number(zav_strip_read(len.lanes, s.strip, len.strip, s.marks,
+                                len.marks, s.tiles, len.tiles, s.scratch,
+                                len.scratch),
+                 packed(ref_strip_read(len.lanes, s.strip, len.strip, s.marks,
+                                       len.marks, s.tiles, len.tiles,
+                                       len.scratch)),
                  "strip reader");
 }
 
@@ -146,15 +155,18 @@ static void check_huge_numbers_of_tiny(struct stretch s, size_t past)
     check_huge_tiny(s, 2, 1, 2, past);
 }
 
-/* Each length by itself, and strip and marks together. */
-static void check_huge_lengths_of_strip(struct stretch s, size_t past)
+/* The lanes and each length by itself, and strip and marks together. */
+static void check_huge_numbers_of_strip(struct stretch s, size_t lanes,
+                                        size_t past)
 {
+    const size_t len = ref_strip_len(lanes, ref_k_min(lanes));
     const struct lengths all[] = {
-        {past + 24, past + 24, REF_TILES_MAX, REF_SCRATCH_MIN},
-        {past + 24, 24, REF_TILES_MAX, REF_SCRATCH_MIN},
-        {24, past + 24, REF_TILES_MAX, REF_SCRATCH_MIN},
-        {24, 24, past + 4, REF_SCRATCH_MIN},
-        {24, 24, REF_TILES_MAX, past + 4},
+        {past + lanes, len, len, REF_TILES_MAX, REF_SCRATCH_MIN},
+        {lanes, past + len, past + len, REF_TILES_MAX, REF_SCRATCH_MIN},
+        {lanes, past + len, len, REF_TILES_MAX, REF_SCRATCH_MIN},
+        {lanes, len, past + len, REF_TILES_MAX, REF_SCRATCH_MIN},
+        {lanes, len, len, past + 4, REF_SCRATCH_MIN},
+        {lanes, len, len, REF_TILES_MAX, past + 4},
     };
 
     for (size_t k = 0; k < COUNT(all); k++)
@@ -175,12 +187,13 @@ static void check_past(struct stretch s, size_t past)
     check_huge_text(s.strip, s.tiles, past);
     for (size_t e = 0; e < WRITERS; e++)
         check_huge_writer(&writers[e], s.strip, s.tiles, past);
-    check_huge_lengths_of_strip(s, past);
+    for (size_t i = 0; i < LANE_COUNTS; i++)
+        check_huge_numbers_of_strip(s, lane_counts[i], past);
     check_huge_lengths_of_pool(s, past);
     check_huge_numbers_of_tiny(s, past);
 }
 
-/* All are zeros. Only the scratch is written to: every other call is refused. */
+/* All are zeros. Only the scratch is written to; all else is refused. */
 void test_huge(void)
 {
     static const size_t past[] = {(size_t)1 << 8, (size_t)1 << 16,

@@ -30,7 +30,8 @@ static void draw_picture(struct picture *p, size_t len, size_t bytes,
 
 static size_t draw_len(void)
 {
-    return REF_LANES * (draw_between(1, REF_K_MAX) + REF_CHECK_BYTES);
+    return REF_LANES * draw_between(REF_POOL_MIN / REF_LANES,
+                                    REF_POOL_MAX / REF_LANES);
 }
 
 static void draw_pair(struct pair *p, size_t len)
@@ -55,9 +56,9 @@ static void test_kinds(void)
     size_t mixed = 0;
 
     group_begin(subject, "cells of every kind, at every legal length");
-    for (size_t k = 1; k <= REF_K_MAX; k++)
+    for (size_t len = REF_POOL_MIN; len <= REF_POOL_MAX; len += REF_LANES)
         for (size_t n = 0; n < scaled(100); n++) {
-            draw_pair(&p, REF_LANES * (k + REF_CHECK_BYTES));
+            draw_pair(&p, len);
             mixed += has_every_kind(check_pair(&p));
         }
     if (mixed == 0)
@@ -115,7 +116,7 @@ static void test_colours(void)
 
     group_begin(subject, "runs of one colour over one strip");
     for (size_t k = 0; k < scaled(4000); k++) {
-        picture_any_level(&p.first, &b);
+        picture_any_level(&p.first, REF_LANES, &b);
         p.second = p.first;
         fit_buffers(&p);
         cover(&p.first);
@@ -185,8 +186,8 @@ static void test_mark_values(void)
 {
     group_begin(subject, "marks of every value, and at every cell");
     for (unsigned value = 0; value < 256; value++)
-        check_mark(draw_below(REF_STRIP_MIN), (uint8_t)value);
-    for (size_t cell = 0; cell < REF_STRIP_MAX; cell++)
+        check_mark(draw_below(REF_POOL_MIN), (uint8_t)value);
+    for (size_t cell = 0; cell < REF_POOL_MAX; cell++)
         check_mark(cell, draw_below(2) ? 2 : 255);
     group_end();
 }
@@ -246,8 +247,8 @@ static void test_order(void)
 /* A bit of the mixture for each buffer that is not there. */
 static void check_null(unsigned mixture)
 {
-    static uint8_t zeros[6][REF_STRIP_MIN];
-    uint8_t cells[REF_STRIP_MIN], marks[REF_STRIP_MIN];
+    static uint8_t zeros[6][REF_POOL_MIN];
+    uint8_t cells[REF_POOL_MIN], marks[REF_POOL_MIN];
     uint8_t *bytes[6];
     size_t len[6];
 
@@ -255,7 +256,7 @@ static void check_null(unsigned mixture)
         const bool null = mixture >> i & 1;
 
         bytes[i] = null ? NULL : zeros[i];
-        len[i] = null ? 0 : REF_STRIP_MIN;
+        len[i] = null ? 0 : REF_POOL_MIN;
     }
 
     const struct ref_picture first = {zeros[0], len[0], zeros[1], len[1]};
@@ -285,6 +286,7 @@ static uint64_t pool(const struct picture *first, const struct picture *second,
                      struct picture *out)
 {
     memset(out, 0, sizeof *out);
+    out->lanes = REF_LANES;
     out->strip_len = out->marks_len = first->strip_len;
     out->tiles_len = REF_TILES_MAX;
     out->scratch_len = REF_SCRATCH_MIN;
@@ -364,10 +366,10 @@ static void draw_scene(struct scene *s)
 {
     const struct board *b = &s->board;
 
-    picture_any_level(&s->clean, &s->board);
-    check_number(zav_length(zav_strip_write(b->version, b->width, b->height,
-                                            b->par, b->tiles, b->tiles_len,
-                                            s->clean.strip,
+    picture_any_level(&s->clean, REF_LANES, &s->board);
+    check_number(zav_length(zav_strip_write(REF_LANES, b->version, b->width,
+                                            b->height, b->par, b->tiles,
+                                            b->tiles_len, s->clean.strip,
                                             sizeof s->clean.strip)),
                  s->clean.strip_len, "the length written");
 }
@@ -397,7 +399,7 @@ static bool is_read(const struct picture *p)
 {
     uint8_t tiles[REF_TILES_MAX], scratch[REF_SCRATCH_MIN];
 
-    return zav_code(zav_strip_read(p->strip, p->strip_len, p->marks,
+    return zav_code(zav_strip_read(p->lanes, p->strip, p->strip_len, p->marks,
                                    p->marks_len, tiles, sizeof tiles, scratch,
                                    sizeof scratch)) == ZAV_DONE;
 }
@@ -497,7 +499,7 @@ static void test_two_levels(void)
             b.par ^= 1;
         else
             draw_level(&b, b.width, b.height);
-        picture_board(&other, &b);
+        picture_board(&other, REF_LANES, &b);
         pool(&s.clean, &other, &out);
         if (memcmp(s.clean.strip, other.strip, other.strip_len) != 0 &&
             check_picture(&out).code != ZAV_BEYOND_REACH)

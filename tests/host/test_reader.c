@@ -46,16 +46,38 @@ struct ref_result check_bytes(const struct bytes_reader *entry,
 
 /* A record and the zero bytes that fill it; what is past them is zero too. */
 struct data {
-    uint8_t bytes[REF_RECORD_MAX];
+    uint8_t bytes[REF_LAID_MAX];
     size_t len;
     size_t bits; /* where the tiles end and the filling starts */
 };
 
+/* Data comes in multiples of so many bytes. */
+static size_t unit_of(const struct reader *entry)
+{
+    return entry->lanes > 0 ? entry->lanes : 1;
+}
+
 static size_t filled_len(const struct reader *entry, size_t len)
 {
-    while (len % entry->unit != 0)
+    while (len % unit_of(entry) != 0)
         len++;
     return len;
+}
+
+static size_t shortest(const struct reader *entry)
+{
+    return filled_len(entry, REF_RECORD_MIN);
+}
+
+static size_t longest(const struct reader *entry)
+{
+    return filled_len(entry, REF_RECORD_MAX);
+}
+
+static struct ref_result check(const struct reader *entry, const uint8_t *data,
+                               size_t len)
+{
+    return entry->check(entry->lanes, data, len);
 }
 
 static void lay(const struct reader *entry, const struct board *b,
@@ -72,7 +94,7 @@ static struct ref_result check_board(const struct reader *entry,
     struct data d;
 
     lay(entry, b, &d);
-    return entry->check(d.bytes, d.len);
+    return check(entry, d.bytes, d.len);
 }
 
 /* ---- levels ---- */
@@ -83,7 +105,8 @@ static void check_read_back(const struct reader *entry, const struct board *b)
     const struct ref_result level = {.version = (unsigned)b->version,
                                      .width = (unsigned)b->width,
                                      .height = (unsigned)b->height,
-                                     .par = (unsigned)b->par};
+                                     .par = (unsigned)b->par,
+                                     .lanes = (unsigned)entry->lanes};
     const bool taken = b->version <= entry->newest;
     uint8_t written[REF_STRIP_MAX], tiles[REF_TILES_MAX];
     char what[80];
@@ -93,11 +116,12 @@ static void check_read_back(const struct reader *entry, const struct board *b)
             b->height, b->par);
 
     const uint64_t result =
-        entry->writer->run(b->version, b->width, b->height, b->par, b->tiles,
-                           b->tiles_len, written, sizeof written);
+        entry->writer->run(entry->lanes, b->version, b->width, b->height,
+                           b->par, b->tiles, b->tiles_len, written,
+                           sizeof written);
 
-    check_number(entry->read(written, (size_t)(result >> 48), tiles),
-                 taken ? packed(level) : 7, what);
+    check_number(entry->read(entry->lanes, written, (size_t)(result >> 48),
+                             tiles), taken ? packed(level) : 7, what);
     if (taken && memcmp(tiles, b->tiles, b->tiles_len) != 0)
         group_fail("%s: other tiles were read back", what);
 }
@@ -192,9 +216,9 @@ static void test_changed_tiles(const struct reader *entry)
 /* ---- what is not of the layout ---- */
 
 /* A side of 0 leaves no tiles, and a record too short to be read as one. */
-static size_t readable(size_t len)
+static size_t readable(const struct reader *entry, size_t len)
 {
-    return len < REF_RECORD_MIN ? REF_RECORD_MIN : len;
+    return len < shortest(entry) ? shortest(entry) : len;
 }
 
 static void check_front(const struct reader *entry, unsigned version,
@@ -206,7 +230,7 @@ static void check_front(const struct reader *entry, unsigned version,
     draw_level(&b, width, height);
     lay(entry, &b, &d);
     d.bytes[0] = (uint8_t)(version << 4 | (d.bytes[0] & 0xF));
-    entry->check(d.bytes, readable(d.len));
+    check(entry, d.bytes, readable(entry, d.len));
 }
 
 static void test_fronts(const struct reader *entry)
@@ -221,11 +245,11 @@ static void test_fronts(const struct reader *entry)
     group_end();
 }
 
-/* The longest is that of 91 data bytes in each lane. */
 static size_t draw_other_len(const struct reader *entry)
 {
-    return entry->unit * draw_between(REF_RECORD_MIN / entry->unit,
-                                      REF_RECORD_MAX / entry->unit);
+    const size_t unit = unit_of(entry);
+
+    return unit * draw_between(shortest(entry) / unit, longest(entry) / unit);
 }
 
 static void test_wrong_lengths(const struct reader *entry)
@@ -238,13 +262,13 @@ static void test_wrong_lengths(const struct reader *entry)
         for (size_t h = 1; h <= REF_SIDE_MAX; h++) {
             draw_level(&b, w, h);
             lay(entry, &b, &d);
-            if (d.len > REF_RECORD_MIN)
-                entry->check(d.bytes, d.len - entry->unit);
-            if (d.len < REF_RECORD_MAX)
-                entry->check(d.bytes, d.len + entry->unit);
-            entry->check(d.bytes, draw_other_len(entry));
-            entry->check(d.bytes, draw_below(2) ? REF_RECORD_MIN
-                                                : REF_RECORD_MAX);
+            if (d.len > shortest(entry))
+                check(entry, d.bytes, d.len - unit_of(entry));
+            if (d.len < longest(entry))
+                check(entry, d.bytes, d.len + unit_of(entry));
+            check(entry, d.bytes, draw_other_len(entry));
+            check(entry, d.bytes, draw_below(2) ? shortest(entry)
+                                                : longest(entry));
         }
     group_end();
 }
@@ -262,7 +286,7 @@ static void check_filling(const struct reader *entry, const struct board *b)
     lay(entry, b, &d);
     for (size_t bit = d.bits; bit < 8 * d.len; bit++) {
         flip(&d, bit);
-        entry->check(d.bytes, d.len);
+        check(entry, d.bytes, d.len);
         flip(&d, bit);
     }
 }
@@ -297,7 +321,7 @@ static void check_mixture(const struct reader *entry)
         flip(&d, draw_between(d.bits, 8 * d.len - 1));
     if (draw_below(4) == 0)
         flip(&d, draw_below(24));
-    entry->check(d.bytes, draw_below(4) ? d.len : draw_other_len(entry));
+    check(entry, d.bytes, draw_below(4) ? d.len : draw_other_len(entry));
 }
 
 static void test_mixtures(const struct reader *entry)
@@ -313,25 +337,26 @@ static void test_mixtures(const struct reader *entry)
    length. */
 static void check_random(const struct reader *entry, size_t len)
 {
-    uint8_t bytes[REF_RECORD_MAX], level[REF_RECORD_MAX];
+    uint8_t bytes[REF_LAID_MAX], level[REF_RECORD_MAX];
     struct board b;
 
     draw_bytes(bytes, len);
-    entry->check(bytes, len);
+    check(entry, bytes, len);
     bytes[0] = (uint8_t)(draw_between(1, 2) << 4 | (bytes[0] & 0xF));
-    entry->check(bytes, len);
-    if (draw_level_for(&b, len, entry->unit)) {
+    check(entry, bytes, len);
+    if (draw_level_for(&b, len, unit_of(entry))) {
         record_of(&b, level);
         memcpy(bytes, level, 3);
-        entry->check(bytes, len);
+        check(entry, bytes, len);
     }
 }
 
 static void test_random_bytes(const struct reader *entry)
 {
     group_begin(entry->name, "random bytes of every length");
-    for (size_t len = REF_RECORD_MIN; len <= REF_RECORD_MAX; len += entry->unit)
-        for (size_t k = 0; k < scaled(entry->unit * 4); k++)
+    for (size_t len = shortest(entry); len <= longest(entry);
+         len += unit_of(entry))
+        for (size_t k = 0; k < scaled(unit_of(entry) * 4); k++)
             check_random(entry, len);
     group_end();
 }
@@ -355,7 +380,7 @@ static void test_finished_boards(const struct reader *entry)
 static void test_worked_records(const struct reader *entry)
 {
     static const struct {
-        uint8_t record[8]; /* filled with zeros */
+        uint8_t record[REF_LANES_MAX]; /* filled with zeros */
         size_t len;
         struct ref_result result;
     } worked[] = {
@@ -378,12 +403,16 @@ static void test_worked_records(const struct reader *entry)
 
     group_begin(entry->name, "the records of FORMAT");
     for (size_t k = 0; k < COUNT(worked); k++) {
-        const struct ref_result other = {.code = 7};
         const bool taken = worked[k].record[0] >> 4 <= (int)entry->newest;
+        struct ref_result due = {.code = 7};
 
-        check_number(packed(entry->check(worked[k].record,
-                                         filled_len(entry, worked[k].len))),
-                     packed(taken ? worked[k].result : other), "reference");
+        if (taken)
+            due = worked[k].result;
+        if (due.code == 0)
+            due.lanes = (unsigned)entry->lanes;
+        check_number(packed(check(entry, worked[k].record,
+                                  filled_len(entry, worked[k].len))),
+                     packed(due), "reference");
     }
     group_end();
 }

@@ -24,16 +24,18 @@ struct ref_result check_bytes(const struct bytes_reader *entry,
 
 struct reader {
     const char *name;
-    size_t unit;   /* data comes in multiples of so many bytes */
+    size_t lanes;  /* of a strip, which holds a multiple of so many data bytes;
+                      0 for a record by itself */
     size_t newest; /* the newest version that it reads */
     const struct writer *writer;
 
-    /* Read this data, for a strip out of clean lanes, and compare with the
-       second implementation. Returns what that one says. */
-    struct ref_result (*check)(const uint8_t *data, size_t len);
+    /* Read this data, for a strip out of so many clean lanes, and compare with
+       the second implementation. Returns what that one says. */
+    struct ref_result (*check)(size_t lanes, const uint8_t *data, size_t len);
 
     /* Read what the writer wrote, with the library alone. */
-    uint64_t (*read)(const uint8_t *written, size_t len, uint8_t *tiles);
+    uint64_t (*read)(size_t lanes, const uint8_t *written, size_t len,
+                     uint8_t *tiles);
 };
 
 /* All groups on the judging of a record. */

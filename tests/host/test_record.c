@@ -20,18 +20,22 @@ struct ref_result check_record(const uint8_t *record, size_t len,
     return check_bytes(&entry, record, len, tiles_len);
 }
 
-static struct ref_result check_data(const uint8_t *data, size_t len)
+static struct ref_result check_data(size_t lanes, const uint8_t *data,
+                                    size_t len)
 {
+    (void)lanes;
     return check_record(data, len, draw_below(2) ? REF_TILES_MAX : TILES_ROOM);
 }
 
-static uint64_t read_written(const uint8_t *written, size_t len, uint8_t *tiles)
+static uint64_t read_written(size_t lanes, const uint8_t *written, size_t len,
+                             uint8_t *tiles)
 {
+    (void)lanes;
     return zav_record_read(written, len, tiles, REF_TILES_MAX);
 }
 
 static const struct reader reader = {
-    "record reader", 1, 2, &writers[RECORD_WRITER], check_data, read_written};
+    "record reader", 0, 2, &writers[RECORD_WRITER], check_data, read_written};
 
 /* ---- version 1 only ---- */
 
@@ -44,20 +48,23 @@ struct ref_result check_record_v1(const uint8_t *record, size_t len,
     return check_bytes(&entry, record, len, tiles_len);
 }
 
-static struct ref_result check_data_v1(const uint8_t *data, size_t len)
+static struct ref_result check_data_v1(size_t lanes, const uint8_t *data,
+                                       size_t len)
 {
+    (void)lanes;
     return check_record_v1(data, len,
                            draw_below(2) ? REF_TILES_MAX : TILES_ROOM);
 }
 
-static uint64_t read_written_v1(const uint8_t *written, size_t len,
-                                uint8_t *tiles)
+static uint64_t read_written_v1(size_t lanes, const uint8_t *written,
+                                size_t len, uint8_t *tiles)
 {
+    (void)lanes;
     return zav_record_read_v1(written, len, tiles, REF_TILES_MAX);
 }
 
 static const struct reader reader_v1 = {
-    "record reader, version 1", 1, 1, &writers[RECORD_WRITER], check_data_v1,
+    "record reader, version 1", 0, 1, &writers[RECORD_WRITER], check_data_v1,
     read_written_v1};
 
 /* ---- lengths and buffers, of both ---- */
@@ -72,15 +79,15 @@ static void test_lengths(void)
     for (size_t len = 0; len <= RECORD_ROOM; len++)
         for (size_t k = 0; k < scaled(5); k++) {
             draw_bytes(record, sizeof record);
-            check_data(record, len);
-            check_data_v1(record, len);
+            check_data(0, record, len);
+            check_data_v1(0, record, len);
             draw_any_level(&b);
             record_of(&b, record);
-            check_data(record, len);
-            check_data_v1(record, len);
+            check_data(0, record, len);
+            check_data_v1(0, record, len);
             memset(record + 3, 0, sizeof record - 3);
-            check_data(record, len);
-            check_data_v1(record, len);
+            check_data(0, record, len);
+            check_data_v1(0, record, len);
         }
     group_end();
 }

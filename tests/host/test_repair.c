@@ -7,7 +7,8 @@
 #include "harness.h"
 #include "zavullimen_words.h"
 
-static const size_t lengths[] = {6, 7, 10, 40, 96, 255};
+/* 28, 51, 96 and 187 are the longest lanes of strips of 16 to 2 lanes. */
+static const size_t lengths[] = {6, 7, 10, 28, 51, 96, 187, 255};
 
 const struct repair repairs[REPAIRS] = {
     {"word repair", zav_word_repair, ref_word_repair, REF_WORD_MAX},
@@ -516,7 +517,8 @@ static void check_mixture(const struct repair *entry, size_t len,
 
 static void test_order(const struct repair *entry)
 {
-    static const size_t lens[] = {0, 5, 6, 7, 95, 96, 97, 254, 255, 256, 300};
+    static const size_t lens[] = {0,   5,   6,   7,   95,  96, 97,
+                                  186, 187, 188, 254, 255, 256, 300};
     static const uint8_t marks[] = {0, 1, 2, 255};
 
     group_begin(entry->name, "several refusals at once");

@@ -22,7 +22,7 @@ static struct board board;
 static struct sample word;
 static struct typed text;
 static uint8_t record[REF_RECORD_MAX];
-static size_t record_len;
+static size_t record_len, lanes_to_write;
 static uint8_t out[REF_TEXT_MAX], scratch[REF_SCRATCH_MIN];
 static uint8_t tiles[REF_TILES_MAX];
 
@@ -30,28 +30,35 @@ static uint8_t tiles[REF_TILES_MAX];
    shortest word has. */
 enum { DAMAGE_MAX = REF_REACH + 1 };
 
-/* Any length, within reach and beyond, a level or not. */
-static void draw_picture(void)
+/* Of so many lanes, of any length, within reach and beyond, a level or not. */
+static void draw_picture_of(size_t lanes)
 {
     if (draw_below(4) > 0) {
-        picture_length(&picture, draw_between(1, REF_K_MAX));
+        picture_length(&picture, lanes,
+                       draw_between(ref_k_min(lanes), ref_k_max(lanes)));
     } else {
         draw_any_board(&board);
-        picture_board(&picture, &board);
+        picture_board(&picture, lanes, &board);
     }
     damage_lanes(&picture, draw_below(DAMAGE_MAX + 1));
+}
+
+static void draw_picture(void)
+{
+    draw_picture_of(draw_lane_count());
 }
 
 /* Two of one length. */
 static void draw_pictures(void)
 {
-    draw_picture();
+    draw_picture_of(REF_LANES);
     other = picture;
     draw_bytes(other.strip, draw_below(other.strip_len));
 }
 
 static void draw_record(void)
 {
+    lanes_to_write = draw_lane_count();
     draw_any_board(&board);
     record_len = record_of(&board, record);
     if (draw_below(4) == 0)
@@ -102,22 +109,22 @@ static void draw_lane(void)
 
 static void call_strip_write(void)
 {
-    zav_strip_write(board.version, board.width, board.height, board.par,
-                    board.tiles, board.tiles_len, out, sizeof out);
+    zav_strip_write(lanes_to_write, board.version, board.width, board.height,
+                    board.par, board.tiles, board.tiles_len, out, sizeof out);
 }
 
 static void call_strip_read(void)
 {
-    zav_strip_read(picture.strip, picture.strip_len, picture.marks,
-                   picture.marks_len, tiles, sizeof tiles, scratch,
-                   sizeof scratch);
+    zav_strip_read(picture.lanes, picture.strip, picture.strip_len,
+                   picture.marks, picture.marks_len, tiles, sizeof tiles,
+                   scratch, sizeof scratch);
 }
 
 static void call_strip_read_v1(void)
 {
-    zav_strip_read_v1(picture.strip, picture.strip_len, picture.marks,
-                      picture.marks_len, tiles, sizeof tiles, scratch,
-                      sizeof scratch);
+    zav_strip_read_v1(picture.lanes, picture.strip, picture.strip_len,
+                      picture.marks, picture.marks_len, tiles, sizeof tiles,
+                      scratch, sizeof scratch);
 }
 
 static void call_strip_pool(void)
@@ -210,8 +217,8 @@ struct entry {
 
 static const struct entry entries[] = {
     {"zav_strip_write", 600, draw_record, call_strip_write},
-    {"zav_strip_read", 3000, draw_picture, call_strip_read},
-    {"zav_strip_read_v1", 3000, draw_picture, call_strip_read_v1},
+    {"zav_strip_read", 3300, draw_picture, call_strip_read},
+    {"zav_strip_read_v1", 3300, draw_picture, call_strip_read_v1},
     {"zav_strip_pool", 300, draw_pictures, call_strip_pool},
     {"zav_tiny_next", 500, draw_tiny, call_tiny_next},
     {"zav_record_write", 300, draw_record, call_record_write},
@@ -222,7 +229,7 @@ static const struct entry entries[] = {
     {"zav_word_write", 500, draw_any_word, call_word_write},
     {"zav_word_test", 300, draw_any_word, call_word_test},
     {"zav_word_repair", 2200, draw_any_word, call_word_repair},
-    {"zav_lane_repair", 2800, draw_lane, call_lane_repair},
+    {"zav_lane_repair", 3200, draw_lane, call_lane_repair},
     {"zav_product", 1200, draw_any_word, call_product},
     {"zav_power", 1200, draw_any_word, call_power},
     {"zav_syndrome", 300, draw_any_word, call_syndrome},

@@ -1,6 +1,7 @@
 /* test_strip.c - whole strips against the second implementation. */
 #include "test_strip.h"
 
+#include <stdio.h>
 #include <string.h>
 
 #include "draw.h"
@@ -9,87 +10,119 @@
 #include "test_reader.h"
 #include "zavullimen_strips.h"
 
-static struct ref_result check_data(const uint8_t *data, size_t len)
+static const char subject[] = "strip reader";
+
+/* ---- the judging of a record, for every lane count ---- */
+
+static struct ref_result check_data(size_t lanes, const uint8_t *data,
+                                    size_t len)
 {
     struct picture p;
 
-    picture_data(&p, data, len / REF_LANES);
+    picture_data(&p, lanes, data, len / lanes);
     return check_picture(&p);
 }
 
-static uint64_t read_written(const uint8_t *written, size_t len, uint8_t *tiles)
+static uint64_t read_written(size_t lanes, const uint8_t *written, size_t len,
+                             uint8_t *tiles)
 {
     static const uint8_t marks[REF_STRIP_MAX];
     uint8_t scratch[REF_SCRATCH_MIN];
 
-    return zav_strip_read(written, len, marks, len, tiles, REF_TILES_MAX,
-                          scratch, sizeof scratch);
+    return zav_strip_read(lanes, written, len, marks, len, tiles,
+                          REF_TILES_MAX, scratch, sizeof scratch);
 }
 
-static const struct reader reader = {"strip reader", REF_LANES, 2,
-                                     &writers[STRIP_WRITER], check_data,
-                                     read_written};
-
-/* ---- version 1 only ---- */
-
-static struct ref_result check_data_v1(const uint8_t *data, size_t len)
+/* Version 1 only. */
+static struct ref_result check_data_v1(size_t lanes, const uint8_t *data,
+                                       size_t len)
 {
     struct picture p;
 
-    picture_data(&p, data, len / REF_LANES);
+    picture_data(&p, lanes, data, len / lanes);
     return check_picture_v1(&p);
 }
 
-static uint64_t read_written_v1(const uint8_t *written, size_t len,
-                                uint8_t *tiles)
+static uint64_t read_written_v1(size_t lanes, const uint8_t *written,
+                                size_t len, uint8_t *tiles)
 {
     static const uint8_t marks[REF_STRIP_MAX];
     uint8_t scratch[REF_SCRATCH_MIN];
 
-    return zav_strip_read_v1(written, len, marks, len, tiles, REF_TILES_MAX,
-                             scratch, sizeof scratch);
+    return zav_strip_read_v1(lanes, written, len, marks, len, tiles,
+                             REF_TILES_MAX, scratch, sizeof scratch);
 }
 
-static const struct reader reader_v1 = {"strip reader, version 1", REF_LANES, 1,
-                                        &writers[STRIP_WRITER], check_data_v1,
-                                        read_written_v1};
+static void test_both_readers(size_t lanes)
+{
+    const struct writer *writer = strip_writer(lanes);
+    char name[60], name_v1[60];
+    const struct reader both = {name, lanes, 2, writer, check_data,
+                                read_written};
+    const struct reader first = {name_v1, lanes, 1, writer, check_data_v1,
+                                 read_written_v1};
+
+    sprintf(name, "%s, %zu lanes", subject, lanes);
+    sprintf(name_v1, "%s, version 1, %zu lanes", subject, lanes);
+    test_reader(&both);
+    test_reader(&first);
+}
 
 /* ---- every legal length ---- */
 
 /* Clean, with damage that is always within reach, and with more. */
-static void test_lengths(void)
+static void check_length(size_t lanes, size_t k)
 {
     struct picture p;
 
-    group_begin(reader.name, "every legal length, clean and damaged");
-    for (size_t k = 1; k <= REF_K_MAX; k++)
-        for (size_t n = 0; n < scaled(8); n++) {
-            picture_length(&p, k);
-            check_picture(&p);
-            damage_lanes(&p, REF_REACH);
-            check_picture(&p);
-            picture_length(&p, k);
-            damage_lanes(&p, REF_REACH + 1);
-            check_picture(&p);
-        }
+    picture_length(&p, lanes, k);
+    check_picture(&p);
+    damage_lanes(&p, REF_REACH);
+    check_picture(&p);
+    picture_length(&p, lanes, k);
+    damage_lanes(&p, REF_REACH + 1);
+    check_picture(&p);
+}
+
+static void test_lengths(void)
+{
+    group_begin(subject, "every legal length, clean and damaged");
+    for (size_t i = 0; i < LANE_COUNTS; i++) {
+        const size_t lanes = lane_counts[i];
+
+        for (size_t k = ref_k_min(lanes); k <= ref_k_max(lanes); k++)
+            for (size_t n = 0; n < scaled(3); n++)
+                check_length(lanes, k);
+    }
     group_end();
 }
 
 /* Where the second implementation gives a level, it must have been one; and
    no level has one of these lengths. */
-static void test_lengths_without_levels(void)
+static void check_no_level(size_t lanes, size_t k)
 {
     struct picture p;
 
-    group_begin(reader.name, "lengths that no level has");
-    for (size_t k = 1; k <= REF_K_MAX; k++)
-        for (size_t n = 0; n < scaled(20); n++)
-            if (!picture_length(&p, k)) {
-                const unsigned code = check_picture(&p).code;
+    if (picture_length(&p, lanes, k))
+        return;
 
-                if (code != 7 && code != 8)
-                    group_fail("k is %zu, and the reference says %u", k, code);
-            }
+    const unsigned code = check_picture(&p).code;
+
+    if (code != 7 && code != 8)
+        group_fail("%zu lanes, k is %zu, and the reference says %u", lanes, k,
+                   code);
+}
+
+static void test_lengths_without_levels(void)
+{
+    group_begin(subject, "lengths that no level has");
+    for (size_t i = 0; i < LANE_COUNTS; i++) {
+        const size_t lanes = lane_counts[i];
+
+        for (size_t k = ref_k_min(lanes); k <= ref_k_max(lanes); k++)
+            for (size_t n = 0; n < scaled(20); n++)
+                check_no_level(lanes, k);
+    }
     group_end();
 }
 
@@ -139,7 +172,8 @@ static void check_layout(const struct worked *w)
     check_number(ref_lay_record(w->version, 2, w->height, 5, w->tiles,
                                 2 * w->height, record),
                  w->record_len, "record");
-    check_number(ref_lay_strip(record, ref_k_of(w->record_len), strip),
+    check_number(ref_lay_strip(REF_LANES, record,
+                               ref_k_of(REF_LANES, w->record_len), strip),
                  w->strip_len, "strip");
     if (memcmp(record, w->record, w->record_len) != 0 ||
         memcmp(strip, w->strip, w->strip_len) != 0)
@@ -158,7 +192,7 @@ static void test_finished_strip(void)
     const struct ref_result refused = {.code = 10};
     struct picture p;
 
-    group_begin(reader.name, "the finished board of FORMAT, also damaged");
+    group_begin(subject, "the finished board of FORMAT, also damaged");
     check_layout(&worked_finished);
     picture_worked(&p, &worked_finished);
     expect(&p, refused);
@@ -171,11 +205,11 @@ static void test_finished_strip(void)
 static void test_worked_strip(void)
 {
     const struct ref_result level = {.version = 1, .width = 2, .height = 1,
-                                     .par = 5};
+                                     .par = 5, .lanes = REF_LANES};
     struct ref_result mended = level;
     struct picture whole, p;
 
-    group_begin(reader.name, "the strip of FORMAT, mended and refused");
+    group_begin(subject, "the strip of FORMAT, mended and refused");
     mended.mended = 1;
     mended.wear = 4;
     check_layout(&worked_level);
@@ -198,8 +232,11 @@ static void test_worked_strip(void)
     p.marks[7] = 2;
     expect(&p, (struct ref_result){.code = 3});
     p = whole;
-    p.scratch_len = 95;
+    p.scratch_len = 186;
     expect(&p, (struct ref_result){.code = 5});
+    p = whole;
+    p.lanes = 3;
+    expect(&p, (struct ref_result){.code = 15});
     group_end();
 }
 
@@ -208,7 +245,8 @@ static void test_worked_strip(void)
 static void check_worked_v2(const struct worked *w)
 {
     const struct ref_result level = {.version = 2, .width = 2,
-                                     .height = (unsigned)w->height, .par = 5};
+                                     .height = (unsigned)w->height, .par = 5,
+                                     .lanes = REF_LANES};
     const struct ref_result other = {.code = 7};
     struct picture p;
 
@@ -222,7 +260,7 @@ static void check_worked_v2(const struct worked *w)
 
 static void test_worked_v2(void)
 {
-    group_begin(reader.name, "the strips of version 2 of FORMAT");
+    group_begin(subject, "the strips of version 2 of FORMAT");
     check_layout(&worked_pit);
     check_layout(&worked_level_v2);
     for (size_t k = 0; k < scaled(200); k++) {
@@ -240,8 +278,8 @@ void test_strip(void)
     test_worked_strip();
     test_worked_v2();
     test_finished_strip();
-    test_reader(&reader);
-    test_reader(&reader_v1);
+    for (size_t i = 0; i < LANE_COUNTS; i++)
+        test_both_readers(lane_counts[i]);
     test_lengths();
     test_lengths_without_levels();
 }

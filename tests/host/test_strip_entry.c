@@ -1,6 +1,6 @@
 /*
- * test_strip_entry.c - the strip reader's lengths, marks and buffers, against
- * the second implementation.
+ * test_strip_entry.c - the strip reader's lane counts, lengths, marks and
+ * buffers, against the second implementation.
  */
 #include <string.h>
 
@@ -13,9 +13,11 @@
 static const char subject[] = "strip reader, entry";
 
 /* Random cells of any length; zeros are clean lanes. */
-static void picture_any(struct picture *p, size_t strip_len, size_t marks_len)
+static void picture_any(struct picture *p, size_t lanes, size_t strip_len,
+                        size_t marks_len)
 {
     memset(p, 0, sizeof *p);
+    p->lanes = lanes;
     if (draw_below(2))
         draw_bytes(p->strip, strip_len);
     p->strip_len = strip_len;
@@ -29,10 +31,11 @@ static void test_lengths(void)
     struct picture p;
 
     group_begin(subject, "strips of every length");
-    for (size_t len = 0; len <= STRIP_ROOM; len++) {
-        picture_any(&p, len, len);
-        check_picture(&p);
-    }
+    for (size_t i = 0; i < LANE_COUNTS; i++)
+        for (size_t len = 0; len <= STRIP_ROOM; len++) {
+            picture_any(&p, lane_counts[i], len, len);
+            check_picture(&p);
+        }
     group_end();
 }
 
@@ -43,14 +46,14 @@ static void test_marks_lengths(void)
 
     group_begin(subject, "marks of every other length");
     for (size_t len = 0; len <= STRIP_ROOM; len++) {
-        picture_any_level(&p, &b);
+        picture_any_level(&p, draw_lane_count(), &b);
         p.marks_len = len;
         check_picture(&p);
-        picture_any(&p, draw_below(STRIP_ROOM), len);
+        picture_any(&p, draw_lane_count(), draw_below(STRIP_ROOM), len);
         check_picture(&p);
     }
     for (size_t off = 1; off <= 8; off++) {
-        picture_any_level(&p, &b);
+        picture_any_level(&p, draw_lane_count(), &b);
         p.marks_len = p.strip_len + off;
         check_picture(&p);
         p.marks_len = p.strip_len - off;
@@ -59,29 +62,46 @@ static void test_marks_lengths(void)
     group_end();
 }
 
-static void check_mark(size_t cell, uint8_t value)
+/* The least k with which a strip has this cell. */
+static size_t k_with(size_t lanes, size_t cell)
+{
+    size_t k = ref_k_min(lanes);
+
+    while (ref_strip_len(lanes, k) <= cell)
+        k++;
+    return k;
+}
+
+/* In a strip of any length that has the cell. */
+static void check_mark(size_t lanes, size_t cell, uint8_t value)
 {
     struct picture p;
-    struct board b;
 
-    do
-        picture_any_level(&p, &b);
-    while (cell >= p.strip_len);
+    picture_length(&p, lanes,
+                   draw_between(k_with(lanes, cell), ref_k_max(lanes)));
     p.marks[cell] = value;
     check_picture(&p);
     p.marks[p.strip_len - 1 - cell] = value;
     check_picture(&p);
 }
 
+static void check_marks(size_t lanes)
+{
+    const size_t cells = ref_strip_len(lanes, ref_k_max(lanes));
+
+    for (unsigned value = 0; value < 256; value++) {
+        check_mark(lanes, 0, (uint8_t)value);
+        check_mark(lanes, draw_below(cells), (uint8_t)value);
+    }
+    for (size_t cell = 0; cell < cells; cell++)
+        check_mark(lanes, cell, draw_below(2) ? 2 : 255);
+}
+
 static void test_mark_values(void)
 {
     group_begin(subject, "marks of every value, and at every cell");
-    for (unsigned value = 0; value < 256; value++) {
-        check_mark(0, (uint8_t)value);
-        check_mark(draw_below(REF_STRIP_MAX), (uint8_t)value);
-    }
-    for (size_t cell = 0; cell < REF_STRIP_MAX; cell++)
-        check_mark(cell, draw_below(2) ? 2 : 255);
+    for (size_t i = 0; i < LANE_COUNTS; i++)
+        check_marks(lane_counts[i]);
     group_end();
 }
 
@@ -92,7 +112,7 @@ static void test_tile_buffers(void)
 
     group_begin(subject, "tile buffers of every length");
     for (size_t room = 0; room <= TILES_ROOM; room++) {
-        picture_any_level(&p, &b);
+        picture_any_level(&p, draw_lane_count(), &b);
         p.tiles_len = room;
         check_picture(&p);
     }
@@ -100,19 +120,27 @@ static void test_tile_buffers(void)
 }
 
 /* The scratch is used where cells have to be put right. */
-static void test_scratches(void)
+static void check_scratch(size_t lanes, size_t room)
 {
     struct picture p;
     struct board b;
 
+    picture_any_level(&p, lanes, &b);
+    p.scratch_len = room;
+    check_picture(&p);
+    damage_lanes(&p, REF_REACH);
+    check_picture(&p);
+}
+
+static void test_scratches(void)
+{
     group_begin(subject, "scratch of every length, clean strips and damaged");
-    for (size_t room = 0; room <= SCRATCH_ROOM; room++) {
-        picture_any_level(&p, &b);
-        p.scratch_len = room;
-        check_picture(&p);
-        damage_lanes(&p, REF_REACH);
-        check_picture(&p);
-    }
+    for (size_t room = 0; room <= SCRATCH_ROOM; room++)
+        if (room < REF_SCRATCH_MIN)
+            for (size_t i = 0; i < LANE_COUNTS; i++)
+                check_scratch(lane_counts[i], room);
+        else
+            check_scratch(draw_lane_count(), room);
     group_end();
 }
 
@@ -124,12 +152,13 @@ static uint64_t read_with(const struct picture *p, size_t scratch_len,
 
     draw_bytes(scratch, scratch_len);
     memset(tiles, 0xA5, REF_TILES_MAX);
-    return zav_strip_read(p->strip, p->strip_len, p->marks, p->marks_len,
-                          tiles, REF_TILES_MAX, scratch, scratch_len);
+    return zav_strip_read(p->lanes, p->strip, p->strip_len, p->marks,
+                          p->marks_len, tiles, REF_TILES_MAX, scratch,
+                          scratch_len);
 }
 
-/* FORMAT 10.10: with one lane of scratch the answer and the tiles are those
-   with more, as much as a whole strip and past that. */
+/* FORMAT 10.10: with the least scratch the answer and the tiles are those with
+   more, as much as a whole strip and past that. */
 static void check_alike(const struct picture *p)
 {
     static const size_t longer[] = {REF_SCRATCH_MIN + 1, REF_STRIP_MAX - 1,
@@ -146,25 +175,47 @@ static void check_alike(const struct picture *p)
     }
 }
 
-static void test_one_answer(void)
+static void check_answers(size_t lanes, size_t k)
 {
     struct picture p;
 
+    picture_length(&p, lanes, k);
+    check_alike(&p);
+    damage_lanes(&p, draw_below(2) ? REF_REACH : REF_REACH + 1);
+    check_alike(&p);
+}
+
+static void test_one_answer(void)
+{
     group_begin(subject, "one answer, however long the scratch");
-    for (size_t k = 1; k <= REF_K_MAX; k++)
-        for (size_t n = 0; n < scaled(20); n++) {
-            picture_length(&p, k);
-            check_alike(&p);
-            damage_lanes(&p, draw_below(2) ? REF_REACH : REF_REACH + 1);
-            check_alike(&p);
-        }
+    for (size_t i = 0; i < LANE_COUNTS; i++) {
+        const size_t lanes = lane_counts[i];
+
+        for (size_t k = ref_k_min(lanes); k <= ref_k_max(lanes); k++)
+            for (size_t n = 0; n < scaled(8); n++)
+                check_answers(lanes, k);
+    }
     group_end();
 }
 
 /* ---- several refusals at once ---- */
 
+/* Any other number but 2, 4, 8 and 16. */
+static size_t draw_no_lane_count(void)
+{
+    size_t lanes;
+
+    do
+        lanes = draw_below(2) ? draw_below(20)
+                              : (size_t)(draw_u64() >> draw_below(64));
+    while (ref_is_lane_count(lanes));
+    return lanes;
+}
+
 static void spoil_entry(struct picture *p)
 {
+    if (draw_below(8) == 0)
+        p->lanes = draw_no_lane_count();
     if (draw_below(4) == 0)
         p->strip_len = p->marks_len = draw_below(STRIP_ROOM);
     if (draw_below(4) == 0)
@@ -180,10 +231,10 @@ static void spoil_entry(struct picture *p)
 /* Lanes within reach and beyond. */
 static void spoil_lanes(struct picture *p)
 {
-    for (size_t lane = 0; lane < REF_LANES; lane++) {
+    for (size_t lane = 0; lane < p->lanes; lane++) {
         if (draw_below(4) == 0)
             damage_lane(p, lane, draw_below(3), draw_below(2), ANY_BYTE);
-        else if (draw_below(8) == 0)
+        else if (draw_below(2 * p->lanes) == 0)
             damage_lane(p, lane, 3, draw_below(3), ANY_BYTE);
     }
 }
@@ -191,7 +242,8 @@ static void spoil_lanes(struct picture *p)
 /* A record that is refused, or lanes beyond reach, or both or neither. */
 static void spoil_cells(struct picture *p)
 {
-    uint8_t data[REF_RECORD_MAX];
+    const size_t lanes = draw_lane_count();
+    uint8_t data[REF_LAID_MAX];
     struct board b;
 
     draw_any_board(&b);
@@ -199,13 +251,13 @@ static void spoil_cells(struct picture *p)
         b.tiles[draw_below(b.tiles_len)] = (uint8_t)draw_below(8);
     memset(data, 0, sizeof data);
 
-    const size_t k = ref_k_of(record_of(&b, data));
+    const size_t k = ref_k_of(lanes, record_of(&b, data));
 
     if (draw_below(4) == 0)
         data[draw_below(3)] ^= draw_nonzero();
     if (draw_below(4) == 0)
-        data[REF_LANES * k - 1] ^= draw_nonzero();
-    picture_data(p, data, k);
+        data[lanes * k - 1] ^= draw_nonzero();
+    picture_data(p, lanes, data, k);
     spoil_lanes(p);
 }
 
@@ -222,26 +274,30 @@ static void test_order(void)
     group_end();
 }
 
-/* A bit of the mixture for each of 1 to 5, over cells of any kind. */
+/* A bit of the mixture for each of 1 to 5 and for 15, over cells of any kind.
+   The readers for version 1 are asked too. */
 static void check_limits(unsigned mixture)
 {
     struct picture p;
 
     spoil_cells(&p);
     if (mixture & 1)
-        p.strip_len += draw_between(1, 3);
+        p.strip_len += draw_between(1, p.lanes - 1);
     p.marks_len = p.strip_len + (mixture >> 1 & 1);
     if (mixture & 4)
         p.marks[draw_below(p.marks_len)] = 2;
     p.tiles_len = REF_TILES_MAX - (mixture >> 3 & 1);
     p.scratch_len = REF_SCRATCH_MIN - (mixture >> 4 & 1);
+    if (mixture & 32)
+        p.lanes = draw_no_lane_count();
     check_picture(&p);
+    check_picture_v1(&p);
 }
 
 static void test_limits(void)
 {
-    group_begin(subject, "refusals 1 to 5 in all mixtures, at the limits");
-    for (unsigned mixture = 0; mixture < 32; mixture++)
+    group_begin(subject, "refusals 15 and 1 to 5 in all mixtures, at limits");
+    for (unsigned mixture = 0; mixture < 64; mixture++)
         for (size_t k = 0; k < scaled(30); k++)
             check_limits(mixture);
     group_end();
@@ -253,31 +309,36 @@ struct null_case {
     bool strip, marks, tiles, scratch; /* whether it is there */
 };
 
-static void check_null(struct null_case has)
+static void check_null(size_t lanes, struct null_case has)
 {
-    static const uint8_t cells[REF_STRIP_MIN], marks[REF_STRIP_MIN];
+    static const uint8_t cells[REF_STRIP_MAX], marks[REF_STRIP_MAX];
     uint8_t tiles[REF_TILES_MAX], scratch[REF_SCRATCH_MIN];
-    const size_t strip_len = has.strip ? sizeof cells : 0;
-    const size_t marks_len = has.marks ? sizeof marks : 0;
+    const size_t len = lanes > 0 ? ref_strip_len(lanes, ref_k_min(lanes)) : 14;
+    const size_t strip_len = has.strip ? len : 0;
+    const size_t marks_len = has.marks ? len : 0;
     const size_t tiles_len = has.tiles ? sizeof tiles : 0;
     const size_t scratch_len = has.scratch ? sizeof scratch : 0;
 
     group_case();
-    check_number(zav_strip_read(has.strip ? cells : NULL, strip_len,
+    check_number(zav_strip_read(lanes, has.strip ? cells : NULL, strip_len,
                                 has.marks ? marks : NULL, marks_len,
                                 has.tiles ? tiles : NULL, tiles_len,
                                 has.scratch ? scratch : NULL, scratch_len),
-                 packed(ref_strip_read(cells, strip_len, marks, marks_len,
-                                       tiles, tiles_len, scratch_len)),
-                 "NULL");
+                 packed(ref_strip_read(lanes, cells, strip_len, marks,
+                                       marks_len, tiles, tiles_len,
+                                       scratch_len)), "NULL");
 }
 
 static void test_nulls(void)
 {
+    static const size_t lanes[] = {0, 2, 4, 8, 16};
+
     group_begin(subject, "NULL with length 0");
-    for (unsigned mixture = 0; mixture < 16; mixture++)
-        check_null((struct null_case){mixture & 1, mixture & 2, mixture & 4,
-                                      mixture & 8});
+    for (size_t i = 0; i < COUNT(lanes); i++)
+        for (unsigned mixture = 0; mixture < 16; mixture++)
+            check_null(lanes[i],
+                       (struct null_case){mixture & 1, mixture & 2,
+                                          mixture & 4, mixture & 8});
     group_end();
 }
 

@@ -32,16 +32,22 @@ static size_t fitting(const struct picture *p, size_t cells)
     return cells < p->strip_len ? cells : p->strip_len;
 }
 
+/* A run that covers as much of each lane as so many cells do of four. */
+static size_t scaled_run(const struct picture *p, size_t cells)
+{
+    return cells * p->lanes / REF_LANES;
+}
+
 static void test_stickers(void)
 {
     struct picture p;
     struct board b;
 
-    group_begin(subject, "runs of 3 to 30 cells of one colour");
+    group_begin(subject, "runs of up to 8 cells a lane, of one colour");
     for (size_t cells = 3; cells <= 30; cells++)
         for (size_t k = 0; k < scaled(60); k++) {
-            picture_any_level(&p, &b);
-            put_sticker(&p, fitting(&p, cells), draw_byte(),
+            picture_any_level(&p, draw_lane_count(), &b);
+            put_sticker(&p, fitting(&p, scaled_run(&p, cells)), draw_byte(),
                         (enum marking)(k % MARKINGS));
             check_picture(&p);
         }
@@ -69,11 +75,12 @@ static void test_plain_stickers(void)
     group_begin(subject, "runs in a colour of the strip, on plain levels");
     for (size_t k = 0; k < scaled(1500); k++) {
         draw_plain_level(&b);
-        picture_board(&p, &b);
+        picture_board(&p, draw_lane_count(), &b);
 
         const uint8_t colour = p.strip[draw_below(p.strip_len)];
+        const size_t cells = scaled_run(&p, draw_between(3, 30));
 
-        put_sticker(&p, fitting(&p, draw_between(3, 30)), colour,
+        put_sticker(&p, fitting(&p, cells), colour,
                     (enum marking)(k % MARKINGS));
         check_picture(&p);
     }
@@ -98,10 +105,9 @@ static void move_lane(struct picture *p, const struct picture *other,
 {
     size_t cells[REF_LANE_MAX], count = 0;
 
-    for (size_t i = 0; i < lane_len(p); i++)
-        if (p->strip[REF_LANES * i + lane] !=
-            other->strip[REF_LANES * i + lane])
-            cells[count++] = REF_LANES * i + lane;
+    for (size_t cell = lane; cell < p->strip_len; cell += p->lanes)
+        if (p->strip[cell] != other->strip[cell])
+            cells[count++] = cell;
     for (; count > left; count--) {
         const size_t i = draw_below(count);
 
@@ -117,13 +123,13 @@ static void check_between(bool swapped)
     struct picture p, other;
     struct board b;
 
-    picture_any_level(&p, &b);
+    picture_any_level(&p, draw_lane_count(), &b);
     if (swapped)
         swap_two_tiles(&b);
     else
         draw_level(&b, b.width, b.height);
-    picture_board(&other, &b);
-    for (size_t lane = 0; lane < REF_LANES; lane++)
+    picture_board(&other, p.lanes, &b);
+    for (size_t lane = 0; lane < p.lanes; lane++)
         if (swapped || draw_below(2))
             move_lane(&p, &other, lane, draw_below(4));
     check_picture(&p);
@@ -144,8 +150,8 @@ static unsigned move_all_lanes(struct picture *p, const struct board *b)
     struct picture other;
     unsigned wrong = 0;
 
-    picture_board(&other, b);
-    for (size_t lane = 0; lane < REF_LANES; lane++)
+    picture_board(&other, p->lanes, b);
+    for (size_t lane = 0; lane < p->lanes; lane++)
         move_lane(p, &other, lane, draw_below(3));
     for (size_t i = 0; i < p->strip_len; i++)
         wrong += p->strip[i] != other.strip[i];
@@ -160,7 +166,7 @@ static void test_moved_levels(void)
 
     group_begin(subject, "all lanes moved to within 2 of another level's");
     for (size_t k = 0; k < scaled(1000); k++) {
-        picture_any_level(&p, &b);
+        picture_any_level(&p, draw_lane_count(), &b);
         draw_level(&b, b.width, b.height);
         check_level(&p, &b, move_all_lanes(&p, &b));
     }
@@ -176,7 +182,7 @@ static void test_moved_to_finished(void)
 
     group_begin(subject, "all lanes moved to within 2 of a finished board's");
     for (size_t k = 0; k < scaled(1000); k++) {
-        picture_any_level(&p, &b);
+        picture_any_level(&p, draw_lane_count(), &b);
         while (settle_crate(&b))
             continue;
         move_all_lanes(&p, &b);
@@ -194,7 +200,7 @@ static void test_scattered(void)
 
     group_begin(subject, "wrong and marked cells scattered over the strip");
     for (size_t k = 0; k < scaled(3000); k++) {
-        picture_any_level(&p, &b);
+        picture_any_level(&p, draw_lane_count(), &b);
         for (size_t wrong = draw_below(10); wrong > 0; wrong--)
             p.strip[draw_below(p.strip_len)] = draw_byte();
         for (size_t marked = draw_below(12); marked > 0; marked--)
@@ -215,8 +221,8 @@ static void test_no_levels(void)
         draw_any_level(&b);
         b.tiles[draw_below(b.tiles_len)] = (uint8_t)draw_below(8);
         b.tiles[draw_below(b.tiles_len)] = (uint8_t)draw_below(8);
-        picture_board(&p, &b);
-        for (size_t lane = 0; lane < REF_LANES; lane++)
+        picture_board(&p, draw_lane_count(), &b);
+        for (size_t lane = 0; lane < p.lanes; lane++)
             damage_lane(&p, lane, draw_below(3), draw_below(2), ANY_BYTE);
         check_picture(&p);
     }
@@ -230,10 +236,10 @@ static void test_garbage(void)
 
     group_begin(subject, "random cells with up to six marks in a lane");
     for (size_t k = 0; k < scaled(1500); k++) {
-        picture_any_level(&p, &b);
+        picture_any_level(&p, draw_lane_count(), &b);
         if (draw_below(2))
             draw_bytes(p.strip, p.strip_len);
-        for (size_t lane = 0; lane < REF_LANES; lane++)
+        for (size_t lane = 0; lane < p.lanes; lane++)
             damage_lane(&p, lane, 0, draw_below(7), ANY_BYTE);
         check_picture(&p);
     }
@@ -250,10 +256,10 @@ static void test_forgotten_sums(void)
     group_begin(subject, "a lane with all sums zero but one, and damage");
     for (size_t k = 0; k < scaled(300); k++)
         for (int row = 0; row < REF_CHECK_BYTES; row++) {
-            picture_any_level(&p, &b);
+            picture_any_level(&p, draw_lane_count(), &b);
             draw_all_sums_but(&s, lane_len(&p), row);
             draw_damage(&s, draw_below(3), draw_below(3), ANY_BYTE);
-            put_lane(&p, draw_below(REF_LANES), &s);
+            put_lane(&p, draw_below(p.lanes), &s);
             check_picture(&p);
         }
     group_end();
@@ -267,13 +273,15 @@ static void test_cut_strips(void)
 
     group_begin(subject, "strips cut in front, or shifted against the lanes");
     for (size_t k = 0; k < scaled(1500); k++) {
-        const size_t cut = draw_between(1, 8);
+        const size_t lanes = draw_lane_count();
+        const size_t cut = draw_below(4) ? draw_between(1, 2 * lanes)
+                                         : lanes * draw_between(1, 2);
 
         do
-            picture_any_level(&p, &b);
-        while (p.strip_len < REF_STRIP_MIN + 8);
+            picture_any_level(&p, lanes, &b);
+        while (lane_len(&p) < ref_k_min(lanes) + REF_CHECK_BYTES + 2);
         memmove(p.strip, p.strip + cut, p.strip_len - cut);
-        if (cut % REF_LANES == 0)
+        if (cut % lanes == 0)
             p.strip_len = p.marks_len = p.strip_len - cut;
         check_picture(&p);
     }
@@ -289,10 +297,11 @@ static void test_swapped_lanes(void)
 
     group_begin(subject, "two lanes in each other's place");
     for (size_t k = 0; k < scaled(600); k++) {
-        const size_t lane = draw_below(REF_LANES);
-        const size_t other = (lane + draw_between(1, 3)) % REF_LANES;
+        picture_any_level(&p, draw_lane_count(), &b);
 
-        picture_any_level(&p, &b);
+        const size_t lane = draw_below(p.lanes);
+        const size_t other = (lane + draw_between(1, p.lanes - 1)) % p.lanes;
+
         take_lane(&p, lane, &first);
         take_lane(&p, other, &second);
         put_lane(&p, lane, &second);
@@ -310,13 +319,13 @@ static void draw_lanes(struct picture *p, size_t k)
     struct board b;
 
     (void)k;
-    picture_any_level(p, &b);
-    for (size_t lane = 0; lane < REF_LANES; lane++) {
+    picture_any_level(p, draw_lane_count(), &b);
+    for (size_t lane = 0; lane < p->lanes; lane++) {
         const size_t wrong = draw_below(3);
 
         damage_lane(p, lane, wrong,
                     draw_below(REF_REACH + 1 - 2 * wrong +
-                               (draw_below(16) == 0)),
+                               (draw_below(4 * p->lanes) == 0)),
                     draw_under_mark());
     }
 }
@@ -327,8 +336,8 @@ static void draw_sticker(struct picture *p, size_t k)
     struct board b;
 
     draw_plain_level(&b);
-    picture_board(p, &b);
-    put_sticker(p, fitting(p, draw_between(3, 16)),
+    picture_board(p, draw_lane_count(), &b);
+    put_sticker(p, fitting(p, scaled_run(p, draw_between(3, 16))),
                 p->strip[draw_below(p->strip_len)],
                 (enum marking)(k % MARKINGS));
     for (size_t marked = draw_below(5); marked > 0; marked--)

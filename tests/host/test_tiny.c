@@ -7,9 +7,9 @@
 #include <stdio.h>
 #include <string.h>
 
-#include "boards.h"
 #include "draw.h"
 #include "harness.h"
+#include "pictures.h"
 #include "reference_text.h"
 #include "reference_tiny.h"
 #include "zavullimen.h"
@@ -179,35 +179,56 @@ static void test_counts(void)
     group_end();
 }
 
+/* The board that a walk has come to, typed and read back. */
+static void check_typed(const struct walk *w, struct ref_result level)
+{
+    const size_t n = (size_t)level.width * level.height;
+    uint8_t text[REF_TEXT_MAX], back[REF_TILES_MAX];
+    const size_t len =
+        zav_length(zav_text_write(1, level.width, level.height, 0, w->tiles, n,
+                                  text, sizeof text));
+
+    check_number(zav_text_read(text, len, back, sizeof back), packed(level),
+                 "the text of a board");
+    if (memcmp(back, w->tiles, n) != 0)
+        group_fail("%u by %u: another board is typed", level.width,
+                   level.height);
+}
+
+/* The same written to a strip. */
+static void check_strip(const struct walk *w, struct ref_result level)
+{
+    static const uint8_t marks[REF_STRIP_MAX];
+    const size_t n = (size_t)level.width * level.height;
+    uint8_t strip[REF_STRIP_MAX], back[REF_TILES_MAX];
+    uint8_t scratch[ZAV_SCRATCH_MIN];
+    const size_t len =
+        zav_length(zav_strip_write(level.lanes, 1, level.width, level.height,
+                                   0, w->tiles, n, strip, sizeof strip));
+
+    check_number(zav_strip_read(level.lanes, strip, len, marks, len, back,
+                                sizeof back, scratch, sizeof scratch),
+                 packed(level), "the strip of a board");
+    if (memcmp(back, w->tiles, n) != 0)
+        group_fail("%u by %u: another board is read", level.width,
+                   level.height);
+}
+
 /* Each is a level for the writers, and is read back. */
 static void check_written(size_t width, size_t height)
 {
-    const size_t n = width * height;
-    uint8_t text[REF_TEXT_MAX], strip[REF_STRIP_MAX];
-    uint8_t back[REF_TILES_MAX], scratch[ZAV_SCRATCH_MIN];
-    static const uint8_t marks[REF_STRIP_MAX];
-    const struct ref_result level = {.version = 1,
-                                     .width = (unsigned)width,
-                                     .height = (unsigned)height};
+    struct ref_result level = {.version = 1,
+                               .width = (unsigned)width,
+                               .height = (unsigned)height};
     struct walk w;
 
     for (walk_from_start(&w, width, height); zav_length(w.result) != 0;
          walk_on(&w, ZAV_AFTER)) {
-        size_t len = zav_length(zav_text_write(1, width, height, 0, w.tiles,
-                                               n, text, sizeof text));
-
         group_case();
-        check_number(zav_text_read(text, len, back, sizeof back),
-                     packed(level), "the text of a board");
-        if (memcmp(back, w.tiles, n) != 0)
-            group_fail("%zu by %zu: another board is typed", width, height);
-        len = zav_length(zav_strip_write(1, width, height, 0, w.tiles, n,
-                                         strip, sizeof strip));
-        check_number(zav_strip_read(strip, len, marks, len, back, sizeof back,
-                                    scratch, sizeof scratch),
-                     packed(level), "the strip of a board");
-        if (memcmp(back, w.tiles, n) != 0)
-            group_fail("%zu by %zu: another board is read", width, height);
+        level.lanes = 0;
+        check_typed(&w, level);
+        level.lanes = (unsigned)draw_lane_count();
+        check_strip(&w, level);
     }
 }
 

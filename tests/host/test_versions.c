@@ -27,8 +27,8 @@ static void expect_written(const struct writer *entry, const struct board *b,
     check_number(check_writing(entry, b, entry->room).code, code, what);
 }
 
-/* Laid out, and read as a record and as a strip, by the readers for both and
-   for version 1. */
+/* Laid out, and read as a record and as a strip of any lanes, by the readers
+   for both and for version 1. */
 static void expect_read(const struct board *b, unsigned code)
 {
     const unsigned code_v1 = b->version == 1 ? code : 7;
@@ -36,7 +36,7 @@ static void expect_read(const struct board *b, unsigned code)
     const size_t len = record_of(b, record);
     struct picture p;
 
-    picture_board(&p, b);
+    picture_board(&p, draw_lane_count(), b);
     check_number(check_record(record, len, REF_TILES_MAX).code, code, "record");
     check_number(check_record_v1(record, len, REF_TILES_MAX).code, code_v1,
                  "record, version 1");
@@ -48,7 +48,7 @@ static void expect_read(const struct board *b, unsigned code)
 static void expect_everywhere(const struct board *b, unsigned code)
 {
     expect_written(&writers[RECORD_WRITER], b, code);
-    expect_written(&writers[STRIP_WRITER], b, code);
+    expect_written(strip_writer(draw_lane_count()), b, code);
     expect_written(&writers[TEXT_WRITER], b, b->version == 1 ? code : 7);
     expect_read(b, code);
 }
@@ -168,11 +168,11 @@ static void test_pit_places(void)
 
 /* ---- one board in both versions ---- */
 
-static size_t write_strip(const struct board *b, size_t version,
+static size_t write_strip(const struct board *b, size_t lanes, size_t version,
                           uint8_t strip[REF_STRIP_MAX])
 {
-    return zav_length(zav_strip_write(version, b->width, b->height, b->par,
-                                      b->tiles, b->tiles_len, strip,
+    return zav_length(zav_strip_write(lanes, version, b->width, b->height,
+                                      b->par, b->tiles, b->tiles_len, strip,
                                       REF_STRIP_MAX));
 }
 
@@ -188,23 +188,24 @@ static size_t write_record(const struct board *b, size_t version,
 static void check_two(const struct board *b)
 {
     static const uint8_t marks[REF_STRIP_MAX];
+    const size_t lanes = draw_lane_count();
     uint8_t strips[2][REF_STRIP_MAX], records[2][REF_RECORD_MAX];
     uint8_t tiles[REF_TILES_MAX], scratch[REF_SCRATCH_MIN];
 
     for (size_t v = 1; v <= 2; v++) {
-        const size_t cells = write_strip(b, v, strips[v - 1]);
+        const size_t cells = write_strip(b, lanes, v, strips[v - 1]);
         const size_t bytes = write_record(b, v, records[v - 1]);
 
         group_case();
         check_number(zav_level_version(zav_strip_read(
-                         strips[v - 1], cells, marks, cells, tiles,
+                         lanes, strips[v - 1], cells, marks, cells, tiles,
                          sizeof tiles, scratch, sizeof scratch)),
                      v, "the strip's version");
         check_number(zav_level_version(zav_record_read(
                          records[v - 1], bytes, tiles, sizeof tiles)),
                      v, "the record's version");
         check_number(zav_code(zav_strip_read_v1(
-                         strips[v - 1], cells, marks, cells, tiles,
+                         lanes, strips[v - 1], cells, marks, cells, tiles,
                          sizeof tiles, scratch, sizeof scratch)),
                      v == 1 ? 0 : 7, "the strip, for version 1");
         check_number(zav_code(zav_record_read_v1(records[v - 1], bytes, tiles,
@@ -213,7 +214,7 @@ static void check_two(const struct board *b)
         if (cells == 0 || bytes == 0)
             group_fail("%zu by %zu is not written", b->width, b->height);
     }
-    if (memcmp(strips[0], strips[1], 24) == 0 ||
+    if (memcmp(strips[0], strips[1], 14) == 0 ||
         memcmp(records[0], records[1], 4) == 0)
         group_fail("%zu by %zu: alike in both versions", b->width, b->height);
 }
@@ -245,8 +246,8 @@ static struct answer read_both(const struct picture *p)
     uint8_t scratch[REF_SCRATCH_MIN];
 
     memset(a.tiles, 0xA5, sizeof a.tiles);
-    a.result = zav_strip_read(p->strip, p->strip_len, p->marks, p->marks_len,
-                              a.tiles, sizeof a.tiles, scratch,
+    a.result = zav_strip_read(p->lanes, p->strip, p->strip_len, p->marks,
+                              p->marks_len, a.tiles, sizeof a.tiles, scratch,
                               sizeof scratch);
     return a;
 }
@@ -257,7 +258,7 @@ static struct answer read_first(const struct picture *p)
     uint8_t scratch[REF_SCRATCH_MIN];
 
     memset(a.tiles, 0xA5, sizeof a.tiles);
-    a.result = zav_strip_read_v1(p->strip, p->strip_len, p->marks,
+    a.result = zav_strip_read_v1(p->lanes, p->strip, p->strip_len, p->marks,
                                  p->marks_len, a.tiles, sizeof a.tiles,
                                  scratch, sizeof scratch);
     return a;
@@ -286,12 +287,13 @@ static void check_readers(const struct picture *p, unsigned version)
    four bits can say. */
 static void test_readers(void)
 {
-    uint8_t data[REF_RECORD_MAX];
+    uint8_t data[REF_LAID_MAX];
     struct picture p;
     struct board b;
 
     group_begin(subject, "the two strip readers, on all sixteen versions");
     for (size_t k = 0; k < scaled(20000); k++) {
+        const size_t lanes = draw_lane_count();
         const unsigned version = draw_below(4) ? (unsigned)draw_between(1, 2)
                                                : (unsigned)draw_below(16);
 
@@ -303,7 +305,7 @@ static void test_readers(void)
         if (draw_below(2))
             data[draw_below(len)] ^= (uint8_t)(1 << draw_below(8));
         data[0] = (uint8_t)(version << 4 | (data[0] & 0xF));
-        picture_data(&p, data, ref_k_of(len));
+        picture_data(&p, lanes, data, ref_k_of(lanes, len));
         damage_lanes(&p, REF_REACH);
         check_readers(&p, version);
     }
@@ -317,10 +319,12 @@ static void test_elsewhere(void)
     struct picture p;
     struct board b;
 
-    group_begin(subject, "the two strip readers, refused with 1 to 6");
+    group_begin(subject, "the two strip readers, refused with 15 and 1 to 6");
     for (size_t k = 0; k < scaled(4000); k++) {
-        picture_any_level(&p, &b);
-        damage_lane(&p, draw_below(REF_LANES), 0, 6, draw_under_mark());
+        picture_any_level(&p, draw_lane_count(), &b);
+        damage_lane(&p, draw_below(p.lanes), 0, 6, draw_under_mark());
+        if (draw_below(4) == 0)
+            p.lanes++;
         if (draw_below(4) == 0)
             p.strip_len--;
         if (draw_below(4) == 0)
@@ -332,8 +336,9 @@ static void test_elsewhere(void)
 
         group_case();
         check_number(first.result, both.result, "version 1");
-        if (zav_code(both.result) == 0 || zav_code(both.result) > 6)
-            group_fail("it is not refused with 1 to 6");
+        if (zav_code(both.result) == 0 ||
+            (zav_code(both.result) > 6 && zav_code(both.result) != 15))
+            group_fail("it is not refused with 15 or 1 to 6");
     }
     group_end();
 }

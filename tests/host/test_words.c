@@ -14,6 +14,7 @@
 #include "reference.h"
 #include "test_header.h"
 #include "test_huge.h"
+#include "test_lanes.h"
 #include "test_pool.h"
 #include "test_record.h"
 #include "test_repair.h"
@@ -423,6 +424,7 @@ int main(int argc, char **argv)
     test_strip_entry();
     test_strip_damage();
     test_strip_wild();
+    test_lanes();
     test_stickers();
     test_pool();
     test_tiny();

@@ -17,14 +17,73 @@
 static const uint8_t worked_text[] = {'p', 'a', 'r', ' ', '5', '\n',
                                       '$', '+', '\n'};
 
+/* ---- the writers, all with lanes ---- */
+
+static uint64_t record_write(size_t lanes, size_t version, size_t width,
+                             size_t height, size_t par, const uint8_t *tiles,
+                             size_t tiles_len, uint8_t *record,
+                             size_t record_len)
+{
+    (void)lanes;
+    return zav_record_write(version, width, height, par, tiles, tiles_len,
+                            record, record_len);
+}
+
+static struct ref_result record_reference(size_t lanes, size_t version,
+                                          size_t width, size_t height,
+                                          size_t par, const uint8_t *tiles,
+                                          size_t tiles_len, uint8_t *record,
+                                          size_t record_len)
+{
+    (void)lanes;
+    return ref_record_write(version, width, height, par, tiles, tiles_len,
+                            record, record_len);
+}
+
+static uint64_t text_write(size_t lanes, size_t version, size_t width,
+                           size_t height, size_t par, const uint8_t *tiles,
+                           size_t tiles_len, uint8_t *text, size_t text_len)
+{
+    (void)lanes;
+    return zav_text_write(version, width, height, par, tiles, tiles_len, text,
+                          text_len);
+}
+
+static struct ref_result text_reference(size_t lanes, size_t version,
+                                        size_t width, size_t height,
+                                        size_t par, const uint8_t *tiles,
+                                        size_t tiles_len, uint8_t *text,
+                                        size_t text_len)
+{
+    (void)lanes;
+    return ref_text_write(version, width, height, par, tiles, tiles_len, text,
+                          text_len);
+}
+
 const struct writer writers[WRITERS] = {
-    [RECORD_WRITER] = {"record writer", zav_record_write, ref_record_write,
-                       2, REF_RECORD_MAX, worked_level.record, 4},
-    [STRIP_WRITER] = {"strip writer", zav_strip_write, ref_strip_write,
-                      2, REF_STRIP_MAX, worked_level.strip, 24},
-    [TEXT_WRITER] = {"text writer", zav_text_write, ref_text_write,
-                     1, REF_TEXT_MAX, worked_text, sizeof worked_text},
+    [RECORD_WRITER] = {"record writer", record_write, record_reference, 0, 2,
+                       REF_RECORD_MAX, worked_level.record, 4},
+    [TEXT_WRITER] = {"text writer", text_write, text_reference, 0, 1,
+                     REF_TEXT_MAX, worked_text, sizeof worked_text},
+    [STRIP_WRITER] =
+        {"strip writer, 2 lanes", zav_strip_write, ref_strip_write, 2, 2,
+         REF_STRIP_MAX, worked_strips[0].strip, 14},
+    {"strip writer, 4 lanes", zav_strip_write, ref_strip_write, 4, 2,
+     REF_STRIP_MAX, worked_level.strip, 24},
+    {"strip writer, 8 lanes", zav_strip_write, ref_strip_write, 8, 2,
+     REF_STRIP_MAX, worked_strips[2].strip, 48},
+    {"strip writer, 16 lanes", zav_strip_write, ref_strip_write, 16, 2,
+     REF_STRIP_MAX, worked_strips[3].strip, 96},
 };
+
+const struct writer *strip_writer(size_t lanes)
+{
+    const struct writer *w = &writers[STRIP_WRITER];
+
+    while (w->lanes != lanes)
+        w++;
+    return w;
+}
 
 struct ref_result check_writing(const struct writer *entry,
                                 const struct board *b, size_t room)
@@ -38,19 +97,21 @@ struct ref_result check_writing(const struct writer *entry,
     memcpy(expected, before, sizeof before);
 
     const struct ref_result r =
-        entry->reference(b->version, b->width, b->height, b->par, b->tiles,
-                         b->tiles_len, expected, room);
+        entry->reference(entry->lanes, b->version, b->width, b->height,
+                         b->par, b->tiles, b->tiles_len, expected, room);
 
     lend(&tiles, b->tiles, b->tiles_len);
     lend(&buffer, before, room);
     seal(&tiles);
     if (r.code != 0)
         seal(&buffer);
-    sprintf(what, "version %zu, %zu by %zu, par %zu, %zu tiles, buffer %zu",
-            b->version, b->width, b->height, b->par, b->tiles_len, room);
-    check_number(entry->run(b->version, b->width, b->height, b->par,
-                            tiles.bytes, b->tiles_len, buffer.bytes, room),
-                 packed(r), what);
+    sprintf(what,
+            "lanes %zu, version %zu, %zu by %zu, par %zu, %zu tiles, buffer "
+            "%zu", entry->lanes, b->version, b->width, b->height, b->par,
+            b->tiles_len, room);
+    check_number(entry->run(entry->lanes, b->version, b->width, b->height,
+                            b->par, tiles.bytes, b->tiles_len, buffer.bytes,
+                            room), packed(r), what);
     check_buffer(&buffer, expected, what);
     check_buffer(&tiles, b->tiles, what);
     return r;
@@ -212,9 +273,9 @@ static void test_nothing(const struct writer *entry)
         for (b.height = 0; b.height < 2; b.height++)
             check_written(entry, &b);
     group_case();
-    check_number(entry->run(0, 0, 0, 0, NULL, 0, NULL, 0),
-                 packed(entry->reference(0, 0, 0, 0, NULL, 0, NULL, 0)),
-                 "NULL");
+    check_number(entry->run(entry->lanes, 0, 0, 0, 0, NULL, 0, NULL, 0),
+                 packed(entry->reference(entry->lanes, 0, 0, 0, 0, NULL, 0,
+                                         NULL, 0)), "NULL");
     group_end();
 }
 
@@ -277,7 +338,7 @@ static void test_worked(const struct writer *entry)
                  "reference");
     check_number(packed(check_worked(entry, &worked_finished)),
                  packed(refused), "reference, finished");
-    entry->run(1, 2, 1, 5, tiles, 2, got, sizeof got);
+    entry->run(entry->lanes, 1, 2, 1, 5, tiles, 2, got, sizeof got);
     if (memcmp(got, entry->worked, entry->worked_len) != 0)
         group_fail("other bytes are written");
     group_end();

@@ -26,4 +26,14 @@ extern const struct worked worked_pit;
 /* FORMAT 12.5 and 12.6: no level, as its only crate is on its goal. */
 extern const struct worked worked_finished;
 
+/* FORMAT 12.18: the level of 12.13 in strips of 2, 4, 8 and 16 lanes. */
+struct worked_strip {
+    size_t lanes;
+    uint8_t strip[96];
+    size_t strip_len;
+};
+
+enum { WORKED_STRIPS = 4 };
+extern const struct worked_strip worked_strips[WORKED_STRIPS];
+
 #endif

@@ -8,6 +8,8 @@
 
 #include <zavullimen.h>
 
+enum { LANES = ZAV_STRIP_LANES };
+
 static void print(uint64_t result)
 {
     printf("0x%" PRIX64 "\n", result);
@@ -34,8 +36,8 @@ static void print_read(const uint8_t *strip, size_t len, const size_t *wrong,
     memcpy(read, strip, len);
     for (size_t i = 0; i < count; i++)
         read[wrong[i]] ^= 0xFF;
-    print(zav_strip_read(read, len, marks, marks_len, tiles, sizeof tiles,
-                         scratch, sizeof scratch));
+    print(zav_strip_read(LANES, read, len, marks, marks_len, tiles,
+                         sizeof tiles, scratch, sizeof scratch));
 }
 
 /* FORMAT 12.16, and what refuses it. */
@@ -45,17 +47,35 @@ static void print_versions(void)
     static const uint8_t none[ZAV_STRIP_MAX];
     static uint8_t tiles[ZAV_TILES_MAX], scratch[ZAV_SCRATCH_MIN];
     uint8_t bytes[ZAV_TEXT_MAX];
-    const uint64_t written = zav_strip_write(2, 2, 2, 5, pit, 4, bytes,
+    const uint64_t written = zav_strip_write(LANES, 2, 2, 2, 5, pit, 4, bytes,
                                              sizeof bytes);
     const size_t len = zav_length(written);
 
     print(written);
-    print(zav_strip_read(bytes, len, none, len, tiles, sizeof tiles, scratch,
-                         sizeof scratch));
-    print(zav_strip_read_v1(bytes, len, none, len, tiles, sizeof tiles,
+    print(zav_strip_read(LANES, bytes, len, none, len, tiles, sizeof tiles,
+                         scratch, sizeof scratch));
+    print(zav_strip_read_v1(LANES, bytes, len, none, len, tiles, sizeof tiles,
                             scratch, sizeof scratch));
-    print(zav_strip_write(1, 2, 2, 5, pit, 4, bytes, sizeof bytes));
+    print(zav_strip_write(LANES, 1, 2, 2, 5, pit, 4, bytes, sizeof bytes));
     print(zav_text_write(2, 2, 2, 5, pit, 4, bytes, sizeof bytes));
+}
+
+/* The level of FORMAT 12.13 with two lanes: read so, as four lanes, for which
+ * the strip is too short, and as three, which there are not. */
+static void print_lanes(const uint8_t *level)
+{
+    static const size_t named[] = {2, 4, 3};
+    static const uint8_t none[ZAV_STRIP_MAX];
+    static uint8_t tiles[ZAV_TILES_MAX], scratch[ZAV_SCRATCH_MIN];
+    uint8_t strip[ZAV_STRIP_MAX];
+    const uint64_t written = zav_strip_write(2, 1, 2, 1, 5, level, 2, strip,
+                                             sizeof strip);
+    const size_t len = zav_length(written);
+
+    print(written);
+    for (size_t i = 0; i < sizeof named / sizeof *named; i++)
+        print(zav_strip_read(named[i], strip, len, none, len, tiles,
+                             sizeof tiles, scratch, sizeof scratch));
 }
 
 /* FORMAT 15.10; and the same, with a mark buffer or a second strip of another
@@ -110,7 +130,8 @@ int main(void)
     print(zav_record_read(bytes, zav_length(written), tiles, sizeof tiles));
     print(written = zav_text_write(1, 2, 1, 5, level, 2, bytes, sizeof bytes));
     print(zav_text_read(bytes, zav_length(written), tiles, sizeof tiles));
-    print(written = zav_strip_write(1, 2, 1, 5, level, 2, bytes, sizeof bytes));
+    print(written = zav_strip_write(LANES, 1, 2, 1, 5, level, 2, bytes,
+                                    sizeof bytes));
 
     const size_t len = zav_length(written);
 
@@ -119,10 +140,12 @@ int main(void)
     print_read(bytes, len, front, 2, two, len);
     print_read(bytes, len, three, 3, none, len);
     print_read(bytes, len, front, 0, none, len - 1);
-    print(zav_strip_write(1, 2, 1, 5, finished, 2, bytes, sizeof bytes));
+    print(zav_strip_write(LANES, 1, 2, 1, 5, finished, 2, bytes,
+                          sizeof bytes));
     print_read(finished_strip, sizeof finished_strip, front, 0, none,
                sizeof finished_strip);
     print_versions();
+    print_lanes(level);
     print_pools(bytes);
     print_walk(tiles);
     return 0;

@@ -27,8 +27,8 @@ static uint64_t read_strip(void)
 {
     static uint8_t tiles[ZAV_TILES_MAX], scratch[ZAV_SCRATCH_MIN];
 
-    return zav_strip_read(strip, LEN, marks, LEN, tiles, sizeof tiles, scratch,
-                          sizeof scratch);
+    return zav_strip_read(ZAV_STRIP_LANES, strip, LEN, marks, LEN, tiles,
+                          sizeof tiles, scratch, sizeof scratch);
 }
 
 /* Cells 0, 1 and 7 are wrong, and the last two of them marked; cell 2 is marked
@@ -134,8 +134,8 @@ int main(void)
 {
     static const uint8_t level[] = {2, 6};
 
-    zav_strip_write(ZAV_LEVEL_V1, 2, 1, 5, level, sizeof level, written,
-                    sizeof written);
+    zav_strip_write(ZAV_STRIP_LANES, ZAV_LEVEL_V1, 2, 1, 5, level, sizeof level,
+                    written, sizeof written);
     memcpy(strip, written, LEN);
     if (!draws()) {
         puts("the mended strip or its counts are not as they ought to be");

@@ -1,6 +1,6 @@
 /*
- * test_program.c - runs the program that reads a strip, and compares its line
- * with what the second implementation says.
+ * test_program.c - runs the program that reads a strip of four lanes, and
+ * compares its line with what the second implementation says.
  *
  * Usage: test_program PROGRAM
  */
@@ -15,7 +15,8 @@
 #include "harness.h"
 #include "pictures.h"
 
-enum { INPUT_MOST = 2 * REF_STRIP_MAX, LINE_ROOM = 200 };
+/* FORMAT 8.20: twice the longest strip of four lanes. */
+enum { INPUT_MOST = 768, LINE_ROOM = 200 };
 
 static const char *program;
 
@@ -87,7 +88,7 @@ static struct ref_result expected(const uint8_t *bytes, size_t len)
     refused.code = 1;
     if (len > INPUT_MOST || len % 2 == 1)
         return refused;
-    return ref_strip_read(bytes, half, bytes + half, half, tiles,
+    return ref_strip_read(REF_LANES, bytes, half, bytes + half, half, tiles,
                           sizeof tiles, REF_SCRATCH_MIN);
 }
 
@@ -173,7 +174,7 @@ static void test_finished(void)
     group_begin("program", "finished boards, with damage within reach");
     for (size_t i = 0; i < scaled(100); i++) {
         draw_any_finished(&b);
-        picture_board(&p, &b);
+        picture_board(&p, REF_LANES, &b);
         for (size_t lane = 0; lane < REF_LANES; lane++)
             damage_lane(&p, lane, draw_below(3), draw_below(2), ANY_BYTE);
         check_line(&p, finished);
@@ -188,7 +189,7 @@ static void test_damage(void)
 
     group_begin("program", "levels, with damage within reach and beyond");
     for (size_t i = 0; i < scaled(400); i++) {
-        picture_any_level(&p, &b);
+        picture_any_level(&p, REF_LANES, &b);
         for (size_t lane = 0; lane < REF_LANES; lane++) {
             size_t marked = draw_below(6);
             damage_lane(&p, lane, draw_below((5 - marked) / 2 + 2),
@@ -216,16 +217,32 @@ static void test_records(void)
 {
     struct picture p;
     struct board b;
-    uint8_t data[REF_LANES * REF_K_MAX];
+    uint8_t data[REF_LAID_MAX];
 
     group_begin("program", "clean lanes that are no level's");
     for (size_t i = 0; i < scaled(200); i++) {
-        size_t k = draw_between(1, REF_K_MAX);
+        size_t k = draw_between(1, ref_k_max(REF_LANES));
         draw_any_level(&b);
         memset(data, 0, sizeof data);
         record_of(&b, data);
         data[draw_below(REF_LANES * k)] ^= (uint8_t)(1u << draw_below(8));
-        picture_data(&p, data, k);
+        picture_data(&p, REF_LANES, data, k);
+        check_strip(&p);
+    }
+    group_end();
+}
+
+/* The program is not told the lanes of a strip, and takes four. */
+static void test_other_lanes(void)
+{
+    struct picture p;
+    struct board b;
+
+    group_begin("program", "strips of 2, 8 and 16 lanes are read as of four");
+    for (size_t i = 0; i < scaled(150); i++) {
+        do
+            picture_any_level(&p, draw_lane_count(), &b);
+        while (p.lanes == REF_LANES);
         check_strip(&p);
     }
     group_end();
@@ -238,7 +255,7 @@ static void test_marks(void)
 
     group_begin("program", "marks that are neither 0 nor 1");
     for (size_t i = 0; i < scaled(100); i++) {
-        picture_any_level(&p, &b);
+        picture_any_level(&p, REF_LANES, &b);
         p.marks[draw_below(p.marks_len)] = (uint8_t)draw_between(2, 255);
         check_strip(&p);
     }
@@ -258,6 +275,7 @@ int main(int argc, char **argv)
     test_damage();
     test_lengths();
     test_records();
+    test_other_lanes();
     test_marks();
     return groups_finish();
 }

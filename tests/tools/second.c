@@ -1,10 +1,10 @@
 /*
  * second.c - what the tools must say, from the second implementation.
  *
- * second show FILE prints what zavshow must print, and ends as it must; second
- * text FILE the same for zavshow --text, with what must be said on standard
- * error, second strip FILE for zavshow --strip, and second make FILE for
- * zavmake.
+ * second show FILE prints what zavshow must print, with what must be said on
+ * standard error, and ends as it must; second text FILE the same for zavshow
+ * --text, second strip FILE for zavshow --strip, and second make FILE for
+ * zavmake. second scan FILE... prints what zavscan must print.
  * second pool FILE FILE... writes what zavpool must write, and says the counts
  * on standard error.
  * second list WIDTH HEIGHT prints what zavtiny must print, and with FOLDER puts
@@ -12,6 +12,9 @@
  * second draw FOLDER COUNT writes so many files for zavshow and zavscan to
  * read, second type FOLDER COUNT so many texts for zavmake, and second cover
  * FOLDER COUNT so many times three pictures of a strip for zavpool.
+ *
+ * second --lanes N before all that is for strips of N lanes, or of any: files
+ * are then drawn of all lane counts.
  */
 #include <stdio.h>
 #include <stdlib.h>
@@ -61,12 +64,78 @@ static int put(const char *folder, size_t number, const char *end,
     return fclose(file) != 0;
 }
 
-/* ---- show ---- */
+/* ---- lanes ---- */
+
+enum { ANY = 0, COUNTS = 4 };
+
+static const size_t counts[COUNTS] = {2, 4, 8, 16};
+
+/* What --lanes said, if it was there. */
+static size_t asked = REF_LANES;
+static bool named;
+
+/* What came of a file with each count that it was read with, in the order of
+   `counts`. With a level, `level` is the last of those that gave one. */
+struct reading {
+    bool tried[COUNTS];
+    struct ref_result with[COUNTS], level;
+    size_t tries, levels;
+    uint8_t tiles[REF_TILES_MAX];
+};
+
+static struct ref_result read_as(size_t lanes, const uint8_t *bytes, size_t len,
+                                 uint8_t *tiles)
+{
+    if (len % 2 != 0)
+        return (struct ref_result){.code = 1};
+    return ref_strip_read(lanes, bytes, len / 2, bytes + len / 2, len / 2,
+                          tiles, REF_TILES_MAX, REF_SCRATCH_MIN);
+}
+
+static bool fits(size_t lanes, size_t len)
+{
+    return len % 2 == 0 && ref_is_strip_len(lanes, len / 2);
+}
+
+static struct reading judge(const uint8_t *bytes, size_t len)
+{
+    struct reading r = {.tries = 0};
+
+    for (size_t i = 0; i < COUNTS; i++) {
+        r.tried[i] = asked == counts[i] ||
+                     (asked == ANY && fits(counts[i], len));
+        if (!r.tried[i])
+            continue;
+        r.tries++;
+        r.with[i] = read_as(counts[i], bytes, len, r.tiles);
+        if (r.with[i].code == 0) {
+            r.levels++;
+            r.level = r.with[i];
+        }
+    }
+    return r;
+}
+
+/* ---- refusals ---- */
+
+/* Refusal 1, by the lane count that was asked for. */
+static const char *const lengths[] = {
+    [ANY] = "not as long as a strip of 2, 4, 8 or 16 lanes followed by as many "
+            "marks",
+    [2] = "not a strip of 14 to 374 cells, a multiple of 2, followed by as "
+          "many marks",
+    [4] = "not a strip of 24 to 384 cells, a multiple of 4, followed by as "
+          "many marks",
+    [8] = "not a strip of 48 to 408 cells, a multiple of 8, followed by as "
+          "many marks",
+    [16] = "not a strip of 96 to 448 cells, a multiple of 16, followed by as "
+           "many marks",
+};
+
+enum { CODE_MAX = 10 };
 
 /* 2, 4 and 5 are for callers; no file brings them about. */
-static const char *const words[] = {
-    [1] = "not a strip of 24 to 384 cells, a multiple of 4, followed by as "
-          "many marks",
+static const char *const words[CODE_MAX + 1] = {
     [3] = "a mark is neither 0 nor 1",
     [6] = "too many cells are wrong or marked",
     [7] = "the version is not one that is taken here, or the width, height or "
@@ -77,6 +146,102 @@ static const char *const words[] = {
            "or no crate off its goal",
 };
 
+static const char *words_of(unsigned code)
+{
+    return code == 1 ? lengths[asked] : words[code];
+}
+
+/* The number by which zavscan sums a refused file up: the highest. */
+static unsigned code_of(const struct reading *r)
+{
+    unsigned code = 1;
+
+    for (size_t i = 0; i < COUNTS; i++)
+        if (r->tried[i] && r->with[i].code > code)
+            code = r->with[i].code;
+    return code;
+}
+
+/* More than one gave a level. */
+static void say_levels(FILE *out, const struct reading *r)
+{
+    size_t said = 0;
+
+    fputs("refused: a level", out);
+    for (size_t i = 0; i < COUNTS; i++)
+        if (r->tried[i] && r->with[i].code == 0)
+            fprintf(out, "%s with %zu lanes", said++ > 0 ? " and another" : "",
+                    counts[i]);
+    fputs("; the sender must say which, and --lanes names it\n", out);
+}
+
+/* For each number the counts that got it, then its words. */
+static void say_each(FILE *out, const struct reading *r)
+{
+    size_t said = 0;
+
+    for (unsigned code = 1; code <= CODE_MAX; code++) {
+        char who[100] = "";
+        size_t len = 0;
+
+        for (size_t i = 0; i < COUNTS; i++)
+            if (r->tried[i] && r->with[i].code == code)
+                len += (size_t)sprintf(who + len, "%s lane %u of %zu",
+                                       len > 0 ? "," : "", r->with[i].lane,
+                                       counts[i]);
+        if (len > 0)
+            fprintf(out, "%s %u%s: %s", said++ > 0 ? ";" : "refused", code,
+                    who, words_of(code));
+    }
+    fputs("\n", out);
+}
+
+/* The lane told of the one count that was read with, 0 if there was none. */
+static unsigned lane_of(const struct reading *r)
+{
+    unsigned lane = 0;
+
+    for (size_t i = 0; i < COUNTS; i++)
+        if (r->tried[i])
+            lane = r->with[i].lane;
+    return lane;
+}
+
+static void say_refused(FILE *out, const struct reading *r)
+{
+    if (r->levels > 1)
+        say_levels(out, r);
+    else if (asked == ANY && r->tries > 0)
+        say_each(out, r);
+    else
+        fprintf(out, "refused %u lane %u: %s\n", code_of(r), lane_of(r),
+                words_of(code_of(r)));
+}
+
+/* Whoever named no lanes is told that there are others, if they could help. */
+static bool needs_hint(const struct reading *r, size_t len)
+{
+    return !named && r->levels == 0 && code_of(r) != 3 &&
+           (fits(2, len) || fits(8, len) || fits(16, len));
+}
+
+static void say_hint(const char *tool, const char *whose)
+{
+    fprintf(stderr, "%s: this was with 4 lanes, and other counts fit %s: "
+            "--lanes names one, --lanes any tries each that fits\n", tool,
+            whose);
+}
+
+static int refuse(FILE *out, const struct reading *r, size_t len)
+{
+    say_refused(out, r);
+    if (needs_hint(r, len))
+        say_hint("zavshow", "its length");
+    return 1;
+}
+
+/* ---- show ---- */
+
 static char letter_of(uint8_t tile)
 {
     static const char pairs[] = "0 1#2$3.4*5@6+7^";
@@ -84,34 +249,31 @@ static char letter_of(uint8_t tile)
     return *(strchr(pairs, '0' + tile) + 1);
 }
 
-static struct ref_result judge(const uint8_t *bytes, size_t len, uint8_t *tiles)
+/* The end of a last line: the lanes, unless they were known to be four. */
+static void say_lanes(const struct reading *r)
 {
-    if (len % 2 != 0 || len > 2 * REF_STRIP_MAX)
-        return (struct ref_result){.code = 1};
-    return ref_strip_read(bytes, len / 2, bytes + len / 2, len / 2, tiles,
-                          REF_TILES_MAX, REF_SCRATCH_MIN);
-}
-
-static int refuse(FILE *out, struct ref_result r)
-{
-    fprintf(out, "refused %u lane %u: %s\n", r.code, r.lane, words[r.code]);
-    return 1;
+    if (asked == REF_LANES)
+        puts("");
+    else
+        printf(", lanes %u\n", r->level.lanes);
 }
 
 static int show(const char *path)
 {
-    uint8_t bytes[BYTES_ROOM], tiles[REF_TILES_MAX];
+    uint8_t bytes[BYTES_ROOM];
     const size_t len = take(path, bytes, sizeof bytes);
-    const struct ref_result r = judge(bytes, len, tiles);
+    const struct reading all = judge(bytes, len);
+    const struct ref_result r = all.level;
 
-    if (r.code != 0)
-        return refuse(stdout, r);
+    if (all.levels != 1)
+        return refuse(stdout, &all, len);
     for (size_t i = 0; i < (size_t)r.width * r.height; i++)
-        printf("%c%s", letter_of(tiles[i]),
+        printf("%c%s", letter_of(all.tiles[i]),
                (i + 1) % r.width == 0 ? "\n" : "");
     printf("version %u, width %u, height %u, par %u, mended %u, repainted %u, "
-           "wear %u\n", r.version, r.width, r.height, r.par, r.mended,
+           "wear %u", r.version, r.width, r.height, r.par, r.mended,
            r.repainted, r.wear);
+    say_lanes(&all);
     return 0;
 }
 
@@ -123,31 +285,35 @@ static const char signs[2][2] = {{' ', '*'}, {'=', '+'}};
    counted here, and not by the reader. */
 static int show_strip(const char *path)
 {
-    uint8_t bytes[BYTES_ROOM], tiles[REF_TILES_MAX], strip[REF_STRIP_MAX];
+    uint8_t bytes[BYTES_ROOM], strip[REF_STRIP_MAX];
     const size_t len = take(path, bytes, sizeof bytes), cells = len / 2;
-    const struct ref_result r = judge(bytes, len, tiles);
-    char rows[REF_LANES][16 * 4 + 1];
-    size_t counts[2][2] = {{0}};
+    const struct reading all = judge(bytes, len);
+    const struct ref_result r = all.level;
+    const size_t lanes = r.lanes, block = 16 * lanes;
+    char rows[REF_LANES_MAX][16 * 4 + 1];
+    size_t kinds[2][2] = {{0}};
 
-    if (r.code != 0)
-        return refuse(stdout, r);
-    ref_strip_write(r.version, r.width, r.height, r.par, tiles,
+    if (all.levels != 1)
+        return refuse(stdout, &all, len);
+    ref_strip_write(lanes, r.version, r.width, r.height, r.par, all.tiles,
                     (size_t)r.width * r.height, strip, sizeof strip);
     for (size_t p = 0; p < cells; p++) {
         const size_t marked = bytes[cells + p], wrong = strip[p] != bytes[p];
 
-        if (p % 64 == 0)
-            printf("cells %zu to %zu\n", p, p + 64 < cells ? p + 63
-                                                          : cells - 1);
-        sprintf(rows[p % 4] + p % 64 / 4 * 4, " %c%02X",
+        if (p % block == 0)
+            printf("cells %zu to %zu\n", p,
+                   p + block < cells ? p + block - 1 : cells - 1);
+        sprintf(rows[p % lanes] + p % block / lanes * 4, " %c%02X",
                 signs[marked][wrong], strip[p]);
-        counts[marked][wrong]++;
-        if (p % 64 == 63 || p + 1 == cells)
-            for (int lane = 0; lane < REF_LANES; lane++)
-                printf("lane %d%s\n", lane, rows[lane]);
+        kinds[marked][wrong]++;
+        if ((p + 1) % block == 0 || p + 1 == cells)
+            for (size_t lane = 0; lane < lanes; lane++)
+                printf(lanes == 16 ? "lane %2zu%s\n" : "lane %zu%s\n", lane,
+                       rows[lane]);
     }
-    printf("* mended %zu, + repainted %zu, = marked and right %zu\n",
-           counts[0][1], counts[1][1], counts[1][0]);
+    printf("* mended %zu, + repainted %zu, = marked and right %zu",
+           kinds[0][1], kinds[1][1], kinds[1][0]);
+    say_lanes(&all);
     return 0;
 }
 
@@ -162,23 +328,98 @@ static int refuse_text(unsigned code)
 
 static int show_text(const char *path)
 {
-    uint8_t bytes[BYTES_ROOM], tiles[REF_TILES_MAX], text[REF_TEXT_MAX];
+    uint8_t bytes[BYTES_ROOM], text[REF_TEXT_MAX];
     const size_t len = take(path, bytes, sizeof bytes);
-    const struct ref_result r = judge(bytes, len, tiles);
+    const struct reading all = judge(bytes, len);
+    const struct ref_result r = all.level;
 
-    if (r.code != 0) {
+    if (all.levels != 1) {
         fputs("zavshow: ", stderr);
-        return refuse(stderr, r);
+        return refuse(stderr, &all, len);
     }
 
     const struct ref_result written =
-        ref_text_write(r.version, r.width, r.height, r.par, tiles,
+        ref_text_write(r.version, r.width, r.height, r.par, all.tiles,
                        (size_t)r.width * r.height, text, sizeof text);
 
     if (written.code != 0)
         return refuse_text(written.code);
     fwrite(text, 1, written.length, stdout);
+    if (asked == ANY)
+        fprintf(stderr, "zavshow: read with %u lanes\n", r.lanes);
     return 0;
+}
+
+/* ---- scan ---- */
+
+struct sums {
+    size_t read, mended, second, with[COUNTS];
+    size_t refused, by[CODE_MAX + 1], several;
+    bool hint;
+};
+
+static void add_level(struct sums *s, const char *path, struct ref_result r)
+{
+    s->read++;
+    s->mended += r.mended != 0;
+    s->second += r.version == 2;
+    for (size_t i = 0; i < COUNTS; i++)
+        s->with[i] += counts[i] == r.lanes;
+    if (asked == ANY)
+        printf("%s: read with %u lanes\n", path, r.lanes);
+}
+
+static void add_refused(struct sums *s, const char *path,
+                        const struct reading *r)
+{
+    s->refused++;
+    *(r->levels > 1 ? &s->several : &s->by[code_of(r)]) += 1;
+    printf("%s: ", path);
+    say_refused(stdout, r);
+}
+
+static void add_file(struct sums *s, const char *path)
+{
+    uint8_t bytes[BYTES_ROOM];
+    const size_t len = take(path, bytes, sizeof bytes);
+    const struct reading r = judge(bytes, len);
+
+    if (r.levels == 1)
+        add_level(s, path, r.level);
+    else
+        add_refused(s, path, &r);
+    s->hint = s->hint || needs_hint(&r, len);
+}
+
+static void say_sums(const struct sums *s)
+{
+    printf("read %zu, of them mended %zu, of version 2 %zu\n", s->read,
+           s->mended, s->second);
+    for (size_t i = 0; i < COUNTS; i++)
+        if (asked == ANY && s->with[i] > 0)
+            printf("  %zu with %zu lanes\n", s->with[i], counts[i]);
+    printf("refused %zu\n", s->refused);
+    for (unsigned code = 1; code <= CODE_MAX; code++)
+        if (s->by[code] > 0)
+            printf("  %zu by refusal %u: %s\n", s->by[code], code,
+                   words_of(code));
+    if (s->several > 0)
+        printf("  %zu for several lane counts that give a level: the sender "
+               "must say which\n", s->several);
+}
+
+static int scan(int count, char **paths)
+{
+    struct sums s = {.read = 0};
+
+    for (int i = 0; i < count; i++)
+        add_file(&s, paths[i]);
+    printf("files %d\n", count);
+    say_sums(&s);
+    printf("unreadable 0\nfolders passed over 0\n");
+    if (s.hint)
+        say_hint("zavscan", "the length of what was refused");
+    return s.refused > 0;
 }
 
 /* ---- make ---- */
@@ -195,9 +436,10 @@ static int make(const char *path)
 
     if (r.code != 0)
         return 1;
-    fwrite(strip, 1, 2 * ref_strip_write(r.version, r.width, r.height, r.par,
-                                         tiles, (size_t)r.width * r.height,
-                                         strip, REF_STRIP_MAX).length, stdout);
+    fwrite(strip, 1, 2 * ref_strip_write(asked, r.version, r.width, r.height,
+                                         r.par, tiles,
+                                         (size_t)r.width * r.height, strip,
+                                         REF_STRIP_MAX).length, stdout);
     return 0;
 }
 
@@ -223,13 +465,14 @@ static int type_file(const char *folder, size_t number)
 /* A strip and its marks, one after the other. */
 struct file {
     uint8_t bytes[BYTES_ROOM];
-    size_t len;
+    size_t len, lanes;
 };
 
-/* Tiles that may make no level, in clean lanes. */
+/* Tiles that may make no level, in clean lanes; the record is filled up with
+   zero bytes. */
 static void draw_strip(struct file *f)
 {
-    uint8_t data[REF_RECORD_MAX] = {0};
+    uint8_t data[REF_RECORD_MAX + REF_LANES_MAX] = {0};
     struct board b;
 
     draw_any_board(&b);
@@ -241,16 +484,19 @@ static void draw_strip(struct file *f)
     if (draw_below(8) == 0)
         data[draw_below(record_len)] ^= draw_nonzero();
     memset(f->bytes, 0, sizeof f->bytes);
-    f->len = 2 * ref_lay_strip(data, ref_k_of(record_len), f->bytes);
+    f->lanes = asked == ANY ? counts[draw_below(COUNTS)] : asked;
+    f->len = 2 * ref_lay_strip(f->lanes, data, ref_k_of(f->lanes, record_len),
+                               f->bytes);
 }
 
+/* The more lanes, the more damage they bear. */
 static void damage(struct file *f)
 {
-    const size_t cells = f->len / 2;
+    const size_t cells = f->len / 2, most = f->lanes + 3;
 
-    for (size_t wrong = draw_below(7); wrong > 0; wrong--)
+    for (size_t wrong = draw_below(most); wrong > 0; wrong--)
         f->bytes[draw_below(cells)] = draw_byte();
-    for (size_t marked = draw_below(7); marked > 0; marked--) {
+    for (size_t marked = draw_below(most); marked > 0; marked--) {
         const size_t cell = draw_below(cells);
 
         f->bytes[cells + cell] = 1;
@@ -285,10 +531,8 @@ static struct ref_picture picture_of(const struct file *f)
 /* A picture; that it gives a level by itself is said. */
 static void take_picture(struct file *f, const char *path)
 {
-    uint8_t tiles[REF_TILES_MAX];
-
     f->len = take(path, f->bytes, sizeof f->bytes);
-    if (judge(f->bytes, f->len, tiles).code == 0)
+    if (judge(f->bytes, f->len).levels == 1)
         fprintf(stderr, "%s: gives a level by itself\n", path);
 }
 
@@ -372,7 +616,7 @@ static void list_strip(size_t width, size_t height, const uint8_t *tiles,
 {
     uint8_t cells[BYTES_ROOM] = {0};
     char path[4096];
-    const size_t len = ref_strip_write(1, width, height, 0, tiles,
+    const size_t len = ref_strip_write(asked, 1, width, height, 0, tiles,
                                        width * height, cells,
                                        REF_STRIP_MAX).length;
 
@@ -400,6 +644,13 @@ static int list(size_t width, size_t height, const char *folder)
     return 0;
 }
 
+/* The word after --lanes, which is a count or any. */
+static void ask(const char *word)
+{
+    named = true;
+    asked = strcmp(word, "any") == 0 ? ANY : strtoul(word, NULL, 10);
+}
+
 int main(int argc, char **argv)
 {
     static const struct {
@@ -413,6 +664,11 @@ int main(int argc, char **argv)
     } drawings[] = {{"draw", draw_file}, {"type", type_file},
                     {"cover", cover_strip}};
 
+    if (argc > 2 && strcmp(argv[1], "--lanes") == 0) {
+        ask(argv[2]);
+        argc -= 2;
+        argv += 2;
+    }
     for (size_t i = 0; i < 4; i++)
         if (argc == 3 && strcmp(argv[1], sayings[i].name) == 0)
             return sayings[i].say(argv[2]);
@@ -421,6 +677,8 @@ int main(int argc, char **argv)
                     argv[4]);
     if (argc > 3 && strcmp(argv[1], "pool") == 0)
         return pool(argc - 2, argv + 2);
+    if (argc > 2 && strcmp(argv[1], "scan") == 0)
+        return scan(argc - 2, argv + 2);
     for (size_t i = 0; i < 3; i++)
         if (argc == 4 && strcmp(argv[1], drawings[i].name) == 0)
             return draw_files(argv[2], strtoul(argv[3], NULL, 10),

@@ -1,7 +1,7 @@
 -- Lanes and cells: cell p is byte p div R of lane p mod R.
 use mathlib.Core.Path.{_≡_, refl, sym, ap, _∙_}
 use Prim.Native.Nat.{ℕ, zero, suc, _+_, _*_, _/_, _%_, _≤_, _<_}
-use native.Mathlib.Nat.{div-add-mod, mod-lt, mul-div-le, mul-le-mul-left, mul-suc, mul-div-right, mul-add-div, div-eq-of-lt, div-lt-iff-lt-mul, mul-comm}
+use native.Mathlib.Nat.{div-add-mod, mod-lt, mul-div-le, mul-le-mul-left, mul-suc, mul-add-mod-self-left, mod-eq-of-lt, mul-div-right, mul-add-div, div-eq-of-lt, div-lt-iff-lt-mul, mul-comm}
 use native.Mathlib.Omega.{arith}
 use mathlib.Core.List.{List, [], _∷_}
 use lib.ListN.{length, getD}
@@ -32,6 +32,12 @@ module _ (R : ℕ) (some : 0 < R) where
   -- cell i of lane j is cell R i + j
   pub place-of : (i j : ℕ) → j < R → (R * i + j) / R ≡ i
   place-of i j h = mul-add-div some i j ∙ ap (λ (x : ℕ). i + x) (div-eq-of-lt h) ∙ omega arith
+
+  pub lane-of : (i j : ℕ) → j < R → (R * i + j) % R ≡ j
+  lane-of i j h = mul-add-mod-self-left R i j ∙ mod-eq-of-lt h
+
+  pub cell-of : (i j : ℕ) → j < R → (k : ℕ) → i < k → R * i + j < R * k
+  cell-of i j h k l = omega (arith, mul-le-mul-left R l, mul-suc R i)
 
   pub bytes-lane : (O : Ops) (j : ℕ) (s : List ℕ) → j < R → Cells O s → Cells O (lane R j s)
   bytes-lane O j s h b = record {

@@ -10,7 +10,7 @@ use Rattle.code.specs.declared.lane.LaneRepair.{LaneRepair}
 
 -- FORMAT 9.1: how many bytes a lane has at most
 abbrev pub laneMost : ℕ
-laneMost = 96
+laneMost = 187
 
 -- FORMAT 8.6: the word that a lane holds
 abbrev pub wordOf : Lane → List ℕ

@@ -3,7 +3,7 @@ ghost use Rattle.code.specs.Lane.{LaneRepairsAs};
 use super::repair::Repaired;
 
 // How many bytes a lane has at most.
-pub const LANE_MOST: usize = 96;
+pub const LANE_MOST: usize = 187;
 
 // A lane, or its marks, with its length.
 pub struct Lane {

@@ -63,25 +63,36 @@ fn check_byte(c: u64, i: usize) -> u8
     remainder::low(c >> (32 - 8 * i))
 }
 
-// The packed check bytes of four lanes of k cells, as five columns after them.
-fn place_checks(x: &mut [u8], k: usize, c: [u64; 4])
-    requires { ⌜ (k ≤ dataMost) × (4 * (k + 5) ≤ length (now x)) ⌝ }
-    ensures { λ _. ⌜ Placed (4 * k) (4 * (k + 5)) (checkCell 4 k c) (now (x .entry)) (now (x .exit)) ⌝ }
+// Check byte i of each lane, as a column of cells: the i-th after k columns.
+fn place_column(x: &mut [u8], lanes: usize, k: usize, c: &[u64; LANES], i: usize)
+    requires { ⌜ Within 1 16 lanes × (k ≤ dataMost) × (i < 5) × (lanes * (k + 5) ≤ length (now x)) ⌝ }
+    ensures { λ _. ⌜ Placed (lanes * (k + i)) (lanes * (k + i + 1)) (checkCell lanes k (now (c .entry))) (now (x .entry)) (now (x .exit)) ⌝ }
 {
-    let from = 4 * k;
-    let to = from + 20;
-    let mut p = from;
-    while p < to {
-        x[p] = check_byte(c[p % 4], (p - from) / 4);
-        p += 1;
+    let from = lanes * (k + i);
+    let mut j: usize = 0;
+    while j < lanes {
+        x[from + j] = check_byte(c[j], i);
+        j += 1;
     }
 }
 
-// The check cells of four lanes of k data cells, which stand in front.
-pub fn put_checks(x: &mut [u8], k: usize)
-    requires { ⌜ (k ≤ dataMost) × (4 * (k + 5) ≤ length (now x)) ⌝ }
-    ensures { λ _. ⌜ ChecksPut gf256 4 k (now (x .entry)) (now (x .exit)) ⌝ }
+// The packed check bytes of the lanes of k cells, as five columns after them.
+fn place_checks(x: &mut [u8], lanes: usize, k: usize, c: &[u64; LANES])
+    requires { ⌜ Within 1 16 lanes × (k ≤ dataMost) × (lanes * (k + 5) ≤ length (now x)) ⌝ }
+    ensures { λ _. ⌜ Placed (lanes * k) (lanes * (k + 5)) (checkCell lanes k (now (c .entry))) (now (x .entry)) (now (x .exit)) ⌝ }
 {
-    let c = remainder::lane_checks_of(&x[0..4 * k]);
-    place_checks(x, k, c);
+    let mut i: usize = 0;
+    while i < 5 {
+        place_column(x, lanes, k, c, i);
+        i += 1;
+    }
+}
+
+// The check cells of lanes of k data cells, which stand in front.
+pub fn put_checks(x: &mut [u8], lanes: usize, k: usize)
+    requires { ⌜ Within 1 16 lanes × (k ≤ dataMost) × (lanes * (k + 5) ≤ length (now x)) ⌝ }
+    ensures { λ _. ⌜ ChecksPut gf256 lanes k (now (x .entry)) (now (x .exit)) ⌝ }
+{
+    let c = remainder::lane_checks_of(&x[0..lanes * k], lanes);
+    place_checks(x, lanes, k, &c);
 }

@@ -35,36 +35,36 @@ slice-holds b o x n e h p =
 
 -- ---- answers
 
-none : (marks old : List ℕ) (c r : ℕ) → (c ≡ 0 → ⊥) → First (repairing gf256 96 (length old) (length marks) marks old) c
-    → r ≡ packedRepair (repairedNumbers (repaired.Refused c)) → RepairExport 96 marks old old r
+none : (marks old : List ℕ) (c r : ℕ) → (c ≡ 0 → ⊥) → First (repairing gf256 187 (length old) (length marks) marks old) c
+    → r ≡ packedRepair (repairedNumbers (repaired.Refused c)) → RepairExport 187 marks old old r
 none marks old c r n f e = record {
   answer = repaired.Refused c;
-  kept = refuses gf256 96 (length old) (length marks) marks old c n f;
+  kept = refuses gf256 187 (length old) (length marks) marks old c n f;
   is = e;
 }
 
-pub export-1 : (marks old : List ℕ) (r : ℕ) → (Within 6 96 (length old) → ⊥) → r ≡ packedRepair (repairedNumbers (repaired.Refused 1))
-    → RepairExport 96 marks old old r
-export-1 marks old r n e = none marks old 1 r (λ z. omega arith) (stops 0 (repairing gf256 96 (length old) (length marks) marks old) 1 (n, refl)) e
+pub export-1 : (marks old : List ℕ) (r : ℕ) → (Within 6 187 (length old) → ⊥) → r ≡ packedRepair (repairedNumbers (repaired.Refused 1))
+    → RepairExport 187 marks old old r
+export-1 marks old r n e = none marks old 1 r (λ z. omega arith) (stops 0 (repairing gf256 187 (length old) (length marks) marks old) 1 (n, refl)) e
 
-pub export-2 : (marks old : List ℕ) (r : ℕ) → 6 ≤ length old → length old ≤ 96 → (length marks ≡ length old → ⊥)
-    → r ≡ packedRepair (repairedNumbers (repaired.Refused 2)) → RepairExport 96 marks old old r
+pub export-2 : (marks old : List ℕ) (r : ℕ) → 6 ≤ length old → length old ≤ 187 → (length marks ≡ length old → ⊥)
+    → r ≡ packedRepair (repairedNumbers (repaired.Refused 2)) → RepairExport 187 marks old old r
 export-2 marks old r a b n e =
-    none marks old 2 r (λ z. omega arith) (stops 1 (repairing gf256 96 (length old) (length marks) marks old) 2 (record { from = a; to = b }, (n, refl))) e
+    none marks old 2 r (λ z. omega arith) (stops 1 (repairing gf256 187 (length old) (length marks) marks old) 2 (record { from = a; to = b }, (n, refl))) e
 
 -- what the lane's repair says of the lane, said of the slice
 module _ (marks old : List ℕ) (l m : Lane) (x : LaneRepair) (nl : l .len ≡ length old)
     (wl : wordOf l ≡ old) (nm : m .len ≡ length marks) (wm : wordOf m ≡ marks) (R : LaneRepairsAs l m x) where
-  as-slice : RepairsAs gf256 96 marks old (wordOf (x .lane)) (x .answer)
+  as-slice : RepairsAs gf256 187 marks old (wordOf (x .lane)) (x .answer)
   as-slice = rw (← nl, ← nm, ← wl, ← wm) (R .repairs)
 
   pub export-mended : (new : List ℕ) (e d r : ℕ) → x .answer ≡ repaired.Mended e d → new ≡ wordOf (x .lane)
-      → r ≡ packedRepair (repairedNumbers (repaired.Mended e d)) → RepairExport 96 marks old new r
+      → r ≡ packedRepair (repairedNumbers (repaired.Mended e d)) → RepairExport 187 marks old new r
   export-mended new e d r is en p = record { answer = x .answer; kept = rw en as-slice; is = rw is p }
 
   -- with a refusal the slice keeps its bytes, which are the lane's
-  pub export-refused : (c r : ℕ) → x .answer ≡ repaired.Refused c → r ≡ packedRepair (repairedNumbers (repaired.Refused c)) → RepairExport 96 marks old old r
-  export-refused c r is p = record { answer = x .answer; kept = subst (λ (v : List ℕ). RepairsAs gf256 96 marks old v (x .answer)) same as-slice; is = rw is p }
+  pub export-refused : (c r : ℕ) → x .answer ≡ repaired.Refused c → r ≡ packedRepair (repairedNumbers (repaired.Refused c)) → RepairExport 187 marks old old r
+  export-refused c r is p = record { answer = x .answer; kept = subst (λ (v : List ℕ). RepairsAs gf256 187 marks old v (x .answer)) same as-slice; is = rw is p }
     where
       refusal : repairedNumbers (x .answer) .code ≡ 0 → ⊥
       refusal z = subst RepairTold is (as-slice .told) (sym (ap (λ (a : Repaired). repairedNumbers a .code) is) ∙ z)

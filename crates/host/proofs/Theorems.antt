@@ -1,7 +1,7 @@
 -- What C gets: each packed number, taken apart as the header does, gives the numbers of the answer. Nothing is lost.
 use mathlib.Core.Path.{_≡_, refl, ap, _∙_}
-use mathlib.Core.Logic.{_≢_}
-use mathlib.Core.List.{List, _++_}
+use mathlib.Core.Logic.{_≢_, inl, inr}
+use mathlib.Core.List.{List, _∷_, _++_}
 use Prim.Native.Nat.{ℕ, _+_, _<_}
 use native.Mathlib.Decide.{ℕ-discrete}
 use native.Mathlib.Omega.{arith}
@@ -17,10 +17,13 @@ use Rattle.code.specs.declared.word.Tested.{Tested}
 use Rattle.code.specs.declared.word.Tested.the-variants as tested
 use Rattle.code.proofs.Answers.{written-zero, repaired-zero}
 use Rattle.code.proofs.Theorems.{repainted-few}
-use Rattle.level.specs.Sizes.{stripMost}
+use Rattle.level.specs.Sizes.{stripMost, scratchLeast}
 use Rattle.level.specs.Level.{Level, IsLevel}
-use Rattle.level.specs.Reading.{ReadNumbers, readingRecord, entering, mending, returned}
-use Rattle.level.specs.Writing.{writingUpto, writingLevel}
+use Rattle.level.specs.Reading.{ReadNumbers, readingRecord, enteringWith, naming, entering, mending, returned}
+use Rattle.level.specs.Writing.{writingUpto, writingLevel, writingStrip}
+use Rattle.level.specs.Record.{recordLength}
+use Rattle.level.specs.Strip.{LaneCount}
+use Rattle.level.proofs.Lengths.{lanes-within, strip-short}
 use Rattle.record.specs.Reading.{recordNumbers}
 use Rattle.record.specs.declared.read.RecordRead.{RecordRead}
 use Rattle.record.specs.declared.read.RecordRead.the-variants as recordRead
@@ -105,11 +108,18 @@ text-write-told l old new r E =
     ∙ back-length (writtenNumbers (E .answer)) (written-room (writingUpto 1 1001 l (length old)) (E .answer) tt (E .kept .code)
     (λ z. omega (arith, E .kept .value z, text-short l (written-text-level l old new (E .answer) (E .kept) z .0) (written-text-level l old new (E .answer) (E .kept) z .1))))
 
-pub strip-write-told : (l : Level) (old new : List ℕ) (r : ℕ) (E : StripExport 4 l old new r) → unpackedLength r ≡ writtenNumbers (E .answer)
-strip-write-told l old new r E =
+-- where anything but 15 is told, the lane count is one that can be named
+named-first : (R : ℕ) (rs : List Rule) (c : ℕ) → c ≢ 15 → First (naming R ∷ rs) c → LaneCount R
+named-first R rs c n (inl p) = absurd (n (p .1))
+named-first R rs c n (inr p) = p .0
+
+pub strip-write-told : (R : ℕ) (l : Level) (old new : List ℕ) (r : ℕ) (E : StripExport R l old new r) → unpackedLength r ≡ writtenNumbers (E .answer)
+strip-write-told R l old new r E =
     ap unpackedLength (E .is)
-    ∙ back-length (writtenNumbers (E .answer)) (written-room (writingLevel stripMost l (length old)) (E .answer) tt (E .kept .code)
-    (λ z. omega (arith, E .kept .value z, record-fits l (written-strip-level 4 (omega arith) l old new (E .answer) (E .kept) z))))
+    ∙ back-length (writtenNumbers (E .answer)) (written-room (writingStrip R l (length old)) (E .answer) tt (E .kept .code) (λ z.
+    let n = named-first R (writingLevel stripMost l (length old)) (writtenNumbers (E .answer) .code) (λ e. omega (arith, z, e)) (E .kept .code) in
+    let f = record-fits l (written-strip-level R n l old new (E .answer) (E .kept) z) in
+    omega (arith, E .kept .value z, strip-short R n (recordLength (l .width) (l .height)) (f .0) (f .1))))
 
 -- ---- levels read
 
@@ -128,6 +138,7 @@ level-room (recordRead.Level v w h p) new f is =
       mended = omega arith;
       repainted = omega arith;
       wear = omega arith;
+      lanes = omega arith;
     }
 level-room (recordRead.Refused c) new f is = record {
   code = f;
@@ -139,6 +150,7 @@ level-room (recordRead.Refused c) new f is = record {
   mended = omega arith;
   repainted = omega arith;
   wear = omega arith;
+  lanes = omega arith;
 }
 
 pub record-read-told : (upto : ℕ) (bs old new : List ℕ) (r : ℕ) (E : RecordReadExport upto bs old new r) → unpackedRead r ≡ recordNumbers (E .answer)
@@ -153,32 +165,28 @@ text-read-told text old new r E =
     ∙ back-read (recordNumbers (E .answer))
     (level-room (E .answer) new (few (readingText text (length old)) (recordNumbers (E .answer) .code) tt (E .kept .code)) (E .kept .is-level))
 
-module _ (upto : ℕ) (s marks tiles tiles' scratch scratch' : List ℕ) (a : Reading) (A : StripReadsAs upto 4 s marks tiles tiles' scratch scratch' a) where
+module _ (upto R : ℕ) (s marks tiles tiles' scratch scratch' : List ℕ) (a : Reading) (A : StripReadsAs upto R s marks tiles tiles' scratch scratch' a) where
   code-small : stripNumbers a .code < 32
-  code-small = few (entering 4 s marks (length tiles) (length scratch) ++ mending upto gf256 4 s marks) (stripNumbers a .code) tt (A .code)
+  code-small = few (entering R s marks (length tiles) (length scratch) ++ mending gf256 R upto s marks) (stripNumbers a .code) tt (A .code)
+
+  named : stripNumbers a .code ≢ 15 → LaneCount R
+  named n = named-first R (enteringWith scratchLeast R s marks (length tiles) (length scratch) ++ mending gf256 R upto s marks) (stripNumbers a .code) n (A .code)
 
   lane-small : stripNumbers a .lane < 16
   lane-small = go (ℕ-discrete (stripNumbers a .code) 6)
     where
       go : Dec (stripNumbers a .code ≡ 6) → stripNumbers a .lane < 16
-      go (yes z) = omega (arith, A .lane z .lane-below)
+      go (yes z) = omega (arith, A .lane z .lane-below, lanes-within R (named (λ e. omega (arith, z, e))) .to)
       go (no k) = omega (arith, A .other-lane k)
 
   strip-room : ReadRoom (stripNumbers a)
   strip-room = either (ReadRoom (stripNumbers a)) (stripNumbers a .code) read refused
     where
-      few-mended : stripNumbers a .mended < 64
-      few-mended = omega (arith, mended-most 4 (omega arith) upto s marks tiles tiles' scratch scratch' a A)
-
-      few-repainted : stripNumbers a .repainted < 128
-      few-repainted = omega (arith, repainted-most 4 (omega arith) upto s marks tiles tiles' scratch scratch' a A)
-
-      few-worn : stripNumbers a .wear < 64
-      few-worn = omega (arith, wear-most 4 (omega arith) upto s marks tiles tiles' scratch scratch' a A)
-
       read : stripNumbers a .code ≡ 0 → ReadRoom (stripNumbers a)
       read z =
           let l = A .level z .reached .is-level .ranged in
+          let n = named (λ e. omega (arith, z, e)) in
+          let most = lanes-within R n .to in
           record {
             code = code-small;
             lane = lane-small;
@@ -186,9 +194,10 @@ module _ (upto : ℕ) (s marks tiles tiles' scratch scratch' : List ℕ) (a : Re
             width = omega (arith, l .sized .not-wider);
             height = omega (arith, l .sized .not-higher);
             par = omega (arith, l .par-small);
-            mended = few-mended;
-            repainted = few-repainted;
-            wear = few-worn;
+            mended = omega (arith, most, mended-most R n upto s marks tiles tiles' scratch scratch' a A);
+            repainted = omega (arith, most, repainted-most R n upto s marks tiles tiles' scratch scratch' a A);
+            wear = omega (arith, wear-most R n upto s marks tiles tiles' scratch scratch' a A);
+            lanes = omega (arith, most, A .level z .lanes-is);
           }
 
       refused : stripNumbers a .code ≢ 0 → ReadRoom (stripNumbers a)
@@ -201,15 +210,16 @@ module _ (upto : ℕ) (s marks tiles tiles' scratch scratch' : List ℕ) (a : Re
             width = omega (arith, ap (λ (n : ReadNumbers). n .width) z);
             height = omega (arith, ap (λ (n : ReadNumbers). n .height) z);
             par = omega (arith, ap (λ (n : ReadNumbers). n .par) z);
-            mended = few-mended;
-            repainted = few-repainted;
-            wear = few-worn;
+            mended = omega (arith, ap (λ (n : ReadNumbers). n .mended) z);
+            repainted = omega (arith, ap (λ (n : ReadNumbers). n .repainted) z);
+            wear = omega (arith, ap (λ (n : ReadNumbers). n .wear) z);
+            lanes = omega (arith, ap (λ (n : ReadNumbers). n .lanes) z);
           }
 
-pub strip-read-told : (upto : ℕ) (s marks tiles tiles' scratch scratch' : List ℕ) (r : ℕ) (E : StripReadExport upto 4 s marks tiles tiles' scratch scratch' r)
+pub strip-read-told : (upto R : ℕ) (s marks tiles tiles' scratch scratch' : List ℕ) (r : ℕ) (E : StripReadExport upto R s marks tiles tiles' scratch scratch' r)
     → unpackedRead r ≡ stripNumbers (E .answer)
-strip-read-told upto s marks tiles tiles' scratch scratch' r E =
-    ap unpackedRead (E .is) ∙ back-read (stripNumbers (E .answer)) (strip-room upto s marks tiles tiles' scratch scratch' (E .answer) (E .kept))
+strip-read-told upto R s marks tiles tiles' scratch scratch' r E =
+    ap unpackedRead (E .is) ∙ back-read (stripNumbers (E .answer)) (strip-room upto R s marks tiles tiles' scratch scratch' (E .answer) (E .kept))
 
 -- ---- pictures pooled
 

@@ -65,7 +65,7 @@ fn put_back(lane: Lane, s: &mut [u8])
     rules::copy(&bytes[0..n], s);
 }
 
-// Repairs a lane of at most 96 bytes in place.
+// Repairs a lane of at most 187 bytes in place.
 #[no_mangle]
 pub extern "C" fn zav_lane_repair(lane: &mut [u8], marks: &[u8]) -> u64
     ensures { λ r. ⌜ RepairExport laneMost (now (marks .entry)) (now (lane .entry)) (now (lane .exit)) r ⌝ }
@@ -181,9 +181,10 @@ pub extern "C" fn zav_text_read(text: &[u8], tiles: &mut [u8]) -> u64
     packing::pack_level(text::read::read(text, tiles))
 }
 
-// Writes the strip of a level.
+// Writes the strip of a level, with the lanes that are named.
 #[no_mangle]
 pub extern "C" fn zav_strip_write(
+    lanes: usize,
     version: usize,
     width: usize,
     height: usize,
@@ -191,35 +192,37 @@ pub extern "C" fn zav_strip_write(
     tiles: &[u8],
     strip: &mut [u8],
 ) -> u64
-    ensures { λ r. ⌜ StripExport 4 (lent version width height par (now (tiles .entry))) (now (strip .entry)) (now (strip .exit)) r ⌝ }
+    ensures { λ r. ⌜ StripExport lanes (lent version width height par (now (tiles .entry))) (now (strip .entry)) (now (strip .exit)) r ⌝ }
 {
-    packing::pack_written(strip::write::write(version, width, height, par, tiles, strip))
+    packing::pack_written(strip::write::write(lanes, version, width, height, par, tiles, strip))
 }
 
 // Reads a strip.
 #[no_mangle]
 pub extern "C" fn zav_strip_read(
+    lanes: usize,
     strip: &[u8],
     marks: &[u8],
     tiles: &mut [u8],
     scratch: &mut [u8],
 ) -> u64
-    ensures { λ r. ⌜ StripReadExport newest 4 (now (strip .entry)) (now (marks .entry)) (now (tiles .entry)) (now (tiles .exit)) (now (scratch .entry)) (now (scratch .exit)) r ⌝ }
+    ensures { λ r. ⌜ StripReadExport newest lanes (now (strip .entry)) (now (marks .entry)) (now (tiles .entry)) (now (tiles .exit)) (now (scratch .entry)) (now (scratch .exit)) r ⌝ }
 {
-    packing::pack_reading(strip::read::read(strip, marks, tiles, scratch))
+    packing::pack_reading(strip::read::read(lanes, strip, marks, tiles, scratch))
 }
 
 // Reads a strip of version 1.
 #[no_mangle]
 pub extern "C" fn zav_strip_read_v1(
+    lanes: usize,
     strip: &[u8],
     marks: &[u8],
     tiles: &mut [u8],
     scratch: &mut [u8],
 ) -> u64
-    ensures { λ r. ⌜ StripReadExport 1 4 (now (strip .entry)) (now (marks .entry)) (now (tiles .entry)) (now (tiles .exit)) (now (scratch .entry)) (now (scratch .exit)) r ⌝ }
+    ensures { λ r. ⌜ StripReadExport 1 lanes (now (strip .entry)) (now (marks .entry)) (now (tiles .entry)) (now (tiles .exit)) (now (scratch .entry)) (now (scratch .exit)) r ⌝ }
 {
-    packing::pack_reading(strip::read::read_v1(strip, marks, tiles, scratch))
+    packing::pack_reading(strip::read::read_v1(lanes, strip, marks, tiles, scratch))
 }
 
 // Pools two pictures of a strip.

@@ -22,7 +22,7 @@ use Rattle.marks.specs.Marks.{ListedIn}
 use Rattle.marks.specs.declared.Listed as declared
 use Rattle.marks.specs.declared.Counts.{Counts}
 use Rattle.marks.proofs.Counting.{counts-are}
-use Rattle.code.specs.Lane.{wordOf}
+use Rattle.code.specs.Lane.{laneMost, wordOf}
 use Rattle.code.specs.declared.lane.Lane.{Lane}
 use Rattle.dealt.specs.Lanes.{LaneRemains, SearchedBy}
 use Rattle.dealt.proofs.Searching.{lane-searched}
@@ -38,7 +38,7 @@ module _ (R : ℕ) (s marks : List ℕ) (E : Entered R s marks) where
   columns-are : length s / R ≡ E .legal .k + 5
   columns-are = ap (λ (n : ℕ). n / R) (E .legal .cells) ∙ mul-div-right (E .legal .k + 5) some
 
-  pub few-columns : length s / R ≤ 96
+  pub few-columns : length s / R ≤ laneMost
   few-columns = omega (arith, columns-are, E .legal .to, E .short)
 
   pub full : length s ≡ R * (length s / R)

@@ -12,6 +12,7 @@ use Rattle.rules.specs.Refusal.{Within}
 use Rattle.gf256.specs.Gf256.{gf256}
 use Rattle.level.specs.Sizes.{recordMost}
 use Rattle.level.specs.Strip.{columns, Legal, wrongIn, mendedOf, repaintedIn, repaintedOf, Mends, Mendable, Lowest}
+use Rattle.code.specs.Lane.{laneMost}
 use Rattle.patches.specs.Patched.{patched}
 use Rattle.dealt.specs.Lanes.{LaneRemains}
 use Rattle.lanes.specs.declared.Mending.{Mending}
@@ -25,7 +26,7 @@ module _ (R : ℕ) where
   -- what mending goes on with: a legal strip with its marks, of lanes that can travel by value
   pub record Entered (s marks : List ℕ) : Type 0 where
     pub lanes : Within 1 16 R
-    pub short : columns R recordMost + 5 ≤ 96
+    pub short : columns R recordMost + 5 ≤ laneMost
     pub legal : Legal R (length s)
     pub matched : length marks ≡ length s
     pub good : GoodMarks marks

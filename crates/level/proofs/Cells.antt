@@ -27,7 +27,7 @@ use Rattle.level.specs.Level.{Level, IsLevel, Known, codeMost, Ranged, C
 use Rattle.level.specs.Record.{bitAt, fieldAt, IsRecord}
 use Rattle.level.specs.Strip.{columns, IsStrip}
 use Rattle.level.specs.Reading.{readingRecord}
-use Rattle.level.specs.Cells.{Holds, noLevel, All, board, finished, finishedRecord, finishedStrip, unfinished, unfinishedRecord, unfinishedStrip, unfinishedRecord2, unfinishedStrip2, pitted, pittedRecord, pittedStrip, table}
+use Rattle.level.specs.Cells.{Holds, noLevel, All, board, finished, finishedRecord, finishedStrip, unfinished, unfinishedRecord, unfinishedStrip, unfinishedOfTwo, unfinishedOfEight, unfinishedRecord2, unfinishedStrip2, pitted, pittedRecord, pittedStrip, table}
 use Rattle.level.proofs.Written.{spelled, recordBit, recordByte, recordOf}
 use Rattle.level.proofs.RecordOf.{record-of}
 use Rattle.level.proofs.Judged.{judged-alike}
@@ -132,28 +132,29 @@ one = record { from = omega arith; to = omega arith }
 two : Within 1 2 2
 two = record { from = omega arith; to = omega arith }
 
--- the lanes of s are clean, and bs is in front
-abbrev cleanLanes : List ℕ → Bool
-cleanLanes s = upto (λ j. upto (λ m. eqb (sumsOf gf256 (lane 4 j s) m) 0) 5) 4
+-- over the lane count: the lanes of s are clean, and bs is in front
+module _ (R : ℕ) where
+  abbrev cleanLanes : List ℕ → Bool
+  cleanLanes s = upto (λ j. upto (λ m. eqb (sumsOf gf256 (lane R j s) m) 0) 5) R
 
-abbrev inFront : List ℕ → List ℕ → Bool
-inFront bs s = upto (λ p. eqb (getD (lane 4 (p % 4) s) (p / 4) 0) (getD bs p 0)) (4 * columns 4 (length bs))
+  abbrev inFront : List ℕ → List ℕ → Bool
+  inFront bs s = upto (λ p. eqb (getD (lane R (p % R) s) (p / R) 0) (getD bs p 0)) (R * columns R (length bs))
 
-strip-of : (l : Level) (bs s : List ℕ) → IsRecord l bs → length s ≡ 4 * (columns 4 (length bs) + 5) → T (allBelow 256 s) → T (cleanLanes s)
-    → T (inFront bs s) → IsStrip gf256 4 l s
-strip-of l bs s is long bytes clean front = record {
-  bs = bs;
-  is-record = is;
-  dealt = record {
-    cells = bytes-of s bytes;
-    size = long;
-    clean = λ j h.
-        sums-clean gf256 (lane 4 j s) (λ m k.
-        eqb→eq _ _ (upto-at (λ i. eqb (sumsOf gf256 (lane 4 j s) i) 0) 5
-        (upto-at (λ i. upto (λ m. eqb (sumsOf gf256 (lane 4 i s) m) 0) 5) 4 clean j h) m k));
-    laid = λ q h. eqb→eq _ _ (upto-at (λ p. eqb (getD (lane 4 (p % 4) s) (p / 4) 0) (getD bs p 0)) (4 * columns 4 (length bs)) front q h);
-  };
-}
+  strip-of : (l : Level) (bs s : List ℕ) → IsRecord l bs → length s ≡ R * (columns R (length bs) + 5) → T (allBelow 256 s) → T (cleanLanes s)
+      → T (inFront bs s) → IsStrip gf256 R l s
+  strip-of l bs s is long bytes clean front = record {
+    bs = bs;
+    is-record = is;
+    dealt = record {
+      cells = bytes-of s bytes;
+      size = long;
+      clean = λ j h.
+          sums-clean gf256 (lane R j s) (λ m k.
+          eqb→eq _ _ (upto-at (λ i. eqb (sumsOf gf256 (lane R j s) i) 0) 5
+          (upto-at (λ i. upto (λ m. eqb (sumsOf gf256 (lane R i s) m) 0) 5) R clean j h) m k));
+      laid = λ q h. eqb→eq _ _ (upto-at (λ p. eqb (getD (lane R (p % R) s) (p / R) 0) (getD bs p 0)) (R * columns R (length bs)) front q h);
+    };
+  }
 
 finished-record : IsRecord (finished 1) finishedRecord
 unfolding recordOf recordByte recordBit spelled listOf
@@ -161,7 +162,7 @@ finished-record = recorded 1 1 first-known one (finished 1 .tiles) refl tt
 
 finished-strip : IsStrip gf256 4 (finished 1) finishedStrip
 unfolding lane listOf S sumTo alphaTo power product
-finished-strip = strip-of (finished 1) finishedRecord finishedStrip finished-record refl tt tt tt
+finished-strip = strip-of 4 (finished 1) finishedRecord finishedStrip finished-record refl tt tt tt
 
 -- its crate is on its goal, in each version
 not-fair : (v : ℕ) → Fair (finished v) → ⊥
@@ -178,7 +179,15 @@ unfinished-record = recorded 1 1 first-known one (unfinished 1 .tiles) refl tt
 
 unfinished-strip : IsStrip gf256 4 (unfinished 1) unfinishedStrip
 unfolding lane listOf S sumTo alphaTo power product
-unfinished-strip = strip-of (unfinished 1) unfinishedRecord unfinishedStrip unfinished-record refl tt tt tt
+unfinished-strip = strip-of 4 (unfinished 1) unfinishedRecord unfinishedStrip unfinished-record refl tt tt tt
+
+unfinished-two : IsStrip gf256 2 (unfinished 1) unfinishedOfTwo
+unfolding lane listOf S sumTo alphaTo power product
+unfinished-two = strip-of 2 (unfinished 1) unfinishedRecord unfinishedOfTwo unfinished-record refl tt tt tt
+
+unfinished-eight : IsStrip gf256 8 (unfinished 1) unfinishedOfEight
+unfolding lane listOf S sumTo alphaTo power product
+unfinished-eight = strip-of 8 (unfinished 1) unfinishedRecord unfinishedOfEight unfinished-record refl tt tt tt
 
 unfinished-record-2 : IsRecord (unfinished 2) unfinishedRecord2
 unfolding recordOf recordByte recordBit spelled listOf
@@ -186,7 +195,7 @@ unfinished-record-2 = recorded 2 1 second-known one (unfinished 2 .tiles) refl t
 
 unfinished-strip-2 : IsStrip gf256 4 (unfinished 2) unfinishedStrip2
 unfolding lane listOf S sumTo alphaTo power product
-unfinished-strip-2 = strip-of (unfinished 2) unfinishedRecord2 unfinishedStrip2 unfinished-record-2 refl tt tt tt
+unfinished-strip-2 = strip-of 4 (unfinished 2) unfinishedRecord2 unfinishedStrip2 unfinished-record-2 refl tt tt tt
 
 fair : (v : ℕ) → Fair (unfinished v)
 unfolding totals
@@ -207,7 +216,7 @@ pitted-record = recorded 2 2 second-known two (pitted 2 .tiles) refl tt
 
 pitted-strip : IsStrip gf256 4 (pitted 2) pittedStrip
 unfolding lane listOf S sumTo alphaTo power product
-pitted-strip = strip-of (pitted 2) pittedRecord pittedStrip pitted-record refl tt tt tt
+pitted-strip = strip-of 4 (pitted 2) pittedRecord pittedStrip pitted-record refl tt tt tt
 
 pitted-fair : Fair (pitted 2)
 unfolding totals
@@ -281,14 +290,20 @@ cells = (
                                     (
                                       (unfinished-record, unfinished-strip),
                                       (
-                                        is-level 1 first-known tt,
+                                        (unfinished-record, unfinished-two),
                                         (
-                                          (pitted-record, pitted-strip),
+                                          (unfinished-record, unfinished-eight),
                                           (
-                                            pitted-level,
+                                            is-level 1 first-known tt,
                                             (
-                                              no-pit,
-                                              ((unfinished-record-2, unfinished-strip-2), (is-level 2 second-known tt, (third, (finished-read, (every-row, tt))))),
+                                              (pitted-record, pitted-strip),
+                                              (
+                                                pitted-level,
+                                                (
+                                                  no-pit,
+                                                  ((unfinished-record-2, unfinished-strip-2), (is-level 2 second-known tt, (third, (finished-read, (every-row, tt))))),
+                                                ),
+                                              ),
                                             ),
                                           ),
                                         ),

@@ -1,7 +1,7 @@
 -- Cells dealt to lanes, over the field and the lane count: what is dealt can be had, is one, and gives its cells back.
 use mathlib.Core.Path.{_≡_, sym, ap, ap₂, _∙_, subst}
 use Prim.Native.Nat.{ℕ, _+_, _*_, _-_, _/_, _%_, _≤_, _<_}
-use native.Mathlib.Nat.{mul-le-mul-left, div-add-mod, mod-lt, mul-add-mod-self-left, mod-eq-of-lt, mul-suc, mul-add, mul-comm, div-lt-iff-lt-mul, le-div-iff-mul-le, div-mul-le-self}
+use native.Mathlib.Nat.{div-add-mod, mod-lt, mul-add, mul-comm, div-lt-iff-lt-mul, le-div-iff-mul-le, div-mul-le-self}
 use native.Mathlib.Omega.{arith}
 use mathlib.Core.List.{List}
 use mathlib.Core.Logic.{_⊎_, inl, inr, ⊎-elim}
@@ -12,7 +12,7 @@ use Rattle.account.specs.Code.{Cells, Clean, WordOf}
 use Rattle.account.specs.Lists.{listOf}
 use Rattle.account.specs.Lanes.{lane}
 use Rattle.account.proofs.Lists.{length-listOf, getD-listOf}
-use Rattle.account.proofs.Lanes.{length-lane, getD-lane, bytes-lane, place-of, cell, ext-lanes, getD-past, columns-of}
+use Rattle.account.proofs.Lanes.{length-lane, getD-lane, bytes-lane, place-of, lane-of, cell-of, cell, ext-lanes, getD-past, columns-of}
 use Rattle.account.proofs.Theorems.{one-with-data, some-with-data}
 use Rattle.rules.proofs.Numbers.{lt-or-ge}
 use Rattle.level.specs.Strip.{columns, Dealt}
@@ -25,20 +25,12 @@ within R some n = omega (arith, div-add-mod (n + (R - 1)) R, mod-lt (n + (R - 1)
 pub columns-more : (R : ℕ) → 0 < R → (m n : ℕ) → m ≤ n → columns R m ≤ columns R n
 columns-more R some m n h = le-div-iff-mul-le some .1 (omega (arith, div-mul-le-self (m + (R - 1)) R))
 
--- two lanes or more are short enough for words of 255
-pub lanes-short : (R : ℕ) → 2 ≤ R → columns R 364 + 5 ≤ 255
+-- two lanes or more are short enough to travel by value
+pub lanes-short : (R : ℕ) → 2 ≤ R → columns R 364 + 5 ≤ 187
 lanes-short R two = omega (arith, div-lt-iff-lt-mul {k = R} (omega arith) .1 fits)
   where
-    fits : 364 + (R - 1) < 251 * R
+    fits : 364 + (R - 1) < 183 * R
     fits = omega arith
-
--- cell i of lane j is cell R i + j
-module _ (R : ℕ) (some : 0 < R) (i j : ℕ) (h : j < R) where
-  pub lane-of : (R * i + j) % R ≡ j
-  lane-of = mul-add-mod-self-left R i j ∙ mod-eq-of-lt h
-
-  pub cell-of : (k : ℕ) → i < k → R * i + j < R * k
-  cell-of k l = omega (arith, mul-le-mul-left R l, mul-suc R i)
 
 module _ (O : Ops) (F : IsField O) (R : ℕ) (some : 0 < R) where
   open Ops O using (order)

@@ -1,6 +1,7 @@
 pub mod Written
 pub mod Bits
 pub mod Dealing
+pub mod Lengths
 pub mod Fields
 pub mod Strips
 pub mod Determined

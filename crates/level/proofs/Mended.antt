@@ -126,7 +126,7 @@ module _ (O : Ops) (F : IsField O) (bytes : O .size ≤ 256) (R : ℕ) (some : 0
 
   -- where the strip of a board is within reach, the strip read is refused as the board is
   pub board-found : (marks s u : List ℕ) (m : ℕ) → length s ≡ R * (m + 5) → m + 5 ≤ order → (l : Level) → Counted l → IsStrip O R l u → StripReach R marks s u
-      → (upto c : ℕ) → First (asked (λ ask. ask l) (lending upto)) c → First (mending upto O R s marks) c
+      → (upto c : ℕ) → First (asked (λ ask. ask l) (lending upto)) c → First (mending O R upto s marks) c
   board-found marks s u m full short l co st reach upto c f =
       inr (mendable O F R some marks s u M, found marks s u m full short M upto c (strip-alike l u co st upto c f))
     where

@@ -1,4 +1,4 @@
--- FORMAT 12.1, 12.2, 12.4 to 12.6, 12.12 to 12.14, 12.16, 12.17: the worked examples that are proved, as one table.
+-- FORMAT 12.1, 12.2, 12.4 to 12.6, 12.12 to 12.14, 12.16 to 12.18: the worked examples that are proved, as one table.
 use mathlib.Core.Path.{_≡_}
 use mathlib.Core.Logic.{_⊎_}
 use mathlib.Core.List.{List, [], _∷_}
@@ -34,8 +34,8 @@ pub data Cell : Type 0 where
   becomes : List ℕ → List ℕ → List ℕ → ℕ → ℕ → Cell
   -- FORMAT 12.4: r with these marks is refused (6)
   refused : List ℕ → List ℕ → Cell
-  -- FORMAT 12.5, 12.6, 12.13, 12.14, 12.16, 12.17: a board, whether or not it is a level, is laid out as this record and this strip of four lanes
-  lays : Level → List ℕ → List ℕ → Cell
+  -- FORMAT 12.5, 12.6, 12.13, 12.14, 12.16 to 12.18: a board, whether or not it is a level, is laid out as this record and this strip of so many lanes
+  lays : ℕ → Level → List ℕ → List ℕ → Cell
   -- FORMAT 12.13, 12.16: it is a level
   level : Level → Cell
   -- FORMAT 12.5, 12.16, 12.17: it is none, and lent to a writer it is refused with this number
@@ -50,7 +50,7 @@ Holds (product a b c) = times a b ≡ c
 Holds (gives d w) = WordOf gf256 d w
 Holds (becomes marks r w e d) = Clean gf256 w × Reach marks r w × (differing marks r w ≡ e) × (repainted marks r w ≡ d)
 Holds (refused marks r) = Reachable gf256 marks r → ⊥
-Holds (lays l bs s) = IsRecord l bs × IsStrip gf256 4 l s
+Holds (lays R l bs s) = IsRecord l bs × IsStrip gf256 R l s
 Holds (level l) = IsLevel l
 Holds (noLevel l n) = (IsLevel l → ⊥) × First (asked (λ ask. ask l) (lending newest)) n
 Holds (noRecord bs n) = First (readingRecord newest bs tilesMost) n
@@ -94,6 +94,16 @@ unfinishedStrip =
     0x11 ∷ 0x04 ∷ 0x05 ∷ 0x58 ∷ 0xB2 ∷ 0x1F ∷ 0xD1 ∷ 0xAF ∷ 0x20 ∷ 0xBF ∷ 0x59 ∷ 0x9A
     ∷ 0x20 ∷ 0xBF ∷ 0x59 ∷ 0x9A ∷ 0xB2 ∷ 0x1F ∷ 0xD1 ∷ 0xAF ∷ 0x11 ∷ 0x04 ∷ 0x05 ∷ 0x58 ∷ []
 
+-- FORMAT 12.18: the same level in two lanes, and in eight
+abbrev pub unfinishedOfTwo : List ℕ
+unfinishedOfTwo = 0x11 ∷ 0x04 ∷ 0x05 ∷ 0x58 ∷ 0x33 ∷ 0x02 ∷ 0x81 ∷ 0x08 ∷ 0x13 ∷ 0xA8 ∷ 0x02 ∷ 0xB9 ∷ 0xB7 ∷ 0x47 ∷ []
+
+abbrev pub unfinishedOfEight : List ℕ
+unfinishedOfEight =
+    0x11 ∷ 0x04 ∷ 0x05 ∷ 0x58 ∷ 0x00 ∷ 0x00 ∷ 0x00 ∷ 0x00 ∷ 0xB2 ∷ 0x1F ∷ 0xD1 ∷ 0xAF ∷ 0x00 ∷ 0x00 ∷ 0x00 ∷ 0x00
+    ∷ 0x20 ∷ 0xBF ∷ 0x59 ∷ 0x9A ∷ 0x00 ∷ 0x00 ∷ 0x00 ∷ 0x00 ∷ 0x20 ∷ 0xBF ∷ 0x59 ∷ 0x9A ∷ 0x00 ∷ 0x00 ∷ 0x00 ∷ 0x00
+    ∷ 0xB2 ∷ 0x1F ∷ 0xD1 ∷ 0xAF ∷ 0x00 ∷ 0x00 ∷ 0x00 ∷ 0x00 ∷ 0x11 ∷ 0x04 ∷ 0x05 ∷ 0x58 ∷ 0x00 ∷ 0x00 ∷ 0x00 ∷ 0x00 ∷ []
+
 -- FORMAT 12.17: the same tiles in version 2
 abbrev pub unfinishedRecord2 : List ℕ
 unfinishedRecord2 = 0x21 ∷ 0x04 ∷ 0x05 ∷ 0x58 ∷ []
@@ -115,7 +125,7 @@ pittedStrip =
     0x21 ∷ 0x08 ∷ 0x05 ∷ 0x59 ∷ 0x70 ∷ 0x00 ∷ 0x00 ∷ 0x00 ∷ 0x04 ∷ 0x47 ∷ 0xC1 ∷ 0xA7 ∷ 0x26 ∷ 0x39
     ∷ 0x38 ∷ 0x34 ∷ 0x67 ∷ 0x64 ∷ 0xB0 ∷ 0x29 ∷ 0x52 ∷ 0x2C ∷ 0x9D ∷ 0x82 ∷ 0x46 ∷ 0x3E ∷ 0xD1 ∷ 0x61 ∷ []
 
--- nothing mended, the most, and each exact half that a legal length allows
+-- of four lanes: nothing mended, the most, and each exact half that a legal length allows
 abbrev pub worn : List Worn
 worn =
     row 0 24 0
@@ -160,14 +170,16 @@ table =
     ∷ refused (1 ∷ 1 ∷ 1 ∷ 1 ∷ 1 ∷ 1 ∷ []) (0x02 ∷ 0 ∷ 0 ∷ 0 ∷ 0 ∷ 0 ∷ [])
     ∷ becomes none7 (0x00 ∷ 0x00 ∷ 0x6C ∷ 0xAA ∷ 0x82 ∷ 0x8B ∷ 0xCE ∷ []) (0x01 ∷ 0x00 ∷ 0x6C ∷ 0xAA ∷ 0x82 ∷ 0x8B ∷ 0xCE ∷ []) 1 0
     ∷ refused none6 (0x00 ∷ 0x6C ∷ 0xAA ∷ 0x82 ∷ 0x8B ∷ 0xCE ∷ [])
-    ∷ lays (finished 1) finishedRecord finishedStrip
+    ∷ lays 4 (finished 1) finishedRecord finishedStrip
     ∷ noLevel (finished 1) 10
-    ∷ lays (unfinished 1) unfinishedRecord unfinishedStrip
+    ∷ lays 4 (unfinished 1) unfinishedRecord unfinishedStrip
+    ∷ lays 2 (unfinished 1) unfinishedRecord unfinishedOfTwo
+    ∷ lays 8 (unfinished 1) unfinishedRecord unfinishedOfEight
     ∷ level (unfinished 1)
-    ∷ lays (pitted 2) pittedRecord pittedStrip
+    ∷ lays 4 (pitted 2) pittedRecord pittedStrip
     ∷ level (pitted 2)
     ∷ noLevel (pitted 1) 9
-    ∷ lays (unfinished 2) unfinishedRecord2 unfinishedStrip2
+    ∷ lays 4 (unfinished 2) unfinishedRecord2 unfinishedStrip2
     ∷ level (unfinished 2)
     ∷ noRecord (0x31 ∷ 0x04 ∷ 0x05 ∷ 0x94 ∷ []) 7
     ∷ noRecord (0x21 ∷ 0x04 ∷ 0x05 ∷ 0x94 ∷ []) 10

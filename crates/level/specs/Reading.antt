@@ -10,7 +10,7 @@ use Rattle.rules.specs.Refusal.{Rule, unless, Within, Question, about, asked}
 use Rattle.level.specs.Sizes.{tilesMost, recordLeast, recordMost, scratchLeast}
 use Rattle.level.specs.Level.{Level, Taken, boarding}
 use Rattle.level.specs.Record.{bitAt, fieldAt, recordLength}
-use Rattle.level.specs.Strip.{columns, Legal, Mends, Mendable}
+use Rattle.level.specs.Strip.{LaneCount, columns, Legal, Mends, Mendable}
 
 -- ---- the level that a run of bytes spells
 
@@ -64,13 +64,17 @@ enteringWith least R s marks room scratch =
     ∷ unless 5 (least ≤ scratch)
     ∷ []
 
--- with the limit of FORMAT 9.5
+-- FORMAT 9.15: the lane count that is named. 15, before all else, for writers and readers
+abbrev pub naming : ℕ → Rule
+naming R = unless 15 (LaneCount R)
+
+-- FORMAT 9.1 to 9.5, 9.15: the lane count, and the rest with the limit of FORMAT 9.5
 abbrev pub entering : ℕ → List ℕ → List ℕ → ℕ → ℕ → List Rule
-entering = enteringWith scratchLeast
+entering R s marks room scratch = naming R ∷ enteringWith scratchLeast R s marks room scratch
 
 -- FORMAT 9.6, 9.46: what the picture is asked. 6: each lane can be mended; 7 to 10 of the mended record
-abbrev pub mending : ℕ → Ops → ℕ → List ℕ → List ℕ → List Rule
-mending upto O R s marks = unless 6 ((j : ℕ) → j < R → Mendable O R marks s j) ∷ asked (OfMended O R marks s) (judging upto R)
+abbrev pub mending : Ops → ℕ → ℕ → List ℕ → List ℕ → List Rule
+mending O R upto s marks = unless 6 ((j : ℕ) → j < R → Mendable O R marks s j) ∷ asked (OfMended O R marks s) (judging upto R)
 
 -- ---- answers
 
@@ -85,10 +89,11 @@ pub record ReadNumbers : Type 0 where
   pub mended : ℕ
   pub repainted : ℕ
   pub wear : ℕ
+  pub lanes : ℕ
 
 -- FORMAT 9.43: with a refusal all are zero but the code and, for 6, the lane
 abbrev pub refusedAt : ℕ → ℕ → ReadNumbers
-refusedAt code lane = record { code = code; lane = lane; version = 0; width = 0; height = 0; par = 0; mended = 0; repainted = 0; wear = 0 }
+refusedAt code lane = record { code = code; lane = lane; version = 0; width = 0; height = 0; par = 0; mended = 0; repainted = 0; wear = 0; lanes = 0 }
 
 -- FORMAT 11.11: all numbers but repainted
 abbrev pub butRepainted : ReadNumbers → ReadNumbers
@@ -102,6 +107,7 @@ butRepainted n = record {
   mended = n .mended;
   repainted = 0;
   wear = n .wear;
+  lanes = n .lanes;
 }
 
 -- FORMAT 8.15: the level returned: these numbers, and the first tiles of the buffer

@@ -12,13 +12,16 @@ recordMost = 364
 abbrev pub recordLeast : ℕ
 recordLeast = 4
 
--- FORMAT 7.9: cells of a strip of four lanes
-abbrev pub stripLeast : ℕ
-stripLeast = 24
-
+-- FORMAT 7.9: cells of a strip, that of the longest record in sixteen lanes
 abbrev pub stripMost : ℕ
-stripMost = 384
+stripMost = 448
 
--- FORMAT 9.5: what the strip reader is lent beside, as many bytes as a lane has at the most
+-- FORMAT 9.5: what the strip reader is lent beside, as many bytes as a lane has at the most, one of two
 abbrev pub scratchLeast : ℕ
-scratchLeast = 96
+scratchLeast = 187
+
+-- ---- parts
+
+-- bytes of a record, with the cells that fill its last column, of sixteen lanes at the most
+abbrev pub filledMost : ℕ
+filledMost = 379

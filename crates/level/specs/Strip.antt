@@ -1,6 +1,6 @@
 -- FORMAT 7, for R lanes: strips, cells of a field dealt to lanes, each lane a word of the code.
 use mathlib.Core.Path.{_≡_}
-use mathlib.Core.Logic.{_≢_}
+use mathlib.Core.Logic.{_≢_, _⊎_}
 use Prim.Native.Nat.{ℕ, _+_, _*_, _-_, _/_, _%_, _≤_, _<_}
 use mathlib.Core.List.{List}
 use lib.ListN.{length, getD}
@@ -12,6 +12,10 @@ use Rattle.account.specs.Lanes.{lane}
 use Rattle.level.specs.Sizes.{recordLeast, recordMost}
 use Rattle.level.specs.Level.{Level, IsLevel}
 use Rattle.level.specs.Record.{IsRecord}
+
+-- FORMAT 7.1: the lane counts that can be named
+abbrev pub LaneCount : ℕ → Type 0
+LaneCount R = (R ≡ 2) ⊎ (R ≡ 4) ⊎ (R ≡ 8) ⊎ (R ≡ 16)
 
 -- ---- over the lanes
 

@@ -9,11 +9,9 @@ pub const RECORD_LEAST: usize = 4;
 
 pub const RECORD_MOST: usize = 364;
 // Cells of a strip.
-pub const STRIP_LEAST: usize = 24;
-
-pub const STRIP_MOST: usize = 384;
+pub const STRIP_MOST: usize = 448;
 // What the strip reader is lent beside: one lane.
-pub const SCRATCH_LEAST: usize = 96;
+pub const SCRATCH_LEAST: usize = 187;
 
 // A crate has at least one function.
 fn level() {}

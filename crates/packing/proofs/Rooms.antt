@@ -24,6 +24,7 @@ pub record ReadRoom (n : ReadNumbers) : Type 0 where
   pub mended : n .mended < 64
   pub repainted : n .repainted < 128
   pub wear : n .wear < 64
+  pub lanes : n .lanes < 32
 
 pub record PoolRoom (n : PoolNumbers) : Type 0 where
   pub code : n .code < 32
@@ -44,26 +45,37 @@ back-length n h = ap₂ (λ (c v : ℕ). numbers c v) low high
     high : (n .code % 32 + n .value % 65536 * 2 ^ 48) / 2 ^ 48 % 65536 ≡ n .value
     high = omega (arith, h .code, h .value)
 
-abbrev reads : ℕ → ℕ → ℕ → ℕ → ℕ → ℕ → ℕ → ℕ → ℕ → ReadNumbers
-reads c l n w h p m d v = record { code = c; lane = l; version = n; width = w; height = h; par = p; mended = m; repainted = d; wear = v }
+abbrev reads : ℕ → ℕ → ℕ → ℕ → ℕ → ℕ → ℕ → ℕ → ℕ → ℕ → ReadNumbers
+reads c l n w h p m d v r = record {
+  code = c;
+  lane = l;
+  version = n;
+  width = w;
+  height = h;
+  par = p;
+  mended = m;
+  repainted = d;
+  wear = v;
+  lanes = r;
+}
 
 module _ (n : ReadNumbers) (h : ReadRoom n) where
   -- what is packed, with no remainders taken
   plain : packedRead n
       ≡ n .code + n .lane * 32 + n .version * 512 + n .width * 2048 + n .height * 65536 + n .par * 2097152 + n .mended * 2147483648 + n .repainted * 137438953472
-      + n .wear * 17592186044416
-  plain = omega (arith, h .code, h .lane, h .version, h .width, h .height, h .par, h .mended, h .repainted, h .wear)
+      + n .wear * 17592186044416 + n .lanes * 1125899906842624
+  plain = omega (arith, h .code, h .lane, h .version, h .width, h .height, h .par, h .mended, h .repainted, h .wear, h .lanes)
 
   pub back-read : unpackedRead (packedRead n) ≡ n
   back-read =
       ap₂ (λ (c l : ℕ). reads c l (packedRead n / 2 ^ 9 % 4) (packedRead n / 2 ^ 11 % 32) (packedRead n / 2 ^ 16 % 32) (packedRead n / 2 ^ 21 % 1024)
-      (packedRead n / 2 ^ 31 % 64) (packedRead n / 2 ^ 37 % 128) (packedRead n / 2 ^ 44 % 64)) c l
+      (packedRead n / 2 ^ 31 % 64) (packedRead n / 2 ^ 37 % 128) (packedRead n / 2 ^ 44 % 64) (packedRead n / 2 ^ 50 % 32)) c l
       ∙ ap₂ (λ (x w : ℕ). reads (n .code) (n .lane) x w (packedRead n / 2 ^ 16 % 32) (packedRead n / 2 ^ 21 % 1024) (packedRead n / 2 ^ 31 % 64)
-      (packedRead n / 2 ^ 37 % 128) (packedRead n / 2 ^ 44 % 64)) x w
+      (packedRead n / 2 ^ 37 % 128) (packedRead n / 2 ^ 44 % 64) (packedRead n / 2 ^ 50 % 32)) x w
       ∙ ap₂ (λ (k p : ℕ). reads (n .code) (n .lane) (n .version) (n .width) k p (packedRead n / 2 ^ 31 % 64) (packedRead n / 2 ^ 37 % 128)
-      (packedRead n / 2 ^ 44 % 64)) k p
-      ∙ ap₂ (λ (m d : ℕ). reads (n .code) (n .lane) (n .version) (n .width) (n .height) (n .par) m d (packedRead n / 2 ^ 44 % 64)) m d
-      ∙ ap (reads (n .code) (n .lane) (n .version) (n .width) (n .height) (n .par) (n .mended) (n .repainted)) v
+      (packedRead n / 2 ^ 44 % 64) (packedRead n / 2 ^ 50 % 32)) k p
+      ∙ ap₂ (λ (m d : ℕ). reads (n .code) (n .lane) (n .version) (n .width) (n .height) (n .par) m d (packedRead n / 2 ^ 44 % 64) (packedRead n / 2 ^ 50 % 32)) m d
+      ∙ ap₂ (reads (n .code) (n .lane) (n .version) (n .width) (n .height) (n .par) (n .mended) (n .repainted)) v r
     where
       c : packedRead n % 32 ≡ n .code
       c = ap (λ (x : ℕ). x % 32) plain ∙ omega (arith, h .code)
@@ -96,6 +108,11 @@ module _ (n : ReadNumbers) (h : ReadRoom n) where
           ap (λ (x : ℕ). x / 17592186044416 % 64) plain
           ∙ omega (arith, h .code, h .lane, h .version, h .width, h .height, h .par, h .mended, h .repainted, h .wear)
 
+      r : packedRead n / 2 ^ 50 % 32 ≡ n .lanes
+      r =
+          ap (λ (x : ℕ). x / 1125899906842624 % 32) plain
+          ∙ omega (arith, h .code, h .lane, h .version, h .width, h .height, h .par, h .mended, h .repainted, h .wear, h .lanes)
+
 -- a repair's numbers are taken out of what a reader's would be
 pub back-repair : (n : RepairNumbers) → n .code < 32 → n .mended < 64 → n .repainted < 128 → unpackedRepair (packedRepair n) ≡ n
 back-repair n c m d = ap (λ (x : ReadNumbers). repair (x .code) (x .mended) (x .repainted)) (back-read (asRead n) room)
@@ -114,6 +131,7 @@ back-repair n c m d = ap (λ (x : ReadNumbers). repair (x .code) (x .mended) (x 
       mended = m;
       repainted = d;
       wear = omega arith;
+      lanes = omega arith;
     }
 
 abbrev counts : ℕ → ℕ → ℕ → ℕ → ℕ → PoolNumbers

@@ -11,15 +11,16 @@ use Rattle.pool.specs.Pooled.{PoolNumbers}
 abbrev pub packedLength : Numbers → ℕ
 packedLength n = n .code % 32 + n .value % 65536 * 2 ^ 48
 
--- a reader's numbers: code in bits 0 to 4, lane from 5, version from 9, width from 11, height from 16, par from 21, mended from 31, repainted from 37, wear from 44
+-- a reader's numbers: code in bits 0 to 4, lane from 5, version from 9, width from 11, height from 16, par from 21, mended from 31, repainted from 37, wear from 44,
+-- lanes from 50
 abbrev pub packedRead : ReadNumbers → ℕ
 packedRead n =
     n .code % 32 + n .lane % 16 * 2 ^ 5 + n .version % 4 * 2 ^ 9 + n .width % 32 * 2 ^ 11 + n .height % 32 * 2 ^ 16 + n .par % 1024 * 2 ^ 21
-    + n .mended % 64 * 2 ^ 31 + n .repainted % 128 * 2 ^ 37 + n .wear % 64 * 2 ^ 44
+    + n .mended % 64 * 2 ^ 31 + n .repainted % 128 * 2 ^ 37 + n .wear % 64 * 2 ^ 44 + n .lanes % 32 * 2 ^ 50
 
 -- a repair's numbers, in the places of a reader's
 abbrev pub asRead : RepairNumbers → ReadNumbers
-asRead n = record { code = n .code; lane = 0; version = 0; width = 0; height = 0; par = 0; mended = n .mended; repainted = n .repainted; wear = 0 }
+asRead n = record { code = n .code; lane = 0; version = 0; width = 0; height = 0; par = 0; mended = n .mended; repainted = n .repainted; wear = 0; lanes = 0 }
 
 abbrev pub packedRepair : RepairNumbers → ℕ
 packedRepair n = packedRead (asRead n)
@@ -46,6 +47,7 @@ unpackedRead r = record {
   mended = r / 2 ^ 31 % 64;
   repainted = r / 2 ^ 37 % 128;
   wear = r / 2 ^ 44 % 64;
+  lanes = r / 2 ^ 50 % 32;
 }
 
 abbrev pub unpackedPool : ℕ → PoolNumbers

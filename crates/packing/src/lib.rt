@@ -62,8 +62,9 @@ fn pack_numbers(
     mended: usize,
     repainted: usize,
     wear: usize,
+    lanes: usize,
 ) -> u64
-    ensures { λ r. ⌜ r ≡ packedRead record { code = code; lane = lane; version = version; width = width; height = height; par = par; mended = mended; repainted = repainted; wear = wear } ⌝ }
+    ensures { λ r. ⌜ r ≡ packedRead record { code = code; lane = lane; version = version; width = width; height = height; par = par; mended = mended; repainted = repainted; wear = wear; lanes = lanes } ⌝ }
 {
     (code % 32) as u64
         + ((lane % 16) as u64) * 32
@@ -74,6 +75,7 @@ fn pack_numbers(
         + ((mended % 64) as u64) * 2147483648
         + ((repainted % 128) as u64) * 137438953472
         + ((wear % 64) as u64) * 17592186044416
+        + ((lanes % 32) as u64) * 1125899906842624
 }
 
 pub fn pack_repaired(a: Repaired) -> u64
@@ -90,8 +92,9 @@ pub fn pack_repaired(a: Repaired) -> u64
             mended,
             repainted,
             0,
+            0,
         ),
-        Repaired::Refused(c) => pack_numbers(c, 0, 0, 0, 0, 0, 0, 0, 0),
+        Repaired::Refused(c) => pack_numbers(c, 0, 0, 0, 0, 0, 0, 0, 0, 0),
     }
 }
 
@@ -104,8 +107,8 @@ pub fn pack_level(a: RecordRead) -> u64
             width,
             height,
             par,
-        } => pack_numbers(0, 0, version, width, height, par, 0, 0, 0),
-        RecordRead::Refused(c) => pack_numbers(c, 0, 0, 0, 0, 0, 0, 0, 0),
+        } => pack_numbers(0, 0, version, width, height, par, 0, 0, 0, 0),
+        RecordRead::Refused(c) => pack_numbers(c, 0, 0, 0, 0, 0, 0, 0, 0, 0),
     }
 }
 
@@ -121,8 +124,20 @@ pub fn pack_reading(a: Reading) -> u64
             mended,
             repainted,
             wear,
-        } => pack_numbers(0, 0, version, width, height, par, mended, repainted, wear),
-        Reading::Refused { code, lane } => pack_numbers(code, lane, 0, 0, 0, 0, 0, 0, 0),
+            lanes,
+        } => pack_numbers(
+            0,
+            0,
+            version,
+            width,
+            height,
+            par,
+            mended,
+            repainted,
+            wear,
+            lanes,
+        ),
+        Reading::Refused { code, lane } => pack_numbers(code, lane, 0, 0, 0, 0, 0, 0, 0, 0),
     }
 }
 

@@ -18,8 +18,8 @@ use Rattle.patches.specs.Window.{Behind, PatchedAt, Shows, WindowPatched
 -- ---- one cell
 
 -- r is how far cell p is behind cell a, and o its place, or some place
-module _ (a p b r o v : ℕ) (w : List ℕ) (room : 96 ≤ length w) (B : Behind a p r) (o-small : o < 96) (place : r < 96 → o ≡ r) where
-  in-window : r < 96 → v ≡ b → PatchedAt a p b w (set w o v)
+module _ (a p b r o v : ℕ) (w : List ℕ) (room : 186 ≤ length w) (B : Behind a p r) (o-small : o < 186) (place : r < 186 → o ≡ r) where
+  in-window : r < 186 → v ≡ b → PatchedAt a p b w (set w o v)
   in-window i e = record {
     long = length-set w o v;
     here = λ q h k. let z : q ≡ o = omega (arith, B .only q h k, place i) in
@@ -27,15 +27,15 @@ module _ (a p b r o v : ℕ) (w : List ℕ) (room : 96 ≤ length w) (B : Behind
     other = λ q h k. getD-set-other w o q v 0 (λ z. k (omega (arith, z, place i, B .is i)));
   }
 
-  elsewhere : (r < 96 → ⊥) → v ≡ getD w o 0 → PatchedAt a p b w (set w o v)
+  elsewhere : (r < 186 → ⊥) → v ≡ getD w o 0 → PatchedAt a p b w (set w o v)
   elsewhere out e = record {
     long = length-set w o v;
     here = λ q h k. absurd (out (omega (arith, B .only q h k)));
     other = λ q h k. ap (λ (x : ℕ). getD (set w o x) q 0) e ∙ ap (λ (x : List ℕ). getD x q 0) (set-getD w o 0);
   }
 
-  pub patched-one : (ltb r 96 ≡ true → v ≡ b) → (ltb r 96 ≡ false → v ≡ getD w o 0) → PatchedAt a p b w (set w o v)
-  patched-one t f = ⊎-elim (λ h. in-window h (t (lt-ltb r 96 h))) (λ h. elsewhere (λ k. omega arith) (f (le-ltb r 96 h))) (lt-or-ge r 96)
+  pub patched-one : (ltb r 186 ≡ true → v ≡ b) → (ltb r 186 ≡ false → v ≡ getD w o 0) → PatchedAt a p b w (set w o v)
+  patched-one t f = ⊎-elim (λ h. in-window h (t (lt-ltb r 186 h))) (λ h. elsewhere (λ k. omega arith) (f (le-ltb r 186 h))) (lt-or-ge r 186)
 
 -- ---- all cells
 
@@ -51,7 +51,7 @@ module _ (cells bytes : List ℕ) (a : ℕ) (w : List ℕ) where
         ∙ ap (λ (t : List ℕ). getD t (a + q) 0) (sym (patched-more cells bytes s i));
   }
     where
-      at : (s : List ℕ) (q : ℕ) → q < 96 → a + q < length s → getD w' q 0 ≡ getD (patched cells bytes i s) (a + q) 0 → Dec (a + q ≡ getD cells i 0)
+      at : (s : List ℕ) (q : ℕ) → q < 186 → a + q < length s → getD w' q 0 ≡ getD (patched cells bytes i s) (a + q) 0 → Dec (a + q ≡ getD cells i 0)
           → getD w'' q 0 ≡ getD (set (patched cells bytes i s) (getD cells i 0) (getD bytes i 0)) (a + q) 0
       at s q h k f (yes z) =
           P .here q h (z ∙ sym e)
@@ -71,7 +71,7 @@ shown s old w a n h e q l =
     long : length (take (a + n - a) (drop a s)) ≡ n
     long = length-take-le (a + n - a) (drop a s) (omega (arith, length-drop a s)) ∙ omega arith
 
-pub window-shown : (s cells bytes old w w' : List ℕ) (count a b n : ℕ) → n ≤ 96 → a + n ≤ b → (a + n < b → n ≡ 96) → b ≤ length s
+pub window-shown : (s cells bytes old w w' : List ℕ) (count a b n : ℕ) → n ≤ 186 → a + n ≤ b → (a + n < b → n ≡ 186) → b ≤ length s
     → w ≡ take (a + n - a) (drop a s) ++ drop (length (take (a + n - a) (drop a s))) old → WindowPatched cells bytes count a w w'
     → Shown s cells bytes count a b w' n
 window-shown s cells bytes old w w' count a b n most before full inside e P = record {

@@ -10,7 +10,7 @@ ghost use Rattle.patches.specs.Window.{Behind, PatchedAt, WindowPatched,
 pub const FIXES: usize = 80;
 
 // How many cells a window has at most.
-const WINDOW: usize = 96;
+const WINDOW: usize = 186;
 
 fn wide(x: u16) -> usize
     ensures { λ r. ⌜ r ≡ x ⌝ }
@@ -18,7 +18,7 @@ fn wide(x: u16) -> usize
     x as usize
 }
 
-// How far cell p is behind the first of the window, modulo 2^64: below 96 just where it is in the window. One subtraction, and one test then.
+// How far cell p is behind the first of the window, modulo 2^64: below 186 just where it is in the window. One subtraction, and one test then.
 fn distance(p: usize, from: usize) -> usize
     requires { ⌜ from < 2 ^ 63 ⌝ }
     ensures { λ r. ⌜ Behind from p r ⌝ }
@@ -41,7 +41,7 @@ fn pick(yes: bool, a: u8, b: u8) -> u8
 // The place in the window of what is so far behind its first cell; past the window some place in it, not the same for all, so that stores
 // do not wait for each other.
 fn offset(q: usize) -> usize
-    ensures { λ r. ⌜ (r < 96) × (q < 96 → r ≡ q) ⌝ }
+    ensures { λ r. ⌜ (r < 186) × (q < 186 → r ≡ q) ⌝ }
 {
     if q < WINDOW {
         return q;
@@ -51,7 +51,7 @@ fn offset(q: usize) -> usize
 
 // Cell p put right, if it is in the window. If not, another gets what it has: that costs less than a branch.
 fn patch_one(p: usize, b: u8, from: usize, window: &mut [u8])
-    requires { ⌜ (from < 2 ^ 63) × (96 ≤ length (now window)) ⌝ }
+    requires { ⌜ (from < 2 ^ 63) × (186 ≤ length (now window)) ⌝ }
     ensures { λ _. ⌜ PatchedAt from p b (now (window .entry)) (now (window .exit)) ⌝ }
 {
     let q = distance(p, from);
@@ -61,7 +61,7 @@ fn patch_one(p: usize, b: u8, from: usize, window: &mut [u8])
 
 // The window that begins at a cell, with what is to be put right in it.
 fn patch(cells: &[u16; FIXES], bytes: &[u8; FIXES], count: usize, from: usize, window: &mut [u8])
-    requires { ⌜ (count ≤ 80) × (from < 2 ^ 63) × (96 ≤ length (now window)) ⌝ }
+    requires { ⌜ (count ≤ 80) × (from < 2 ^ 63) × (186 ≤ length (now window)) ⌝ }
     ensures { λ _. ⌜ WindowPatched (now (cells .entry)) (now (bytes .entry)) count from (now (window .entry)) (now (window .exit)) ⌝ }
 {
     let mut i: usize = 0;
@@ -74,7 +74,7 @@ fn patch(cells: &[u16; FIXES], bytes: &[u8; FIXES], count: usize, from: usize, w
 // How many cells the window that begins at a cell has, of those before an end.
 fn size(from: usize, to: usize) -> usize
     requires { ⌜ from ≤ to ⌝ }
-    ensures { λ r. ⌜ (r ≤ 96) × (from + r ≤ to) × (from + r < to → r ≡ 96) ⌝ }
+    ensures { λ r. ⌜ (r ≤ 186) × (from + r ≤ to) × (from + r < to → r ≡ 186) ⌝ }
 {
     if WINDOW < to - from {
         return WINDOW;
@@ -92,7 +92,7 @@ pub fn show(
     to: usize,
     scratch: &mut [u8],
 ) -> usize
-    requires { ⌜ (count ≤ 80) × (from ≤ to) × (to ≤ length (now strip)) × (96 ≤ length (now scratch)) ⌝ }
+    requires { ⌜ (count ≤ 80) × (from ≤ to) × (to ≤ length (now strip)) × (186 ≤ length (now scratch)) ⌝ }
     ensures { λ n. ⌜ Shown (now (strip .entry)) (now (cells .entry)) (now (bytes .entry)) count from to (now (scratch .exit)) n ⌝ }
 {
     let n = size(from, to);

@@ -22,8 +22,9 @@ use Rattle.rules.specs.Refusal.{First, Hold}
 use Rattle.rules.proofs.Laws.{first-fixes, first-alike, all-hold, either}
 use Rattle.rules.proofs.Numbers.{lt-or-ge}
 use Rattle.level.specs.Level.{Level}
-use Rattle.level.specs.Strip.{Legal, IsStrip, markedIn}
+use Rattle.level.specs.Strip.{LaneCount, Legal, IsStrip, markedIn}
 use Rattle.level.proofs.Dealing.{lanes-short}
+use Rattle.level.proofs.Lengths.{lanes-within}
 use Rattle.level.proofs.Theorems.{strip-injective}
 use Rattle.level.proofs.Counts.{marked-cells}
 use Rattle.level.proofs.Strips.{lane-apart}
@@ -278,9 +279,9 @@ module _ (R : ℕ) where
   five-alone some a e g j hj =
       rw e (omega (arith, rw (length-lane R some j (a .cells)) at (g .reading .promise .level (g .done) .reached .reach .each j hj .few)))
 
-  module _ (two : 2 ≤ R) (upto : ℕ) (l : Level) (t : List ℕ) (wrote : WeWrote R l t) (early : l .version ≤ upto) where
+  module _ (named : LaneCount R) (upto : ℕ) (l : Level) (t : List ℕ) (wrote : WeWrote R l t) (early : l .version ≤ upto) where
     some : 0 < R
-    some = omega arith
+    some = omega (arith, lanes-within R named .from)
 
     module _ (a b c : Picture) (w : WePooled R a b c) (sa : Shows t a) (sb : Shows t b) where
       -- FORMAT 15.6: of a strip that we wrote, of a version that is taken, the level is returned where no lane has more than five cells that are marked in
@@ -292,7 +293,7 @@ module _ (R : ℕ) where
           let long : length t ≡ length (c .cells) = sym (s .same-length) in
           let even : length (c .marks) ≡ length (c .cells) = as-long a b c w .1 ∙ sym (as-long a b c w .0) in
           let back =
-          damaged-read-back R two l t wrote upto (c .cells) (c .marks) long even (good a b c w) early
+          damaged-read-back R named l t wrote upto (c .cells) (c .marks) long even (good a b c w) early
           (lanes-reach R some (c .marks) (c .cells) t even long
           (λ j hj. omega (arith, wrong-in-run R some (c .marks) (c .cells) t even long 0 0 0 (omega arith) only j hj, five j hj))) r in
           (back .0, omega (arith, back .1, differing-in-run (c .marks) 0 0 (c .cells) t only))
@@ -313,28 +314,31 @@ module _ (R : ℕ) where
   -- ---- pictures of two strips
 
   -- FORMAT 15.11: of two levels, with every cell right and none marked. They are never taken for one: the pooled picture is refused with 6.
-  pub two-strips-refused : 2 ≤ R → (upto : ℕ) (l m : Level) (t u x y : List ℕ) (c : Picture) → l ≢ m → WeWrote R l t → WeWrote R m u → NoMarks x → NoMarks y
+  pub two-strips-refused : LaneCount R → (upto : ℕ) (l m : Level) (t u x y : List ℕ) (c : Picture) → l ≢ m → WeWrote R l t → WeWrote R m u → NoMarks x → NoMarks y
       → WePooled R (photo t x) (photo u y) c → Answers upto R (c .cells) (c .marks) (λ n tiles'. n .code ≡ 6)
-  two-strips-refused two upto l m t u x y c other wt wu nx ny w r = ⊎-elim (λ e. absurd (apart e)) refused lanes
+  two-strips-refused named upto l m t u x y c other wt wu nx ny w r = ⊎-elim (λ e. absurd (apart e)) refused lanes
     where
+      two : 2 ≤ R
+      two = lanes-within R named .from
+
       some : 0 < R
-      some = omega arith
+      some = omega (arith, two)
 
       long : length u ≡ length t
       long = same (photo t x) (photo u y) c w
 
       legal : Legal R (length t)
-      legal = wrote-legal R two l t wt
+      legal = wrote-legal R named l t wt
 
       apart : t ≡ u → ⊥
       apart e =
-          other (strip-injective gf256 field256 R some l m t (wrote-level R two l t wt) (wrote-level R two m u wu) (wrote-strip R two l t wt)
-          (subst (IsStrip gf256 R m) (sym e) (wrote-strip R two m u wu)))
+          other (strip-injective gf256 field256 R some l m t (wrote-level R named l t wt) (wrote-level R named m u wu) (wrote-strip R named l t wt)
+          (subst (IsStrip gf256 R m) (sym e) (wrote-strip R named m u wu)))
 
       lanes : (t ≡ u) ⊎ ((j : ℕ) × (j < R) × (6 ≤ differing [] (lane R j u) (lane R j t)))
       lanes =
-          let st = wrote-strip R two l t wt .dealt in
-          let su = wrote-strip R two m u wu .dealt in
+          let st = wrote-strip R named l t wt .dealt in
+          let su = wrote-strip R named m u wu .dealt in
           lane-apart gf256 field256 R some t u (legal .k + 5) (legal .cells) long (omega (arith, legal .to, lanes-short R two)) (st .cells) (su .cells)
           (st .clean) (su .clean)
 
@@ -359,8 +363,8 @@ module _ (R : ℕ) where
       refused : (j : ℕ) × (j < R) × (6 ≤ differing [] (lane R j u) (lane R j t)) → stripNumbers (r .answer) .code ≡ 6
       refused z =
           let size : length (c .cells) ≡ length t = as-long (photo t x) (photo u y) c w .0 in
-          beyond-is-six R two upto (c .cells) (c .marks) (r .tiles) (r .tiles') (r .scratch) (r .scratch')
-          (subst (Legal R) (sym size) legal, (even ∙ sym size, (good (photo t x) (photo u y) c w, (r .room, (r .room', tt))))) (r .answer) (r .promise) (z .0) (z .1)
+          beyond-is-six R named upto (c .cells) (c .marks) (r .tiles) (r .tiles') (r .scratch) (r .scratch')
+          (named, (subst (Legal R) (sym size) legal, (even ∙ sym size, (good (photo t x) (photo u y) c w, (r .room, (r .room', tt)))))) (r .answer) (r .promise) (z .0) (z .1)
           (six-marks R some (c .marks) (c .cells) (c .cells) (even ∙ sym size) refl gf256 (z .0) (omega (arith, counted (z .0) (z .1), z .2)))
 
   -- ---- with itself

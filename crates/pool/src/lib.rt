@@ -9,6 +9,9 @@ ghost use Rattle.level.specs.Sizes.{stripMost};
 ghost use Rattle.level.specs.Strip.{Legal};
 ghost use Rattle.pool.specs.Pooled.{photo, kind, byte, is, taken, conflict, both, pooling, PoolsAs, AsLong, PoursAs};
 
+// The lanes of the strips that are pooled.
+const LANES: usize = 4;
+
 // What pooling answers: how many cells are of each kind, or a refusal's number.
 pub enum Pooling {
     Pooled {
@@ -24,10 +27,10 @@ pub enum Pooling {
 fn both_legal(first: usize, second: usize) -> bool
     ensures { λ r. ⌜ Says r (Legal 4 first × Legal 4 second) ⌝ }
 {
-    if !entry::legal(first) {
+    if !entry::legal(LANES, first) {
         return false;
     }
-    if !entry::legal(second) {
+    if !entry::legal(LANES, second) {
         return false;
     }
     true

@@ -3,6 +3,9 @@ use level::SCRATCH_LEAST;
 use level::TILES_MOST;
 use strip::read::Reading;
 
+// The lanes of the strips that are read here.
+const LANES: usize = 4;
+
 fn put(text: &[u8], n: u64) {
     io::write_all(1, text);
     io::print_decimal(1, n);
@@ -19,6 +22,7 @@ fn show(a: Reading) {
             mended,
             repainted: _,
             wear,
+            lanes: _,
         } => {
             put(b"level ", width as u64);
             put(b" ", height as u64);
@@ -50,6 +54,6 @@ fn main() {
     let mut scratch = [0u8; SCRATCH_LEAST];
     let h = n / 2;
     let all = &bytes[..];
-    let a = strip::read::read(&all[0..h], &all[h..n], &mut tiles, &mut scratch);
+    let a = strip::read::read(LANES, &all[0..h], &all[h..n], &mut tiles, &mut scratch);
     show(a);
 }

@@ -102,7 +102,7 @@ record-read-back upto l out out' old new a b A z early room B =
 
 -- the numbers of an answer are its code and what the level returned says; of two refusals, the code
 made : ℕ → Level → ReadNumbers
-made c l = record { code = c; lane = 0; version = l .version; width = l .width; height = l .height; par = l .par; mended = 0; repainted = 0; wear = 0 }
+made c l = record { code = c; lane = 0; version = l .version; width = l .width; height = l .height; par = l .par; mended = 0; repainted = 0; wear = 0; lanes = 0 }
 
 numbers-of : (a : RecordRead) (tiles : List ℕ) → recordNumbers a ≡ made (recordNumbers a .code) (returned (recordNumbers a) tiles)
 unfolding made

@@ -12,7 +12,7 @@ use Rattle.record.specs.declared.read.RecordRead.the-variants as read
 
 -- the numbers of an answer: a record has no lanes, and nothing in it is mended
 abbrev pub recordNumbers : RecordRead → ReadNumbers
-recordNumbers (read.Level v w h p) = record { code = 0; lane = 0; version = v; width = w; height = h; par = p; mended = 0; repainted = 0; wear = 0 }
+recordNumbers (read.Level v w h p) = record { code = 0; lane = 0; version = v; width = w; height = h; par = p; mended = 0; repainted = 0; wear = 0; lanes = 0 }
 recordNumbers (read.Refused c) = refusedAt c 0
 
 -- FORMAT 8.11, 8.14, 8.29, 10.6: bs is the record of the level returned, which is of a version up to this one; tile bytes past the level keep

@@ -5,7 +5,7 @@ ghost use Rattle.rules.specs.Refusal.{Within};
 ghost use Rattle.fields.specs.Judged.{JudgedAs, AcceptedAs};
 ghost use Rattle.record.specs.Reading.{RecordReadsAs};
 ghost use Rattle.level.specs.Level.{newest};
-ghost use Rattle.level.specs.Sizes.{tilesMost, recordLeast, recordMost};
+ghost use Rattle.level.specs.Sizes.{tilesMost, recordLeast, filledMost};
 use fields::judged::Judged;
 use level::NEWEST;
 use level::RECORD_LEAST;
@@ -14,7 +14,7 @@ use level::TILES_MOST;
 
 // Refusals 7 to 10 of a record, or of the data cells of a strip of that many lanes, by a reader of versions up to one of them.
 fn judge(upto: usize, bs: &[u8], lanes: usize) -> Judged
-    requires { ⌜ Within recordLeast recordMost (length (now bs)) × Within 1 16 lanes ⌝ }
+    requires { ⌜ Within recordLeast filledMost (length (now bs)) × Within 1 16 lanes ⌝ }
     ensures { λ r. ⌜ JudgedAs upto lanes (now (bs .entry)) r ⌝ }
 {
     let f = fields::head::head_of(bs);
@@ -43,7 +43,7 @@ pub enum RecordRead {
 
 // The record judged, or the data cells of a strip of that many lanes; its tiles are written only where nothing is refused.
 pub fn accept(upto: usize, bs: &[u8], lanes: usize, tiles: &mut [u8]) -> Judged
-    requires { ⌜ Within recordLeast recordMost (length (now bs)) × Within 1 16 lanes × (tilesMost ≤ length (now tiles)) ⌝ }
+    requires { ⌜ Within recordLeast filledMost (length (now bs)) × Within 1 16 lanes × (tilesMost ≤ length (now tiles)) ⌝ }
     ensures { λ r. ⌜ AcceptedAs upto lanes (now (bs .entry)) (now (tiles .entry)) (now (tiles .exit)) r ⌝ }
 {
     let j = judge(upto, bs, lanes);

@@ -1,7 +1,7 @@
 -- Lanes of one list of cells at once: each is a word of its own.
 use mathlib.Core.Path.{_≡_, refl, sym, ap, _∙_, subst}
 use mathlib.Core.List.{List, [], _∷_, _++_, append-assoc}
-use mathlib.Core.Logic.{_⊎_, ⊎-elim}
+use mathlib.Core.Logic.{_⊎_, inl, inr, ⊎-elim}
 use mathlib.Core.Bool.{Bool, true}
 use Prim.Native.Nat.{ℕ, zero, suc, _+_, _*_, _-_, _/_, _%_, _<_, _≤_}
 use native.Mathlib.Nat.{mul-add, mul-suc, mul-zero, mul-one, mul-comm, mul-assoc, mul-le-mul-left, mul-div-le, div-add-mod, mul-mod-right, mod-self}
@@ -16,7 +16,7 @@ use Rattle.rules.proofs.Numbers.{lt-or-ge}
 use Rattle.account.specs.Lanes.{lane}
 use Rattle.account.proofs.Test.{both, both-left, both-right}
 use Rattle.account.proofs.Lanes.{length-lane, getD-lane, getD-past, cell-below, columns-of}
-use Rattle.remainder.specs.Remainder.{packedEnd, Reduced, Moved, Remains, LanesTo, LanesRemain, LanesCheck, Room, fiveAt, RowMoved, RowsMoved}
+use Rattle.remainder.specs.Remainder.{packedEnd, Reduced, Moved, Remains, LanesTo, LanesRemain, LanesCheck, Room, fiveAt, RowTo, RowMoved, RowsMoved}
 use Rattle.reductions.specs.Tables.{fifth, sixth, seventh, eighth, ninth}
 use Rattle.remainder.proofs.Kernel.{AllBytes, moved1, moved5, low, top-byte}
 use Rattle.remainder.proofs.Rules.{at-5, at-6, at-7, at-8, at-9}
@@ -62,13 +62,6 @@ stepped R s p r h a b c d e x0 x1 x2 x3 x4 A B C D E e0 e1 e2 e3 e4 =
     (subst (Reduced 4 (r / 4294967296)) (sym e4) (at-9 (r / 4294967296) (top-byte r h))))
 
 module _ (R : ℕ) where
-  -- the lanes below j have five cells more
-  pub record RowTo (s : List ℕ) (q : ℕ) (o x : List ℕ) (j : ℕ) : Type 0 where
-    pub within : j ≤ R
-    pub long : length x ≡ length o
-    pub done : (i : ℕ) → i < j → Moved (getD o i 0) (fiveAt R s (q + i)) (getD x i 0)
-    pub rest : (i : ℕ) → j ≤ i → getD x i 0 ≡ getD o i 0
-
   -- the first h cells of the lanes below j
   pub record HeadTo (s : List ℕ) (h : ℕ) (x : List ℕ) (j : ℕ) : Type 0 where
     pub within : j ≤ R
@@ -115,23 +108,51 @@ module _ (R : ℕ) (some : 0 < R) where
 
   -- ---- a row
 
-  pub row-0 : (s : List ℕ) (q : ℕ) (o : List ℕ) → RowTo R s q o o 0
-  row-0 s q o = record { within = omega arith; long = refl; done = λ i h. absurd (omega arith); rest = λ i h. refl }
+  pub row-0 : (s : List ℕ) (q a : ℕ) (o : List ℕ) → a ≤ R → RowTo R s q a o o a
+  row-0 s q a o w =
+      record { from = omega arith; within = w; long = refl; done = λ i h l. absurd (omega arith); front = λ i h. refl; rest = λ i h. refl }
 
-  pub row-more : (s : List ℕ) (q : ℕ) (o x : List ℕ) (j v : ℕ) → j < R → j < length o → RowTo R s q o x j → Moved (getD x j 0) (fiveAt R s (q + j)) v
-      → RowTo R s q o (set x j v) (j + 1)
-  row-more s q o x j v hj room W N = record {
+  pub row-more : (s : List ℕ) (q a : ℕ) (o x : List ℕ) (j v : ℕ) → j < R → j < length o → RowTo R s q a o x j → Moved (getD x j 0) (fiveAt R s (q + j)) v
+      → RowTo R s q a o (set x j v) (j + 1)
+  row-more s q a o x j v hj room W N = record {
+    from = omega (arith, W .from);
     within = omega arith;
     long = simp length-set (W .long);
-    done = below-more (λ i. Moved (getD o i 0) (fiveAt R s (q + i)) (getD (set x j v) i 0)) j
-        (λ i h. subst (Moved (getD o i 0) (fiveAt R s (q + i))) (sym (getD-set-other x j i v 0 (λ e. omega (arith, e)))) (W .done i h))
-        (subst (Moved (getD o j 0) (fiveAt R s (q + j))) (sym (getD-set-same x j v 0 (omega (arith, W .long))))
-        (subst (λ (r : ℕ). Moved r (fiveAt R s (q + j)) v) (W .rest j (omega arith)) N));
+    done = λ i h l. below-more (λ i. a ≤ i → Moved (getD o i 0) (fiveAt R s (q + i)) (getD (set x j v) i 0)) j
+        (λ i l h. subst (Moved (getD o i 0) (fiveAt R s (q + i))) (sym (getD-set-other x j i v 0 (λ e. omega (arith, e)))) (W .done i h l))
+        (λ h. subst (Moved (getD o j 0) (fiveAt R s (q + j))) (sym (getD-set-same x j v 0 (omega (arith, W .long))))
+        (subst (λ (r : ℕ). Moved r (fiveAt R s (q + j)) v) (W .rest j (omega arith)) N)) i l h;
+    front = λ i h. getD-set-other x j i v 0 (λ e. omega (arith, e, W .from)) ∙ W .front i h;
     rest = λ i h. getD-set-other x j i v 0 (λ e. omega (arith, e)) ∙ W .rest i (omega arith);
   }
 
-  pub row-small : (s : List ℕ) (q : ℕ) (o x : List ℕ) (j : ℕ) → j < R → Room R o → RowTo R s q o x j → getD x j 0 < packedEnd
-  row-small s q o x j h room W = rw (W .rest j (omega arith)) (room .small j h)
+  -- group after group
+  pub row-after : (s : List ℕ) (q j k : ℕ) (o x y : List ℕ) → RowTo R s q 0 o x j → RowTo R s q j x y k → RowTo R s q 0 o y k
+  row-after s q j k o x y W X = record {
+    from = omega arith;
+    within = X .within;
+    long = X .long ∙ W .long;
+    done = λ i h l. go i l (lt-or-ge i j);
+    front = λ i h. absurd (omega arith);
+    rest = λ i h. X .rest i h ∙ W .rest i (omega (arith, X .from));
+  }
+    where
+      go : (i : ℕ) → i < k → (i < j) ⊎ (j ≤ i) → Moved (getD o i 0) (fiveAt R s (q + i)) (getD y i 0)
+      go i l (inl b) = subst (Moved (getD o i 0) (fiveAt R s (q + i))) (sym (X .front i b)) (W .done i (omega arith) b)
+      go i l (inr g) = subst (λ (r : ℕ). Moved r (fiveAt R s (q + i)) (getD y i 0)) (W .rest i g) (X .done i g l)
+
+  -- and the numbers stay small
+  pub row-small : (s : List ℕ) (q a : ℕ) (o x : List ℕ) (j : ℕ) → Room R o → RowTo R s q a o x j → (i : ℕ) → i < R → getD x i 0 < packedEnd
+  row-small s q a o x j room W i h = go (lt-or-ge i a) (lt-or-ge i j)
+    where
+      go : (i < a) ⊎ (a ≤ i) → (i < j) ⊎ (j ≤ i) → getD x i 0 < packedEnd
+      go (inl b) _ = rw (W .front i b) (room .small i h)
+      go (inr g) (inl b) = W .done i g b .small
+      go (inr g) (inr k) = rw (W .rest i k) (room .small i h)
+
+  pub row-keeps : (s : List ℕ) (q a : ℕ) (o x : List ℕ) (j : ℕ) → Room R o → RowTo R s q a o x j → Room R x
+  row-keeps s q a o x j room W =
+      record { some = room .some; few = room .few; long = W .long ∙ room .long; small = row-small s q a o x j room W }
 
   pub head-more : (s : List ℕ) (h : ℕ) (x : List ℕ) (j v : ℕ) → j < R → j < 16 → HeadTo R s h x j → Remains (take h (lane R j s)) v
       → HeadTo R s h (set x j v) (j + 1)
@@ -372,11 +393,3 @@ lane-word w =
   where
     same : (i : ℕ) → 1 * i + 0 ≡ i
     same i = omega arith
-
--- P at each of four
-pub four : (P : ℕ → Type 0) → P 0 → P 1 → P 2 → P 3 → (j : ℕ) → j < 4 → P j
-four P a b c d zero l = a
-four P a b c d (suc zero) l = b
-four P a b c d (suc (suc zero)) l = c
-four P a b c d (suc (suc (suc zero))) l = d
-four P a b c d (suc (suc (suc (suc j)))) l = absurd (omega arith)

@@ -1,7 +1,7 @@
 -- The remainder of a word by the generator: five packed bytes with the word's five sums.
 use mathlib.Core.Path.{_≡_}
 use mathlib.Core.List.{List, [], _∷_, _++_}
-use Prim.Native.Nat.{ℕ, _+_, _*_, _/_, _%_, _≤_, _<_}
+use Prim.Native.Nat.{ℕ, _+_, _*_, _-_, _/_, _%_, _≤_, _<_}
 use lib.Bits.{bitXor}
 use lib.IntN.{ℤ, pos, negsuc}
 use lib.Signed.{_≤ℤ_}
@@ -56,6 +56,10 @@ pub record Checks (d : List ℕ) (x : ℕ) : Type 0 where
   pub small : x < packedEnd
   pub clean : Clean gf256 (d ++ unpacked x)
 
+-- the lower of two numbers
+abbrev pub lower : ℕ → ℕ → ℕ
+lower a b = a - (a - b)
+
 -- ---- the lanes of the cells s, all at once: R of them
 
 module _ (R : ℕ) where
@@ -86,6 +90,15 @@ module _ (R : ℕ) where
     pub few : R ≤ 16
     pub long : length o ≡ 16
     pub small : (j : ℕ) → j < R → getD o j 0 < packedEnd
+
+  -- the numbers of the lanes from a on, up to lane j, five cells more, from cell q on; the others are as they were
+  pub record RowTo (s : List ℕ) (q a : ℕ) (o x : List ℕ) (j : ℕ) : Type 0 where
+    pub from : a ≤ j
+    pub within : j ≤ R
+    pub long : length x ≡ length o
+    pub done : (i : ℕ) → a ≤ i → i < j → Moved (getD o i 0) (fiveAt s (q + i)) (getD x i 0)
+    pub front : (i : ℕ) → i < a → getD x i 0 ≡ getD o i 0
+    pub rest : (i : ℕ) → j ≤ i → getD x i 0 ≡ getD o i 0
 
   -- each lane's number, five cells more, from cell q on
   abbrev pub RowMoved : List ℕ → ℕ → List ℕ → List ℕ → Type 0

@@ -6,7 +6,7 @@ ghost use Prim.Native.Nat.{_+_, _*_, _/_, _%_, _<_, _≤_};
 ghost use lib.ListN.{length};
 ghost use Rattle.account.specs.Code.{syndrome};
 ghost use Rattle.gf256.specs.Gf256.{gf256};
-ghost use Rattle.remainder.specs.Remainder.{packedEnd, Remains, Checks, LanesTo, LanesRemain, LanesCheck, fiveAt, FewOf, Room, Moved, RowMoved, RowsMoved, unpacked};
+ghost use Rattle.remainder.specs.Remainder.{packedEnd, Remains, Checks, LanesTo, LanesRemain, LanesCheck, fiveAt, FewOf, Room, Moved, lower, RowTo, RowMoved, RowsMoved, unpacked};
 
 // Room for the numbers of sixteen lanes.
 const LANES: usize = 16;
@@ -40,15 +40,29 @@ fn step(s: &[u8], lanes: usize, p: usize, r: u64) -> u64
     five ^ ((a ^ b) ^ reductions::at_9((r / 4294967296) as usize))
 }
 
-// Five cells more of each lane, from cell q on.
+// Five cells more of each lane from lane j on, of four at most. The loop has four turns whatever the lanes, and so the compiler writes it out.
+fn group(s: &[u8], lanes: usize, q: usize, j: usize, out: &mut [u64; LANES])
+    requires { ⌜ Room lanes (now out) × (q + 5 * lanes ≤ length (now s)) × (j ≤ lanes) ⌝ }
+    ensures { λ _. ⌜ RowTo lanes (now (s .entry)) q j (now (out .entry)) (now (out .exit)) (lower (j + 4) lanes) ⌝ }
+{
+    let mut i: usize = 0;
+    while i < 4 {
+        if j + i < lanes {
+            out[j + i] = step(s, lanes, q + (j + i), out[j + i]);
+        }
+        i += 1;
+    }
+}
+
+// Five cells more of each lane, from cell q on, four lanes at a time.
 fn row(s: &[u8], lanes: usize, q: usize, out: &mut [u64; LANES])
     requires { ⌜ Room lanes (now out) × (q + 5 * lanes ≤ length (now s)) ⌝ }
     ensures { λ _. ⌜ RowMoved lanes (now (s .entry)) q (now (out .entry)) (now (out .exit)) × (length (now (out .exit)) ≡ 16) ⌝ }
 {
     let mut j: usize = 0;
     while j < lanes {
-        out[j] = step(s, lanes, q + j, out[j]);
-        j += 1;
+        group(s, lanes, q, j, out);
+        j += 4;
     }
 }
 
@@ -106,7 +120,7 @@ pub fn remainders(s: &[u8], lanes: usize) -> [u64; LANES]
 }
 
 // The check bytes after the lanes of data: the remainders of the data with five zeros after each lane.
-fn checks(data: &[u8], lanes: usize) -> [u64; LANES]
+pub fn lane_checks_of(data: &[u8], lanes: usize) -> [u64; LANES]
     requires { ⌜ (1 ≤ lanes) × (lanes ≤ 16) ⌝ }
     ensures { λ x. ⌜ LanesCheck lanes (now («data» .entry)) x ⌝ }
 {
@@ -128,16 +142,8 @@ pub fn remainder_of(w: &[u8]) -> u64
 pub fn checks_of(data: &[u8]) -> u64
     ensures { λ x. ⌜ Checks (now («data» .entry)) x ⌝ }
 {
-    let x = checks(data, 1);
+    let x = lane_checks_of(data, 1);
     x[0]
-}
-
-// The five check bytes after each of the four lanes of data.
-pub fn lane_checks_of(data: &[u8]) -> [u64; 4]
-    ensures { λ x. ⌜ LanesCheck 4 (now («data» .entry)) x ⌝ }
-{
-    let x = checks(data, 4);
-    [x[0], x[1], x[2], x[3]]
 }
 
 // The five sums of the packed bytes, packed too: those of each half byte, added.

@@ -8,10 +8,19 @@ use native.Mathlib.Omega.{arith}
 use lib.ListN.{length, getD, set, take, drop, length-set, length-append, length-drop, drop-of-length-le, List·getD-append}
 use lib.Seq.{getD-set-same, getD-set-other, getD-take, getD-drop, getD-append-add, take-length, length-take-le, drop-drop}
 use Rattle.rules.specs.Placed.{Placed, Laid}
+use Rattle.rules.proofs.Numbers.{lt-or-ge}
 
 module _ (a : ℕ) (v : ℕ → ℕ) (o : List ℕ) where
   pub placed-0 : Placed a a v o o
   placed-0 = record { long = refl; inside = λ p h k. absurd (omega arith); outside = λ p h. refl }
+
+  -- and then those up to a later one
+  pub placed-after : (b c : ℕ) (x y : List ℕ) → a ≤ b → b ≤ c → Placed a b v o x → Placed b c v x y → Placed a c v o y
+  placed-after b c x y ab bc P Q = record {
+    long = Q .long ∙ P .long;
+    inside = λ p h k. ⊎-elim (λ l. Q .outside p (inl l) ∙ P .inside p h l) (λ g. Q .inside p g k) (lt-or-ge p b);
+    outside = λ p h. ⊎-elim (λ l. Q .outside p (inl (omega arith)) ∙ P .outside p (inl l)) (λ g. Q .outside p (inr g) ∙ P .outside p (inr (omega arith))) h;
+  }
 
   pub placed-more : (x : List ℕ) (b w : ℕ) → a ≤ b → b < length o → w ≡ v b → Placed a b v o x → Placed a (b + 1) v o (set x b w)
   placed-more x b w ab h e P = record {

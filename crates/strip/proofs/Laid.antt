@@ -10,17 +10,18 @@ use lib.Seq.{ext-getD, getD-take, getD-drop, length-take-le}
 use Rattle.account.specs.Code.{Cells}
 use Rattle.account.proofs.Lanes.{getD-past, cell}
 use Rattle.gf256.specs.Gf256.{gf256}
-use Rattle.rules.specs.Refusal.{First, asked}
+use Rattle.rules.specs.Refusal.{First, Within, asked}
 use Rattle.rules.specs.Placed.{Placed}
 use Rattle.dealt.specs.Lanes.{ChecksPut}
 use Rattle.code.specs.declared.word.Written.the-variants as written
 use Rattle.level.specs.Sizes.{stripMost}
 use Rattle.level.specs.Level.{Level, IsLevel, lending}
 use Rattle.level.specs.Record.{recordLength}
-use Rattle.level.specs.Strip.{columns, IsStrip}
-use Rattle.level.specs.Writing.{writingLevel}
+use Rattle.level.specs.Strip.{LaneCount, columns, IsStrip}
+use Rattle.level.specs.Writing.{writingStrip}
 use Rattle.rules.proofs.Numbers.{lt-or-ge}
 use Rattle.level.proofs.Dealing.{within}
+use Rattle.level.proofs.Lengths.{lanes-within, columns-few, strip-short}
 use Rattle.lending.specs.Lending.{RecordPut}
 use Rattle.fields.proofs.Tiles.{area-small}
 use Rattle.strip.specs.Writing.{stripLength, LaidAs, StripWritesAs}
@@ -31,6 +32,31 @@ record-fits l il =
     let a = area-small (l .width) (l .height) (il .ranged .sized .not-wider) (il .ranged .sized .not-higher) in
     let b : 1 * 1 ≤ l .width * l .height = mul-le-mul (il .ranged .sized .wide) (il .ranged .sized .high) in
     (omega (arith, b), omega (arith, a))
+
+-- the numbers of the strip of a record of b bytes
+pub record StripFits (R b : ℕ) : Type 0 where
+  pub lanes : Within 1 16 R
+  pub bytes : b ≤ 364
+  pub few : columns R b + 5 ≤ 187
+  pub holds : b ≤ R * columns R b
+  pub front : R * columns R b ≤ stripMost
+  pub cells : R * (columns R b + 5) ≤ stripMost
+
+pub strip-fits : (R : ℕ) → LaneCount R → (l : Level) → IsLevel l → (b : ℕ) → b ≡ recordLength (l .width) (l .height) → StripFits R b
+strip-fits R lanes l il b e = record {
+  lanes = record { from = omega (arith, lanes-within R lanes .from); to = lanes-within R lanes .to };
+  bytes = most;
+  few = columns-few R lanes b least most;
+  holds = within R (omega (arith, lanes-within R lanes .from)) b;
+  front = omega (arith, strip-short R lanes b least most, mul-add R (columns R b) 5);
+  cells = strip-short R lanes b least most;
+}
+  where
+    least : 4 ≤ b
+    least = omega (arith, e, record-fits l il .0)
+
+    most : b ≤ 364
+    most = omega (arith, e, record-fits l il .1)
 
 module _ (R : ℕ) (some : 0 < R) (l : Level) (o x1 x2 x3 : List ℕ) (b k : ℕ) (put : RecordPut l o x1 b) (ek : k ≡ columns R b)
     (filled : Placed b (R * k) (λ p. 0) x1 x2) (checks : ChecksPut gf256 R k x2 x3) (room : R * (k + 5) ≤ length o) (bytes : Cells gf256 x3) where
@@ -114,13 +140,13 @@ module _ (R : ℕ) (some : 0 < R) (l : Level) (o x1 x2 x3 : List ℕ) (b k : ℕ
 -- ---- the writer's answers
 
 module _ (R : ℕ) (l : Level) (old : List ℕ) where
-  pub wrote-none : (c : ℕ) → (c ≡ 0 → ⊥) → First (writingLevel stripMost l (length old)) c → StripWritesAs R l old old (written.Refused c)
+  pub wrote-none : (c : ℕ) → (c ≡ 0 → ⊥) → First (writingStrip R l (length old)) c → StripWritesAs R l old old (written.Refused c)
   wrote-none c n f = record { code = f; value = λ z. absurd (n z); strip = λ z. absurd (n z); past = λ z. absurd (n z); kept = λ _. refl }
 
-  pub wrote-strip : (new : List ℕ) (c n : ℕ) → stripMost ≤ length old → c ≡ 0 → First (asked (λ ask. ask l) (lending 2)) c → LaidAs R l old new n
+  pub wrote-strip : (new : List ℕ) (c n : ℕ) → LaneCount R → stripMost ≤ length old → c ≡ 0 → First (asked (λ ask. ask l) (lending 2)) c → LaidAs R l old new n
       → StripWritesAs R l old new (written.Length n)
-  wrote-strip new c n room z f L = record {
-    code = inr (room, subst (First (asked (λ ask. ask l) (lending 2))) z f);
+  wrote-strip new c n lanes room z f L = record {
+    code = inr (lanes, inr (room, subst (First (asked (λ ask. ask l) (lending 2))) z f));
     value = λ _. L .size;
     strip = λ _. L .strip;
     past = λ _. L .past;

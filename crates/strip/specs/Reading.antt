@@ -5,12 +5,12 @@ use Prim.Native.Nat.{ℕ, _*_, _≤_}
 use lib.ListN.{length, drop}
 use Rattle.account.specs.Field.{Ops}
 use Rattle.gf256.specs.Gf256.{gf256}
-use Rattle.rules.specs.Refusal.{First, Hold, asked}
+use Rattle.rules.specs.Refusal.{Rule, First, Hold, asked}
 use Rattle.level.specs.Sizes.{tilesMost, scratchLeast}
 use Rattle.level.specs.Level.{Level}
 use Rattle.level.specs.Record.{fieldAt}
 use Rattle.level.specs.Strip.{Reached, Lowest, mendedOf, repaintedOf, IsWear}
-use Rattle.level.specs.Reading.{ReadNumbers, refusedAt, returned, enteringWith, mending, judging, tilesOf}
+use Rattle.level.specs.Reading.{ReadNumbers, refusedAt, returned, entering, mending, judging, tilesOf}
 use Rattle.strip.specs.declared.read.Reading.{Reading}
 use Rattle.strip.specs.declared.read.Reading.the-variants as reading
 use Rattle.fields.specs.Judged.{AcceptedAs}
@@ -18,7 +18,18 @@ use Rattle.fields.specs.declared.judged.Judged.{Judged}
 
 -- the numbers of an answer
 abbrev pub stripNumbers : Reading → ReadNumbers
-stripNumbers (reading.Read n w h p e d v) = record { code = 0; lane = 0; version = n; width = w; height = h; par = p; mended = e; repainted = d; wear = v }
+stripNumbers (reading.Read n w h p e d v r) = record {
+  code = 0;
+  lane = 0;
+  version = n;
+  width = w;
+  height = h;
+  par = p;
+  mended = e;
+  repainted = d;
+  wear = v;
+  lanes = r;
+}
 stripNumbers (reading.Refused c j) = refusedAt c j
 
 -- FORMAT 11.4 to 11.7, 11.13, 10.6: the level returned has a strip within reach, and no other level has, of the versions up to this one. Mended and
@@ -29,24 +40,26 @@ pub record LevelRead (O : Ops) (upto R : ℕ) (s marks tiles tiles' : List ℕ) 
   pub only : (l : Level) (t : List ℕ) → Reached O R upto marks s l t → l ≡ returned n tiles'
   pub mended-is : n .mended ≡ mendedOf R marks s strip
   pub repainted-is : n .repainted ≡ repaintedOf R marks s strip
+  pub lanes-is : n .lanes ≡ R
   pub wear-is : IsWear (n .mended) (length s) (n .wear)
   pub rest : drop (n .width * n .height) tiles' ≡ drop (n .width * n .height) tiles
 
 -- FORMAT 8.13, 9.44, 9.45, 10.2 to 10.4: refused before the picture was looked at, the scratch is kept; refused by the picture, no level is
--- within reach. Only then, and with a level, is the scratch free. Versions up to `upto` are taken; of the scratch at least so many bytes are asked for.
-pub record ReadsWith (upto least R : ℕ) (s marks tiles tiles' scratch scratch' : List ℕ) (a : Reading) : Type 0 where
-  pub code : First (enteringWith least R s marks (length tiles) (length scratch) ++ mending upto gf256 R s marks) (stripNumbers a .code)
+-- within reach. Only then, and with a level, is the scratch free. Versions up to `upto` are taken; the rules `early` are asked before the picture is.
+pub record ReadsWith (upto R : ℕ) (early : List Rule) (s marks tiles tiles' scratch scratch' : List ℕ) (a : Reading) : Type 0 where
+  pub code : First (early ++ mending gf256 R upto s marks) (stripNumbers a .code)
   pub lane : stripNumbers a .code ≡ 6 → Lowest gf256 R marks s (stripNumbers a .lane)
   pub other-lane : (stripNumbers a .code ≡ 6 → ⊥) → stripNumbers a .lane ≡ 0
   pub level : stripNumbers a .code ≡ 0 → LevelRead gf256 upto R s marks tiles tiles' (stripNumbers a)
-  pub no-level : Hold (enteringWith least R s marks (length tiles) (length scratch)) → (stripNumbers a .code ≡ 0 → ⊥) → (l : Level) (t : List ℕ)
+  pub no-level : Hold early → (stripNumbers a .code ≡ 0 → ⊥) → (l : Level) (t : List ℕ)
       → Reached gf256 R upto marks s l t → ⊥
   pub tiles-kept : (stripNumbers a .code ≡ 0 → ⊥) → tiles' ≡ tiles
-  pub scratch-kept : (Hold (enteringWith least R s marks (length tiles) (length scratch)) → ⊥) → scratch' ≡ scratch
+  pub scratch-kept : (Hold early → ⊥) → scratch' ≡ scratch
 
--- the promise of the strip reader of versions up to this one: it asks for one lane
+-- the promise of the strip reader of versions up to this one
 abbrev pub StripReadsAs : ℕ → ℕ → List ℕ → List ℕ → List ℕ → List ℕ → List ℕ → List ℕ → Reading → Type 0
-StripReadsAs upto = ReadsWith upto scratchLeast
+StripReadsAs upto R s marks tiles tiles' scratch scratch' =
+    ReadsWith upto R (entering R s marks (length tiles) (length scratch)) s marks tiles tiles' scratch scratch'
 
 -- FORMAT 11.1: a strip that we read, with its marks: the reader was lent buffers that are long enough
 pub record WeRead (upto R : ℕ) (s marks : List ℕ) : Type 0 where
@@ -62,6 +75,13 @@ pub record WeRead (upto R : ℕ) (s marks : List ℕ) : Type 0 where
 -- whatever the reader then answers is as P says of the numbers and the tiles
 abbrev pub Answers : ℕ → ℕ → List ℕ → List ℕ → (ReadNumbers → List ℕ → Type 0) → Type 0
 Answers upto R s marks P = (r : WeRead upto R s marks) → P (stripNumbers (r .answer)) (r .tiles')
+
+-- FORMAT 14.3, 14.4: how many neighbouring cells of a strip that we wrote a sticker may change, or hide where they are marked
+abbrev pub changedMost : ℕ → ℕ
+changedMost R = 2 * R
+
+abbrev pub markedMost : ℕ → ℕ
+markedMost R = 5 * R
 
 -- FORMAT 8.15: the level l is returned
 pub record Gives (l : Level) (n : ReadNumbers) (tiles' : List ℕ) : Type 0 where
@@ -81,6 +101,7 @@ pub record FinishedAs (upto R : ℕ) (bs : List ℕ) (N e d : ℕ) (tiles tiles'
   pub mended : n .code ≡ 0 → n .mended ≡ e
   pub repainted : n .code ≡ 0 → n .repainted ≡ d
   pub wear : n .code ≡ 0 → IsWear e N (n .wear)
+  pub lanes : n .code ≡ 0 → n .lanes ≡ R
   pub tiles-are : n .code ≡ 0 → tiles' ≡ tilesOf bs ++ drop (n .width * n .height) tiles
   pub kept : (n .code ≡ 0 → ⊥) → tiles' ≡ tiles
 

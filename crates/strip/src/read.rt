@@ -3,20 +3,15 @@ ghost use Prim.Native.Nat.{_≤_};
 ghost use lib.ListN.{length};
 ghost use Rattle.rules.specs.Refusal.{Within};
 ghost use Rattle.level.specs.Level.{newest};
-ghost use Rattle.level.specs.Strip.{Legal, IsWear};
+ghost use Rattle.level.specs.Strip.{LaneCount, Legal, IsWear};
 ghost use Rattle.level.specs.Reading.{dataOf};
 ghost use Rattle.patches.specs.Patched.{patched};
 ghost use Rattle.fields.specs.Judged.{AcceptedAs};
 ghost use Rattle.strip.specs.Reading.{stripNumbers, FinishesAs, StripReadsAs};
-ghost use Rattle.level.specs.Sizes.{tilesMost, scratchLeast, stripLeast, stripMost};
+ghost use Rattle.level.specs.Sizes.{tilesMost, scratchLeast, stripMost};
 use fields::judged::Judged;
 use level::NEWEST;
 use patches::FIXES;
-
-// The lanes of a strip, and the cells that check them.
-const LANES: usize = 4;
-
-const CHECKS: usize = 20;
 
 // What reading answers: the level's numbers with what was mended and repainted, or a refusal's number and lane.
 pub enum Reading {
@@ -28,6 +23,7 @@ pub enum Reading {
         mended: usize,
         repainted: usize,
         wear: usize,
+        lanes: usize,
     },
     Refused {
         code: u8,
@@ -38,7 +34,7 @@ pub enum Reading {
 // Percent of the cells that were mended, to the nearest whole number. The quotient is too low where more than half a percent is left; an exact
 // half goes to the even number, so an odd quotient gives way to it.
 fn wear(mended: usize, n: usize) -> usize
-    requires { ⌜ (mended ≤ 8) × Within stripLeast stripMost n ⌝ }
+    requires { ⌜ (mended ≤ 32) × Within 1 stripMost n ⌝ }
     ensures { λ r. ⌜ IsWear mended n r ⌝ }
 {
     let percents = 100 * mended;
@@ -52,6 +48,7 @@ fn wear(mended: usize, n: usize) -> usize
 // The record in the data cells of the strip, of which count are to be put right. With nothing to put right the strip is its own window.
 fn accept(
     upto: usize,
+    lanes: usize,
     strip: &[u8],
     cells: &[u16; FIXES],
     bytes: &[u8; FIXES],
@@ -59,20 +56,20 @@ fn accept(
     tiles: &mut [u8],
     scratch: &mut [u8],
 ) -> Judged
-    requires { ⌜ Legal 4 (length (now strip)) × (count ≤ 80) × (tilesMost ≤ length (now tiles)) × (scratchLeast ≤ length (now scratch)) ⌝ }
-    ensures { λ r. ⌜ AcceptedAs upto 4 (dataOf 4 (patched (now (cells .entry)) (now (bytes .entry)) count (now (strip .entry)))) (now (tiles .entry)) (now (tiles .exit)) r ⌝ }
+    requires { ⌜ LaneCount lanes × Legal lanes (length (now strip)) × (count ≤ 80) × (tilesMost ≤ length (now tiles)) × (scratchLeast ≤ length (now scratch)) ⌝ }
+    ensures { λ r. ⌜ AcceptedAs upto lanes (dataOf lanes (patched (now (cells .entry)) (now (bytes .entry)) count (now (strip .entry)))) (now (tiles .entry)) (now (tiles .exit)) r ⌝ }
 {
-    let to = strip.len() - CHECKS;
+    let to = strip.len() - lanes * 5;
     if count == 0 {
-        return record::read::accept(upto, &strip[0..to], LANES, tiles);
+        return record::read::accept(upto, &strip[0..to], lanes, tiles);
     }
-    windows::accept(upto, strip, cells, bytes, count, LANES, to, tiles, scratch)
+    windows::accept(upto, strip, cells, bytes, count, lanes, to, tiles, scratch)
 }
 
 // The answer for a record that was judged, of a strip of n cells of which so many were mended and repainted.
-fn finish(j: Judged, n: usize, mended: usize, repainted: usize) -> Reading
-    requires { ⌜ (mended ≤ 8) × Within stripLeast stripMost n ⌝ }
-    ensures { λ r. ⌜ FinishesAs 4 j n mended repainted (stripNumbers r) ⌝ }
+fn finish(j: Judged, lanes: usize, n: usize, mended: usize, repainted: usize) -> Reading
+    requires { ⌜ (mended ≤ 32) × Within 1 stripMost n ⌝ }
+    ensures { λ r. ⌜ FinishesAs lanes j n mended repainted (stripNumbers r) ⌝ }
 {
     let code = j.code;
     if code != 0 {
@@ -86,20 +83,22 @@ fn finish(j: Judged, n: usize, mended: usize, repainted: usize) -> Reading
         mended,
         repainted,
         wear: wear(mended, n),
+        lanes,
     }
 }
 
 // Reads a strip of a version up to one of them: the level within reach, or a refusal. The strip and its marks are not written to.
 fn read_upto(
     upto: usize,
+    lanes: usize,
     strip: &[u8],
     marks: &[u8],
     tiles: &mut [u8],
     scratch: &mut [u8],
 ) -> Reading
-    ensures { λ r. ⌜ StripReadsAs upto 4 (now (strip .entry)) (now (marks .entry)) (now (tiles .entry)) (now (tiles .exit)) (now (scratch .entry)) (now (scratch .exit)) r ⌝ }
+    ensures { λ r. ⌜ StripReadsAs upto lanes (now (strip .entry)) (now (marks .entry)) (now (tiles .entry)) (now (tiles .exit)) (now (scratch .entry)) (now (scratch .exit)) r ⌝ }
 {
-    let entered = entry::enter(strip, marks, tiles.len(), scratch.len());
+    let entered = entry::enter(lanes, strip, marks, tiles.len(), scratch.len());
     let code = entered.code;
     if code != 0 {
         return Reading::Refused { code, lane: 0 };
@@ -110,31 +109,43 @@ fn read_upto(
         strip,
         marks,
         entered.marked as usize,
-        LANES,
+        lanes,
         &mut cells,
         &mut bytes,
     );
     let beyond = m.beyond;
-    if beyond < LANES {
+    if beyond < lanes {
         return Reading::Refused {
             code: 6,
             lane: beyond,
         };
     }
-    let j = accept(upto, strip, &cells, &bytes, m.noted, tiles, scratch);
-    finish(j, strip.len(), m.mended, m.repainted)
+    let j = accept(upto, lanes, strip, &cells, &bytes, m.noted, tiles, scratch);
+    finish(j, lanes, strip.len(), m.mended, m.repainted)
 }
 
-// Reads a strip.
-pub fn read(strip: &[u8], marks: &[u8], tiles: &mut [u8], scratch: &mut [u8]) -> Reading
-    ensures { λ r. ⌜ StripReadsAs newest 4 (now (strip .entry)) (now (marks .entry)) (now (tiles .entry)) (now (tiles .exit)) (now (scratch .entry)) (now (scratch .exit)) r ⌝ }
+// Reads a strip of the lanes that are told.
+pub fn read(
+    lanes: usize,
+    strip: &[u8],
+    marks: &[u8],
+    tiles: &mut [u8],
+    scratch: &mut [u8],
+) -> Reading
+    ensures { λ r. ⌜ StripReadsAs newest lanes (now (strip .entry)) (now (marks .entry)) (now (tiles .entry)) (now (tiles .exit)) (now (scratch .entry)) (now (scratch .exit)) r ⌝ }
 {
-    read_upto(NEWEST, strip, marks, tiles, scratch)
+    read_upto(NEWEST, lanes, strip, marks, tiles, scratch)
 }
 
 // Reads a strip of version 1; every other version is refused.
-pub fn read_v1(strip: &[u8], marks: &[u8], tiles: &mut [u8], scratch: &mut [u8]) -> Reading
-    ensures { λ r. ⌜ StripReadsAs 1 4 (now (strip .entry)) (now (marks .entry)) (now (tiles .entry)) (now (tiles .exit)) (now (scratch .entry)) (now (scratch .exit)) r ⌝ }
+pub fn read_v1(
+    lanes: usize,
+    strip: &[u8],
+    marks: &[u8],
+    tiles: &mut [u8],
+    scratch: &mut [u8],
+) -> Reading
+    ensures { λ r. ⌜ StripReadsAs 1 lanes (now (strip .entry)) (now (marks .entry)) (now (tiles .entry)) (now (tiles .exit)) (now (scratch .entry)) (now (scratch .exit)) r ⌝ }
 {
-    read_upto(1, strip, marks, tiles, scratch)
+    read_upto(1, lanes, strip, marks, tiles, scratch)
 }

@@ -4,6 +4,7 @@ ghost use lib.ListN.{length};
 ghost use Rattle.rules.specs.Placed.{Placed};
 ghost use Rattle.level.specs.Sizes.{stripMost};
 ghost use Rattle.level.specs.Level.{IsLevel};
+ghost use Rattle.level.specs.Strip.{LaneCount};
 ghost use Rattle.level.specs.Writing.{lent};
 ghost use Rattle.strip.specs.Writing.{StripWritesAs, LaidAs};
 use code::word::Written;
@@ -23,19 +24,28 @@ fn fill(x: &mut [u8], from: usize, to: usize)
 }
 
 // The level's strip, in the first cells of a buffer; its length.
-fn lay(version: usize, w: usize, h: usize, par: usize, tiles: &[u8], out: &mut [u8]) -> usize
-    requires { ⌜ IsLevel (lent version w h par (now tiles)) × (stripMost ≤ length (now out)) ⌝ }
-    ensures { λ r. ⌜ LaidAs 4 (lent version w h par (now (tiles .entry))) (now (out .entry)) (now (out .exit)) r ⌝ }
+fn lay(
+    lanes: usize,
+    version: usize,
+    w: usize,
+    h: usize,
+    par: usize,
+    tiles: &[u8],
+    out: &mut [u8],
+) -> usize
+    requires { ⌜ LaneCount lanes × IsLevel (lent version w h par (now tiles)) × (stripMost ≤ length (now out)) ⌝ }
+    ensures { λ r. ⌜ LaidAs lanes (lent version w h par (now (tiles .entry))) (now (out .entry)) (now (out .exit)) r ⌝ }
 {
     let b = lending::put_record(version, w, h, par, tiles, out);
-    let k = (b + 3) / 4;
-    fill(out, b, 4 * k);
-    dealt::put_checks(out, k);
-    4 * (k + 5)
+    let k = (b + (lanes - 1)) / lanes;
+    fill(out, b, lanes * k);
+    dealt::put_checks(out, lanes, k);
+    lanes * (k + 5)
 }
 
-// Writes the strip of a level of the version that is told.
+// Writes the strip of a level, with the lanes and of the version that are told.
 pub fn write(
+    lanes: usize,
     version: usize,
     w: usize,
     h: usize,
@@ -43,8 +53,11 @@ pub fn write(
     tiles: &[u8],
     out: &mut [u8],
 ) -> Written
-    ensures { λ r. ⌜ StripWritesAs 4 (lent version w h par (now (tiles .entry))) (now (out .entry)) (now (out .exit)) r ⌝ }
+    ensures { λ r. ⌜ StripWritesAs lanes (lent version w h par (now (tiles .entry))) (now (out .entry)) (now (out .exit)) r ⌝ }
 {
+    if !entry::named(lanes) {
+        return Written::Refused(15);
+    }
     if out.len() < STRIP_MOST {
         return Written::Refused(4);
     }
@@ -52,5 +65,5 @@ pub fn write(
     if code != 0 {
         return Written::Refused(code);
     }
-    Written::Length(lay(version, w, h, par, tiles, out))
+    Written::Length(lay(lanes, version, w, h, par, tiles, out))
 }

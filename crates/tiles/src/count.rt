@@ -49,7 +49,7 @@ fn eight(rows: &[u64; 9], v: u64) -> u64
 
 // What the tiles from group g on add, eight at a time.
 fn rest(part: &[u8], g: usize) -> u64
-    requires { ⌜ (length (now part) ≤ 361) × (3 * g ≤ length (now part)) ⌝ }
+    requires { ⌜ (length (now part) ≤ 376) × (3 * g ≤ length (now part)) ⌝ }
     ensures { λ r. ⌜ CountedFrom (now (part .entry)) g r ⌝ }
 {
     let rows = super::tile::rows();
@@ -65,7 +65,7 @@ fn rest(part: &[u8], g: usize) -> u64
 // What the tiles of a record's part from byte 3 add, in all; its filling is floor, which adds nothing. With the zero, of which only we know
 // that it is none, the compiler keeps eight bytes one load.
 pub fn tally(part: &[u8]) -> u64
-    requires { ⌜ length (now part) ≤ 361 ⌝ }
+    requires { ⌜ length (now part) ≤ 376 ⌝ }
     ensures { λ r. ⌜ Counted (now (part .entry)) r ⌝ }
 {
     let zero = (part.len() / 4096) as u64;

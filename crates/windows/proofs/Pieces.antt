@@ -55,23 +55,23 @@ module _ (bs : List ℕ) (a n : ℕ) (w : List ℕ) (S : Sees bs a n w) where
         all : (q : ℕ) → getD w q 0 ≡ getD bs (a + q) 0
         all q = ⊎-elim (λ l. S .same q l) (λ l. getD-past w q (omega (arith, long)) ∙ sym (getD-past bs (a + q) (omega (arith, e)))) (lt-or-ge q n)
 
-    none-past : length w ≡ n → n ≡ 96 → (i : ℕ) → addsAt w (256 + i) ≡ 0
-    none-past long e i = ap weighed (field-none w (3 * (256 + i)) 3 (λ q h. bit-past w q (omega (arith, long, e))))
+    none-past : length w ≡ n → n ≡ 186 → (i : ℕ) → addsAt w (496 + i) ≡ 0
+    none-past long e i = ap weighed (field-none w (3 * (496 + i)) 3 (λ q h. bit-past w q (omega (arith, long, e))))
 
-    pub full-sum : length w ≡ n → n ≡ 96 → (x r : ℕ) → x ≡ sumOf (8 * g) (addsAt part) → Counted w r → x + r ≡ sumOf (8 * (g + 32)) (addsAt part)
+    pub full-sum : length w ≡ n → n ≡ 186 → (x r : ℕ) → x ≡ sumOf (8 * g) (addsAt part) → Counted w r → x + r ≡ sumOf (8 * (g + 62)) (addsAt part)
     full-sum long e x r ex C =
-        let z : 8 * (g + 32) ≡ 8 * g + 256 = omega arith in
-        let y : 8 * (length w / 3 + 1) ≡ 256 + 8 = omega (arith, long, e) in
+        let z : 8 * (g + 62) ≡ 8 * g + 496 = omega arith in
+        let y : 8 * (length w / 3 + 1) ≡ 496 + 8 = omega (arith, long, e) in
         omega (
           arith,
           ex,
           C .all,
           ap (λ (k : ℕ). sumOf k (addsAt w)) y,
-          sum-append 256 8 (addsAt w),
-          sum-none 8 (λ i. addsAt w (256 + i)) (none-past long e),
+          sum-append 496 8 (addsAt w),
+          sum-none 8 (λ i. addsAt w (496 + i)) (none-past long e),
           ap (λ (k : ℕ). sumOf k (addsAt part)) z,
-          sum-append (8 * g) 256 (addsAt part),
-          sum-cong 256 (addsAt w) (λ i. addsAt part (8 * g + i)) (λ i h. tile-seen i (omega (arith, e))),
+          sum-append (8 * g) 496 (addsAt part),
+          sum-cong 496 (addsAt w) (λ i. addsAt part (8 * g + i)) (λ i h. tile-seen i (omega (arith, e))),
         )
 
     pub last-sum : a + n ≡ length bs → length w ≡ n → (x r : ℕ) → x ≡ sumOf (8 * g) (addsAt part) → Counted w r

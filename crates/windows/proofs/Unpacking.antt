@@ -17,8 +17,8 @@ use Rattle.tiles.proofs.Putting.{tiles-put}
 use Rattle.windows.proofs.Pieces.{Sees}
 
 -- a window of n bytes has the k tiles that are next, and where more are to come, no others
-pub window-holds : (to from m t n k : ℕ) → 8 * from ≡ 24 + 3 * t → 24 + 3 * m ≤ 8 * to → n ≤ 96 → from + n ≤ to → (from + n < to → n ≡ 96)
-    → t < m → k ≤ 256 → k ≤ m - t → (k < m - t → k ≡ 256) → (3 * k ≤ 8 * n) × (t + k < m → 8 * n ≡ 3 * k)
+pub window-holds : (to from m t n k : ℕ) → 8 * from ≡ 24 + 3 * t → 24 + 3 * m ≤ 8 * to → n ≤ 186 → from + n ≤ to → (from + n < to → n ≡ 186)
+    → t < m → k ≤ 496 → k ≤ m - t → (k < m - t → k ≡ 496) → (3 * k ≤ 8 * n) × (t + k < m → 8 * n ≡ 3 * k)
 window-holds to from m t n k on room most inside full more few left all =
     ⊎-elim (λ l. (omega (arith, full l), λ h. omega (arith, full l, all (omega arith)))) (λ l. (omega arith, λ h. absurd (omega (arith, all (omega arith)))))
     (lt-or-ge (from + n) to)

@@ -96,7 +96,7 @@ module _ (bs : List ℕ) (bits : ℕ) where
   }
 
   module _ (from sum n r : ℕ) (w : List ℕ) (W : Weighing from sum) (more : from < length bs) (S : Sees bs from n w) (long : length w ≡ n)
-      (full : from + n < length bs → n ≡ 96) (d : ℕ) (left : d ≡ bits - 8 * from) where
+      (full : from + n < length bs → n ≡ 186) (d : ℕ) (left : d ≡ bits - 8 * from) where
     pub some-seen : 0 < n
     some-seen = ⊎-elim (λ l. omega (arith, full l)) (λ l. omega arith) (lt-or-ge (from + n) (length bs))
 
@@ -110,7 +110,7 @@ module _ (bs : List ℕ) (bits : ℕ) where
         goes l = record {
           within = omega arith;
           start = omega (arith, W .start);
-          g = W .g + 32;
+          g = W .g + 62;
           few = omega (arith, W .few, full l);
           sum-is = full-sum bs from n w S (W .g) (W .on more) long (full l) sum r (W .sum-is) C;
           small = omega (arith, W .small, C .small, long, full l, count);
@@ -119,7 +119,7 @@ module _ (bs : List ℕ) (bits : ℕ) where
           clear = clear;
         }
           where
-            count : length w / 3 ≡ 32
+            count : length w / 3 ≡ 62
             count = omega (arith, long, full l)
 
         ends : length bs ≤ from + n → Weighing (from + n) (sum + r)

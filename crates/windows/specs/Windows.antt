@@ -6,7 +6,7 @@ use Prim.Native.Nat.{ℕ, _*_, _-_, _≤_, _<_}
 use lib.ListN.{length, take, drop}
 use Rattle.rules.specs.Says.{Says}
 use Rattle.level.specs.Record.{bitAt}
-use Rattle.level.specs.Sizes.{recordLeast, recordMost}
+use Rattle.level.specs.Sizes.{recordLeast, filledMost}
 use Rattle.tiles.specs.Sum.{PartSummed}
 use Rattle.windows.specs.declared.Weighed.{Weighed}
 
@@ -14,9 +14,9 @@ use Rattle.windows.specs.declared.Weighed.{Weighed}
 pub record Lent (s : List ℕ) (count to scratch : ℕ) : Type 0 where
   pub few : count ≤ 80
   pub some : recordLeast ≤ to
-  pub short : to ≤ recordMost
+  pub short : to ≤ filledMost
   pub inside : to ≤ length s
-  pub room : 96 ≤ scratch
+  pub room : 186 ≤ scratch
 
 -- no bit is set from a place on, and then what the tiles of the part from byte 3 add
 pub record WeighedAs (bs : List ℕ) (bits : ℕ) (r : Weighed) : Type 0 where

@@ -19,7 +19,7 @@ use patches::FIXES;
 const HEAD: usize = 3;
 
 // Tiles in a full window.
-const TILES: usize = 256;
+const TILES: usize = 496;
 
 // The fields in front of the tiles.
 fn head(

@@ -31,11 +31,12 @@ same-length c = search needs
 
 returns : tie.Need-returns
 returns c =
-    let s = c .before .before .before .before .before .before .before .before in
-    let q = c .before .before .before .before .lane-checks-of in
-    let e : 4 * s .args .k - 0 ≡ 4 * s .args .k = omega arith in
-    checks-put (s .args .k) (s .args .x .now) (c .before .before .place-checks .last .0) (q .result) (s .pre .1)
-    (subst (λ (n : ℕ). LanesCheck 4 (take n (s .args .x .now)) (q .result)) e (q .ensures)) (c .before .before .place-checks .ensures)
+    let s = c .before .before .before .before .before .before .before .before .before in
+    let a = s .args in
+    let q = c .before .before .before .before .before .lane-checks-of in
+    let e : a .lanes * a .k - 0 ≡ a .lanes * a .k = omega arith in
+    checks-put (a .lanes) (omega arith) (a .k) (a .x .now) (c .before .before .place-checks .last .0) (q .result) (s .pre .2)
+    (subst (λ (n : ℕ). LanesCheck (a .lanes) (take n (a .x .now)) (q .result)) e (q .ensures)) (c .before .before .place-checks .ensures)
 
 pub put-checks-spec : {M : Type 1} → statement M
 put-checks-spec =

@@ -16,7 +16,7 @@ part-copy-end : tie.Need-part-copy-end
 part-copy-end c =
     let a = c .before .before .before .args in
     let p = c .before .before .before .pre in
-    let n : length (a .lane .bytes) ≡ 96 = search needs in
+    let n : length (a .lane .bytes) ≡ 187 = search needs in
     omega arith
 
 copy-requires : tie.Need-copy-requires
@@ -29,7 +29,7 @@ returns : tie.Need-returns
 returns c =
     let a = c .before .before .before .before .before .before .before .before .args in
     let p = c .before .before .before .before .before .before .before .before .pre in
-    let n : length (a .lane .bytes) ≡ 96 = search needs in
+    let n : length (a .lane .bytes) ≡ 187 = search needs in
     slice-holds (a .lane .bytes) (a .s .now) (c .before .before .copy .last .1 .0) (a .lane .len) (p .0) (omega arith) (c .before .before .copy .ensures)
 
 pub put-back-spec : {M : Type 1} → statement M

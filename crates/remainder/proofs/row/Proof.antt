@@ -1,63 +1,61 @@
-use Prim.Native.Nat.{_-_}
 use native.Mathlib.Omega.{arith}
-use Rattle.remainder.proofs.LanesOf.{RowTo, row-0, row-more, row-small}
+use mathlib.Core.Path.{_≡_, subst}
+use Prim.Native.Nat.{_+_, _-_, _≤_}
+use Rattle.remainder.specs.Remainder.{lower, RowTo}
+use Rattle.remainder.proofs.LanesOf.{row-0, row-after, row-keeps}
 use borrow.Author.Needs.{needs}
 use Rattle.remainder.proofs.row.Statement.{statement}
 use Rattle.remainder.proofs.row.Tie as tie
 
 abbrev Inv-loop : tie.InvT-loop
-Inv-loop s lanes q out₀ j₀ out j = RowTo lanes s q out₀ out j
+Inv-loop s lanes q out₀ j₀ out j = (j ≤ lanes + 3) × RowTo lanes s q 0 out₀ out (lower j lanes)
 
 abbrev μ-loop : tie.MeasureT-loop
 μ-loop s lanes q out₀ j₀ out j = lanes - j
 
 loop-holds : tie.Need-loop-holds Inv-loop μ-loop
-loop-holds c = row-0 _ (omega (arith, c .before .pre .0 .some)) _ _ _
-
-add-step : tie.Need-add-step Inv-loop μ-loop
-add-step c = omega (arith, c .before .before .before .pre .1)
-
-mul-step : tie.Need-mul-step Inv-loop μ-loop
-mul-step c = omega (arith, c .before .before .before .pre .0 .few)
-
-element-copy-out-step : tie.Need-element-copy-out-step Inv-loop μ-loop
-element-copy-out-step c = omega (arith, c .before .before .before .pre .0 .few)
-
-step-requires : tie.Need-step-requires Inv-loop μ-loop
-step-requires c κs =
-    let a = c .before .before .before .before .args in
-    let p = c .before .before .before .before .pre in
-    let l = c .before .before .loop in (
-      row-small (a .lanes) (omega (arith, p .0 .some)) (a .s .now) (a .q) (a .out .now) (l .out) (l .j) (omega arith) (p .0) (l .inv),
-      p .0 .few,
-      omega
-          (arith, p .1),
+loop-holds c =
+    let a = c .before .args in
+    let e : 0 ≡ lower 0 (a .lanes) = omega arith in (
+      omega arith,
+      subst (RowTo (a .lanes) (a .s .now) (a .q) 0 (a .out .now) (a .out .now)) e
+          (row-0 (a .lanes) (omega (arith, c .before .pre .0 .some)) (a .s .now) (a .q) 0 (a .out .now) (omega arith)),
     )
 
-mul-out : tie.Need-mul-out Inv-loop μ-loop
-mul-out c = omega (arith, c .before .before .before .before .before .pre .0 .few)
-
-element-write-out : tie.Need-element-write-out Inv-loop μ-loop
-element-write-out c = omega (arith, c .before .before .before .before .before .pre .0 .few)
+group-requires : tie.Need-group-requires Inv-loop μ-loop
+group-requires c κs =
+    let st = c .before .before .before .before in
+    let a = st .args in
+    let l = c .before .before .loop in (
+      row-keeps (a .lanes) (omega (arith, st .pre .0 .some)) (a .s .now) (a .q) 0 (a .out .now) (l .out) (lower (l .j) (a .lanes)) (st .pre .0) (l .inv .1),
+      st .pre .1,
+      omega arith,
+    )
 
 add-j : tie.Need-add-j Inv-loop μ-loop
-add-j c = search needs
+add-j c =
+    omega (arith, c .before .before .before .loop .inv .0, c .before .before .before .before .before .pre .0 .few)
 
 loop-less : tie.Need-loop-less Inv-loop μ-loop
 loop-less c = search needs
 
 loop-again : tie.Need-loop-again Inv-loop μ-loop
 loop-again c =
-    let a = c .before .before .before .before .before .args in
-    let p = c .before .before .before .before .before .pre in
+    let st = c .before .before .before .before .before in
+    let a = st .args in
     let l = c .before .before .before .loop in
-    row-more (a .lanes) (omega (arith, p .0 .some)) (a .s .now) (a .q) (a .out .now) (l .out) (l .j) (c .step .result) (omega arith)
-    (omega (arith, p .0 .few, p .0 .long)) (l .inv) (c .step .ensures)
+    let e : lower (l .j) (a .lanes) ≡ l .j = omega arith in (
+      omega arith,
+      row-after (a .lanes) (omega (arith, st .pre .0 .some)) (a .s .now) (a .q) (l .j) (lower (l .j + 4) (a .lanes)) (a .out .now) (l .out)
+          (c .group .last .1 .1 .1 .1 .0) (subst (RowTo (a .lanes) (a .s .now) (a .q) 0 (a .out .now) (l .out)) e (l .inv .1)) (c .group .ensures),
+    )
 
 returns : tie.Need-returns Inv-loop μ-loop
-returns c = ((λ j h. c .before .loop .inv .done j (omega (arith, h))), omega (arith, c .before .loop .inv .long, c .before .before .before .pre .0 .long))
+returns c =
+    let l = c .before .loop in (
+      (λ j h. l .inv .1 .done j (omega arith) (omega (arith, h))),
+      omega (arith, l .inv .1 .long, c .before .before .before .pre .0 .long),
+    )
 
 pub row-spec : {M : Type 1} → statement M
-row-spec =
-    tie.close
-    (tie.spec Inv-loop μ-loop loop-holds add-step mul-step element-copy-out-step step-requires mul-out element-write-out add-j loop-less loop-again returns)
+row-spec = tie.close (tie.spec Inv-loop μ-loop loop-holds group-requires add-j loop-less loop-again returns)

@@ -16,7 +16,7 @@ none f = refl
 
 abbrev Inv-loop : tie.InvT-loop
 Inv-loop part zero x₀ k₀ x k =
-    (k ≤ 40) × (9 * k ≤ length part) × (x ≤ 27021597764222976 * k) × (x ≡ sumOf (8 * (3 * k)) (addsAt part))
+    (k ≤ 41) × (9 * k ≤ length part) × (x ≤ 27021597764222976 * k) × (x ≡ sumOf (8 * (3 * k)) (addsAt part))
 
 abbrev μ-loop : tie.MeasureT-loop
 μ-loop part zero x₀ k₀ x k = length part - 9 * k

@@ -6,7 +6,8 @@
  * that is refused in each picture alone may be read in the pooled one.
  *
  * Buffers, packed results and refusals are those of zavullimen_words.h, strips
- * those of zavullimen_strips.h.
+ * those of zavullimen_strips.h, of four lanes (ZAV_STRIP_LANES): 24 to 384
+ * cells.
  */
 #ifndef ZAVULLIMEN_POOLS_H
 #define ZAVULLIMEN_POOLS_H

@@ -97,8 +97,9 @@ uint64_t zav_strip_write(size_t lanes, size_t version, size_t width,
  * not; the byte under a mark has influence on repainted, and on nothing else.
  *
  * Lanes other than 2, 4, 8 and 16 are refused with ZAV_BAD_LANES, before all
- * else. A strip of another lane count is not told from damage: it is nearly
- * always beyond reach, and what it comes to is promised to nobody.
+ * else. Name the count that the strip was written with: nothing tells a strip
+ * of another count from a damaged one, and what comes of it is nothing that
+ * anybody drew. docs/C-INTERFACE.md says what to do if the count is not known.
  *
  * The strip within reach is the one that zav_strip_write writes for the level
  * returned, with the same lanes: it differs from the strip read in mended

@@ -40,16 +40,18 @@ fn step(s: &[u8], lanes: usize, p: usize, r: u64) -> u64
     five ^ ((a ^ b) ^ reductions::at_9((r / 4294967296) as usize))
 }
 
-// Five cells more of each lane from lane j on, of four at most. The loop has four turns whatever the lanes, and so the compiler writes it out.
+// Five cells more of each lane from lane j on, of four at most. The loop has no more turns than that, whatever the lanes, and so the compiler
+// writes it out.
 fn group(s: &[u8], lanes: usize, q: usize, j: usize, out: &mut [u64; LANES])
     requires { ⌜ Room lanes (now out) × (q + 5 * lanes ≤ length (now s)) × (j ≤ lanes) ⌝ }
     ensures { λ _. ⌜ RowTo lanes (now (s .entry)) q j (now (out .entry)) (now (out .exit)) (lower (j + 4) lanes) ⌝ }
 {
     let mut i: usize = 0;
     while i < 4 {
-        if j + i < lanes {
-            out[j + i] = step(s, lanes, q + (j + i), out[j + i]);
+        if lanes <= j + i {
+            return;
         }
+        out[j + i] = step(s, lanes, q + (j + i), out[j + i]);
         i += 1;
     }
 }

@@ -36,8 +36,8 @@ use Rattle.level.proofs.Mended.{reached-spells, board-found}
 use Rattle.level.proofs.Theorems as levels
 use Rattle.lending.proofs.Lent.{written-level, level-written}
 use Rattle.strip.specs.declared.read.Reading.{Reading}
-use Rattle.strip.specs.Writing.{stripLength, WritesWith, StripWritesAs, WeWrote}
-use Rattle.strip.specs.Reading.{stripNumbers, LevelRead, ReadsWith, StripReadsAs, WeRead, Answers, changedMost, markedMost, Gives}
+use Rattle.strip.specs.Writing.{stripLength, WritesWith, StripWritesAs, WeWrote, changedMost, markedMost}
+use Rattle.strip.specs.Reading.{stripNumbers, LevelRead, ReadsWith, StripReadsAs, WeRead, Answers, Gives}
 use Rattle.strip.proofs.Laid.{record-fits}
 use Rattle.strip.proofs.Alike as alike
 use Rattle.strip.proofs.Reader.{zeros}

@@ -76,13 +76,6 @@ pub record WeRead (upto R : ℕ) (s marks : List ℕ) : Type 0 where
 abbrev pub Answers : ℕ → ℕ → List ℕ → List ℕ → (ReadNumbers → List ℕ → Type 0) → Type 0
 Answers upto R s marks P = (r : WeRead upto R s marks) → P (stripNumbers (r .answer)) (r .tiles')
 
--- FORMAT 14.3, 14.4: how many neighbouring cells of a strip that we wrote a sticker may change, or hide where they are marked
-abbrev pub changedMost : ℕ → ℕ
-changedMost R = 2 * R
-
-abbrev pub markedMost : ℕ → ℕ
-markedMost R = 5 * R
-
 -- FORMAT 8.15: the level l is returned
 pub record Gives (l : Level) (n : ReadNumbers) (tiles' : List ℕ) : Type 0 where
   pub read : n .code ≡ 0

@@ -37,6 +37,13 @@ pub record WeWrote (R : ℕ) (l : Level) (t : List ℕ) : Type 0 where
   pub done : writtenNumbers answer .code ≡ 0
   pub front : t ≡ take (writtenNumbers answer .value) new
 
+-- FORMAT 14.3, 14.4: how many neighbouring cells of a strip that we wrote a sticker may change, or hide where they are marked
+abbrev pub changedMost : ℕ → ℕ
+changedMost R = 2 * R
+
+abbrev pub markedMost : ℕ → ℕ
+markedMost R = 5 * R
+
 -- ---- parts
 
 -- the strip of a level laid in front of a buffer

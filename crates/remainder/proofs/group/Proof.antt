@@ -1,5 +1,4 @@
-use mathlib.Core.Path.{_≡_, sym, subst}
-use mathlib.Core.Logic.{⊎-elim}
+use mathlib.Core.Path.{_≡_, subst}
 use mathlib.Core.List.{List}
 use Prim.Native.Nat.{ℕ, _+_, _-_, _≤_, _<_}
 use native.Mathlib.Omega.{arith}
@@ -31,23 +30,23 @@ add-if1 c =
 
 add-step : tie.Need-add-step Inv-loop μ-loop
 add-step c =
-    omega (arith, c .before .before .before .before .pre .0 .few, c .if1 .taken)
+    omega (arith, c .before .before .before .before .pre .0 .few, c .if1 .left)
 
 add-step-2 : tie.Need-add-step-2 Inv-loop μ-loop
 add-step-2 c =
-    omega (arith, c .before .before .before .before .pre .1, c .if1 .taken)
+    omega (arith, c .before .before .before .before .pre .1, c .if1 .left)
 
 add-step-3 : tie.Need-add-step-3 Inv-loop μ-loop
 add-step-3 c =
-    omega (arith, c .before .before .before .before .pre .0 .few, c .if1 .taken)
+    omega (arith, c .before .before .before .before .pre .0 .few, c .if1 .left)
 
 mul-step : tie.Need-mul-step Inv-loop μ-loop
 mul-step c =
-    omega (arith, c .before .before .before .before .pre .0 .few, c .if1 .taken)
+    omega (arith, c .before .before .before .before .pre .0 .few, c .if1 .left)
 
 element-copy-out-step : tie.Need-element-copy-out-step Inv-loop μ-loop
 element-copy-out-step c =
-    omega (arith, c .before .before .before .before .pre .0 .few, c .if1 .taken)
+    omega (arith, c .before .before .before .before .pre .0 .few, c .if1 .left)
 
 step-requires : tie.Need-step-requires Inv-loop μ-loop
 step-requires c κs =
@@ -56,22 +55,22 @@ step-requires c κs =
     let p = st .pre in
     let l = c .before .before .before .loop in (
       row-small (a .lanes) (omega (arith, p .0 .some)) (a .s .now) (a .q) (a .j) (a .out .now) (l .out) (lower (a .j + l .i) (a .lanes)) (p .0) (l .inv .1)
-          (a .j + l .i) (c .before .if1 .taken),
+          (a .j + l .i) (omega (arith, c .before .if1 .left)),
       p .0 .few,
-      omega (arith, p .1, c .before .if1 .taken),
+      omega (arith, p .1, c .before .if1 .left),
     )
 
 add-out : tie.Need-add-out Inv-loop μ-loop
 add-out c =
-    omega (arith, c .before .before .before .before .before .before .pre .0 .few, c .before .before .if1 .taken)
+    omega (arith, c .before .before .before .before .before .before .pre .0 .few, c .before .before .if1 .left)
 
 mul-out : tie.Need-mul-out Inv-loop μ-loop
 mul-out c =
-    omega (arith, c .before .before .before .before .before .before .pre .0 .few, c .before .before .if1 .taken)
+    omega (arith, c .before .before .before .before .before .before .pre .0 .few, c .before .before .if1 .left)
 
 element-write-out : tie.Need-element-write-out Inv-loop μ-loop
 element-write-out c =
-    omega (arith, c .before .before .before .before .before .before .pre .0 .few, c .before .before .if1 .taken)
+    omega (arith, c .before .before .before .before .before .before .pre .0 .few, c .before .before .if1 .left)
 
 add-i : tie.Need-add-i Inv-loop μ-loop
 add-i c = search needs
@@ -88,27 +87,29 @@ taken R s q j o x i v room h W N =
     subst (RowTo R s q j o (set x (j + i) v)) e'
     (row-more R (omega (arith, room .some)) s q j o x (j + i) v h (omega (arith, room .few, room .long, h)) (subst (RowTo R s q j o x) e W) N)
 
-left : (R : ℕ) (s : List ℕ) (q j : ℕ) (o x : List ℕ) (i : ℕ) → (j + i < R → ⊥) → RowTo R s q j o x (lower (j + i) R) → RowTo R s q j o x (lower (j + (i + 1)) R)
-left R s q j o x i h W =
-    let n : R ≤ j + i = omega (arith, h) in
-    let e : lower (j + i) R ≡ lower (j + (i + 1)) R = omega (arith, n) in
+left : (R : ℕ) (s : List ℕ) (q j : ℕ) (o x : List ℕ) (i : ℕ) → i ≤ 4 → R ≤ j + i → RowTo R s q j o x (lower (j + i) R) → RowTo R s q j o x (lower (j + 4) R)
+left R s q j o x i few n W =
+    let e : lower (j + i) R ≡ lower (j + 4) R = omega (arith, few, n) in
     subst (RowTo R s q j o x) e W
-
-loop-again : tie.Need-loop-again Inv-loop μ-loop
-loop-again c =
-    let st = c .before .before .before .before in
-    let a = st .args in
-    let l = c .before .before .loop in (
-      omega arith,
-      ⊎-elim
-          (λ w. subst (λ (x : List ℕ). RowTo (a .lanes) (a .s .now) (a .q) (a .j) (a .out .now) x (lower (a .j + (l .i + 1)) (a .lanes))) (sym (w .3))
-          (taken (a .lanes) (a .s .now) (a .q) (a .j) (a .out .now) (l .out) (l .i) (w .2 .result) (st .pre .0) (w .0 .taken) (l .inv .1) (w .2 .ensures)))
-          (λ w. subst (λ (x : List ℕ). RowTo (a .lanes) (a .s .now) (a .q) (a .j) (a .out .now) x (lower (a .j + (l .i + 1)) (a .lanes))) (sym (w .1))
-          (left (a .lanes) (a .s .now) (a .q) (a .j) (a .out .now) (l .out) (l .i) (λ h. omega (arith, h, w .0 .left)) (l .inv .1))) (c .if1 .came),
-    )
 
 returns : tie.Need-returns Inv-loop μ-loop
 returns c =
+    let a = c .before .before .before .before .args in
+    let l = c .before .before .loop in
+    left (a .lanes) (a .s .now) (a .q) (a .j) (a .out .now) (l .out) (l .i) (l .inv .0) (omega (arith, c .if1 .taken)) (l .inv .1)
+
+loop-again : tie.Need-loop-again Inv-loop μ-loop
+loop-again c =
+    let st = c .before .before .before .before .before .before in
+    let a = st .args in
+    let l = c .before .before .before .before .loop in (
+      omega arith,
+      taken (a .lanes) (a .s .now) (a .q) (a .j) (a .out .now) (l .out) (l .i) (c .step .result) (st .pre .0)
+          (omega (arith, c .before .before .if1 .left)) (l .inv .1) (c .step .ensures),
+    )
+
+returns-2 : tie.Need-returns-2 Inv-loop μ-loop
+returns-2 c =
     let a = c .before .before .before .args in
     let l = c .before .loop in
     let e : l .i ≡ 4 = omega arith in
@@ -122,6 +123,7 @@ group-spec =
     μ-loop
     loop-holds
     add-if1
+    returns
     add-step
     add-step-2
     add-step-3
@@ -134,4 +136,4 @@ group-spec =
     add-i
     loop-less
     loop-again
-    returns)
+    returns-2)

@@ -21,6 +21,13 @@
 extern "C" {
 #endif
 
+/*
+ * Numbers that changed when lanes could be named: ZAV_STRIP_MAX was 384,
+ * ZAV_SCRATCH_MIN 96 and ZAV_LANE_MAX 96; ZAV_STRIP_MIN, which was 24, is
+ * ZAV_STRIP_SHORTEST(4) now; ZAV_STICKER_UNMARKED and ZAV_STICKER_MARKED, 8 and
+ * 20, take the lanes; the lane told with refusal 6 was at most 3, mended at
+ * most 8, repainted at most 20, and bits 50 to 54 of a result were zero.
+ */
 #define ZAV_STRIP_LANES 4   /* what pooling and readstrip take, and every strip
                                had before the number could be named */
 #define ZAV_LANES_MAX 16    /* the most lanes that can be named */

@@ -23,18 +23,18 @@ abbrev pub or : Bool → Bool → Bool
 or true b = true
 or false b = b
 
-pub or-one : (a b : Bool) → T (or a b) → T a ⊎ T b
-or-one true b t = inl tt
-or-one false b t = inr t
+pub or_one : (a b : Bool) → T (or a b) → T a ⊎ T b
+or_one true b t = inl tt
+or_one false b t = inr t
 
 -- f passes at 0 .. n - 1
 abbrev pub upto : (ℕ → Bool) → ℕ → Bool
 upto f zero = true
 upto f (suc n) = both (f n) (upto f n)
 
-pub upto-at : (f : ℕ → Bool) (n : ℕ) → T (upto f n) → (k : ℕ) → k < n → T (f k)
-upto-at f zero t k h = absurd (omega arith)
-upto-at f (suc n) t k h = go (ℕ_discrete k n) (upto-at f n (both_right (f n) (upto f n) t) k)
+pub upto_at : (f : ℕ → Bool) (n : ℕ) → T (upto f n) → (k : ℕ) → k < n → T (f k)
+upto_at f zero t k h = absurd (omega arith)
+upto_at f (suc n) t k h = go (ℕ_discrete k n) (upto_at f n (both_right (f n) (upto f n) t) k)
   where
     go : Dec (k ≡ n) → (k < n → T (f k)) → T (f k)
     go (yes e) rec = subst (λ (m : ℕ). T (f m)) (sym e) (both_left (f n) (upto f n) t)

@@ -10,7 +10,7 @@ use lib.Signed.{◌≤ℤ◌, le_z_yes}
 use lib.ListN.{length, length-append, get_or, get_or-append}
 use lib.Seq.{get_or-append_seam}
 use Rattle.account.specs.Field.{Ops, In, IsField, power, sum_to}
-use Rattle.account.specs.Code.{alphaTo, S, Clean}
+use Rattle.account.specs.Code.{alpha_to, S, Clean}
 use Rattle.account.specs.Errata.{place}
 use Rattle.account.proofs.Laws as laws
 use Rattle.account.proofs.Powers as powers
@@ -34,19 +34,19 @@ exponent (suc zero) = negsuc 0
 exponent (suc (suc m)) = pos m
 
 -- the sums of a word, counted from 0
-abbrev pub sumsOf : Ops → List ℕ → ℕ → ℕ
-sumsOf O w m = S O (exponent m) w
+abbrev pub sums_of : Ops → List ℕ → ℕ → ℕ
+sums_of O w m = S O (exponent m) w
 
-pub clean-sums : (O : Ops) (w : List ℕ) → Clean O w → (m : ℕ) → m < 5 → sumsOf O w m ≡ 0
-clean-sums O w c zero l = c (negsuc 1) (le_z_yes tt) (le_z_yes tt)
-clean-sums O w c (suc zero) l = c (negsuc 0) (le_z_yes tt) (le_z_yes tt)
-clean-sums O w c (suc (suc zero)) l = c (pos 0) (le_z_yes tt) (le_z_yes tt)
-clean-sums O w c (suc (suc (suc zero))) l = c (pos 1) (le_z_yes tt) (le_z_yes tt)
-clean-sums O w c (suc (suc (suc (suc zero)))) l = c (pos 2) (le_z_yes tt) (le_z_yes tt)
-clean-sums O w c (suc (suc (suc (suc (suc m))))) l = absurd (omega arith)
+pub clean_sums : (O : Ops) (w : List ℕ) → Clean O w → (m : ℕ) → m < 5 → sums_of O w m ≡ 0
+clean_sums O w c zero l = c (negsuc 1) (le_z_yes tt) (le_z_yes tt)
+clean_sums O w c (suc zero) l = c (negsuc 0) (le_z_yes tt) (le_z_yes tt)
+clean_sums O w c (suc (suc zero)) l = c (pos 0) (le_z_yes tt) (le_z_yes tt)
+clean_sums O w c (suc (suc (suc zero))) l = c (pos 1) (le_z_yes tt) (le_z_yes tt)
+clean_sums O w c (suc (suc (suc (suc zero)))) l = c (pos 2) (le_z_yes tt) (le_z_yes tt)
+clean_sums O w c (suc (suc (suc (suc (suc m))))) l = absurd (omega arith)
 
-pub sums-clean : (O : Ops) (w : List ℕ) → ((m : ℕ) → m < 5 → sumsOf O w m ≡ 0) → Clean O w
-sums-clean O w h =
+pub sums_clean : (O : Ops) (w : List ℕ) → ((m : ℕ) → m < 5 → sums_of O w m ≡ 0) → Clean O w
+sums_clean O w h =
     five (λ j. S O j w ≡ 0) (h 0 (omega arith)) (h 1 (omega arith)) (h 2 (omega arith)) (h 3 (omega arith)) (h 4 (omega arith))
 
 -- the polynomial of w at x
@@ -59,35 +59,35 @@ module _ (O : Ops) (F : IsField O) where
 
   infixl 60 ◌⊕◌
   infixl 70 ◌⊗◌
-  pub alpha-neg : (k : ℕ) → alphaTo O (neg_ℤ (pos k)) ≡ power O α⁻¹ k
-  unfolding alphaTo power
-  alpha-neg zero = refl
-  alpha-neg (suc k) = refl
+  pub alpha_neg : (k : ℕ) → alpha_to O (neg_ℤ (pos k)) ≡ power O α⁻¹ k
+  unfolding alpha_to power
+  alpha_neg zero = refl
+  alpha_neg (suc k) = refl
 
   -- α^(ji) is the i-th power of α^j
-  pub alpha-mul : (j : ℤ) (i : ℕ) → alphaTo O (j *ℤ pos i) ≡ power O (alphaTo O j) i
-  unfolding alphaTo
-  alpha-mul (pos m) i = sym (powers.pow-mul O F α m i)
-  alpha-mul (negsuc m) i = alpha-neg (suc m * i) ∙ sym (powers.pow-mul O F α⁻¹ (suc m) i)
+  pub alpha_mul : (j : ℤ) (i : ℕ) → alpha_to O (j *ℤ pos i) ≡ power O (alpha_to O j) i
+  unfolding alpha_to
+  alpha_mul (pos m) i = sym (powers.pow_mul O F α m i)
+  alpha_mul (negsuc m) i = alpha_neg (suc m * i) ∙ sym (powers.pow_mul O F α⁻¹ (suc m) i)
 
   -- S_j is the value of the word's polynomial at α^j
-  pub sum-value : (j : ℤ) (w : List ℕ) → S O j w ≡ value O (alphaTo O j) w
+  pub sum_value : (j : ℤ) (w : List ℕ) → S O j w ≡ value O (alpha_to O j) w
   unfolding S value
-  sum-value j w =
-      sums.sum-cong O F (length w) (λ p. get_or w p 0 ⊗ alphaTo O (j *ℤ pos (length w - suc p))) (λ p. get_or w p 0 ⊗ power O (alphaTo O j) (length w - suc p))
-      (λ p l. ap (λ (y : ℕ). get_or w p 0 ⊗ y) (alpha-mul j (length w - suc p)))
+  sum_value j w =
+      sums.sum_cong O F (length w) (λ p. get_or w p 0 ⊗ alpha_to O (j *ℤ pos (length w - suc p))) (λ p. get_or w p 0 ⊗ power O (alpha_to O j) (length w - suc p))
+      (λ p l. ap (λ (y : ℕ). get_or w p 0 ⊗ y) (alpha_mul j (length w - suc p)))
 
   -- Horner's rule
-  pub value-snoc : (x : ℕ) (w : List ℕ) (b : ℕ) → In O b → value O x (w ++ b ∷ []) ≡ (value O x w ⊗ x) ⊕ b
+  pub value_snoc : (x : ℕ) (w : List ℕ) (b : ℕ) → In O b → value O x (w ++ b ∷ []) ≡ (value O x w ⊗ x) ⊕ b
   unfolding value power sum_to
-  value-snoc x w b h =
+  value_snoc x w b h =
       ap (λ (n : ℕ). sum_to O n (λ j. get_or (w ++ b ∷ []) j 0 ⊗ power O x (n - suc j))) len
       ∙ ap₂ (λ (y z : ℕ). y ⊕ z)
-      (sums.sum-cong O F (length w)
+      (sums.sum_cong O F (length w)
       (λ j. get_or (w ++ b ∷ []) j 0 ⊗ power O x (suc (length w) - suc j)) (λ j. x ⊗ (get_or w j 0 ⊗ power O x (length w - suc j))) before
-      ∙ sums.sum-mul O F (length w) x (λ j. get_or w j 0 ⊗ power O x (length w - suc j))
+      ∙ sums.sum_mul O F (length w) x (λ j. get_or w j 0 ⊗ power O x (length w - suc j))
       ∙ F.mul_comm x (value O x w))
-      (ap₂ (λ (y k : ℕ). y ⊗ power O x k) (get_or-append_seam w b [] 0) last ∙ F.mul-one b h)
+      (ap₂ (λ (y k : ℕ). y ⊗ power O x k) (get_or-append_seam w b [] 0) last ∙ F.mul_one b h)
     where
       len : length (w ++ b ∷ []) ≡ suc (length w)
       len = length-append w (b ∷ []) ∙ omega arith
@@ -105,24 +105,24 @@ module _ (O : Ops) (F : IsField O) where
 
   pub value_in : (x : ℕ) (w : List ℕ) → In O (value O x w)
   unfolding value
-  value_in x w = sums.sum-in O F (length w) (λ p. get_or w p 0 ⊗ power O x (length w - suc p)) (λ p. F.in-mul (get_or w p 0) (power O x (length w - suc p)))
+  value_in x w = sums.sum_in O F (length w) (λ p. get_or w p 0 ⊗ power O x (length w - suc p)) (λ p. F.in_mul (get_or w p 0) (power O x (length w - suc p)))
 
   pub value_none : (x : ℕ) → value O x [] ≡ 0
   unfolding value sum_to
   value_none x = refl
 
   -- the power of α that the m-th sum multiplies by, as the m-th power of the place, weighed
-  weighed : (m i : ℕ) → alphaTo O (exponent m *ℤ pos i) ≡ power O α⁻¹ (2 * i) ⊗ power O (power O α i) m
-  unfolding alphaTo power
-  weighed zero i = alpha-neg (2 * i) ∙ sym (F.mul-one (power O α⁻¹ (2 * i)) (powers.pow-in O F α⁻¹ (2 * i)))
+  weighed : (m i : ℕ) → alpha_to O (exponent m *ℤ pos i) ≡ power O α⁻¹ (2 * i) ⊗ power O (power O α i) m
+  unfolding alpha_to power
+  weighed zero i = alpha_neg (2 * i) ∙ sym (F.mul_one (power O α⁻¹ (2 * i)) (powers.pow_in O F α⁻¹ (2 * i)))
   weighed (suc zero) i =
-      alpha-neg (1 * i) ∙ ap (power O α⁻¹) one
+      alpha_neg (1 * i) ∙ ap (power O α⁻¹) one
       ∙ sym
-      (ap (λ (y : ℕ). power O α⁻¹ (2 * i) ⊗ y) (F.mul_comm 1 (power O α i) ∙ F.mul-one (power O α i) (powers.pow-in O F α i))
-      ∙ ap (λ (y : ℕ). y ⊗ power O α i) (ap (power O α⁻¹) two ∙ powers.pow-add O F α⁻¹ i i)
+      (ap (λ (y : ℕ). power O α⁻¹ (2 * i) ⊗ y) (F.mul_comm 1 (power O α i) ∙ F.mul_one (power O α i) (powers.pow_in O F α i))
+      ∙ ap (λ (y : ℕ). y ⊗ power O α i) (ap (power O α⁻¹) two ∙ powers.pow_add O F α⁻¹ i i)
       ∙ F.mul_assoc (power O α⁻¹ i) (power O α⁻¹ i) (power O α i)
-      ∙ ap (λ (y : ℕ). power O α⁻¹ i ⊗ y) (F.mul_comm (power O α⁻¹ i) (power O α i) ∙ powers.pow-back O F i)
-      ∙ F.mul-one (power O α⁻¹ i) (powers.pow-in O F α⁻¹ i))
+      ∙ ap (λ (y : ℕ). power O α⁻¹ i ⊗ y) (F.mul_comm (power O α⁻¹ i) (power O α i) ∙ powers.pow_back O F i)
+      ∙ F.mul_one (power O α⁻¹ i) (powers.pow_in O F α⁻¹ i))
     where
       one : 1 * i ≡ i
       one = omega arith
@@ -130,14 +130,14 @@ module _ (O : Ops) (F : IsField O) where
       two : 2 * i ≡ i + i
       two = omega arith
   weighed (suc (suc m)) i =
-      ap (power O α) (mul_comm m i) ∙ sym (powers.pow-mul O F α i m)
+      ap (power O α) (mul_comm m i) ∙ sym (powers.pow_mul O F α i m)
       ∙ sym
       (ap (λ (y : ℕ). power O α⁻¹ (2 * i) ⊗ y) (F.mul_assoc (power O (power O α i) m) (power O α i) (power O α i))
       ∙ laws.mul_left O F (power O α⁻¹ (2 * i)) (power O (power O α i) m) (power O α i ⊗ power O α i)
       ∙ ap (λ (y : ℕ). power O (power O α i) m ⊗ y)
       (F.mul_comm (power O α⁻¹ (2 * i)) (power O α i ⊗ power O α i)
-      ∙ ap (λ (y : ℕ). y ⊗ power O α⁻¹ (2 * i)) (sym (powers.pow-add O F α i i) ∙ ap (power O α) two) ∙ powers.pow-back O F (2 * i))
-      ∙ F.mul-one (power O (power O α i) m) (powers.pow-in O F (power O α i) m))
+      ∙ ap (λ (y : ℕ). y ⊗ power O α⁻¹ (2 * i)) (sym (powers.pow_add O F α i i) ∙ ap (power O α) two) ∙ powers.pow_back O F (2 * i))
+      ∙ F.mul_one (power O (power O α i) m) (powers.pow_in O F (power O α i) m))
     where
       two : i + i ≡ 2 * i
       two = omega arith
@@ -153,12 +153,12 @@ module _ (O : Ops) (F : IsField O) where
     M = moment O X n
 
     -- the sums of a word of n cells are the moments of its weighed cells
-    pub sums-moment : (w : List ℕ) → length w ≡ n → (m : ℕ) → sumsOf O w m ≡ M (λ p. get_or w p 0 ⊗ W p) m
+    pub sums_moment : (w : List ℕ) → length w ≡ n → (m : ℕ) → sums_of O w m ≡ M (λ p. get_or w p 0 ⊗ W p) m
     unfolding S moment
-    sums-moment w e m =
-        ap (λ (k : ℕ). sum_to O k (λ p. get_or w p 0 ⊗ alphaTo O (exponent m *ℤ pos (k - suc p)))) e
-        ∙ sums.sum-cong O F n (λ p. get_or w p 0 ⊗ alphaTo O (exponent m *ℤ pos (n - suc p))) (λ p. (get_or w p 0 ⊗ W p) ⊗ power O (X p) m)
+    sums_moment w e m =
+        ap (λ (k : ℕ). sum_to O k (λ p. get_or w p 0 ⊗ alpha_to O (exponent m *ℤ pos (k - suc p)))) e
+        ∙ sums.sum_cong O F n (λ p. get_or w p 0 ⊗ alpha_to O (exponent m *ℤ pos (n - suc p))) (λ p. (get_or w p 0 ⊗ W p) ⊗ power O (X p) m)
         (λ p l. ap (λ (y : ℕ). get_or w p 0 ⊗ y) (weighed m (n - suc p)) ∙ sym (F.mul_assoc (get_or w p 0) (W p) (power O (X p) m)))
 
-    pub sums-in : (w : List ℕ) → length w ≡ n → (m : ℕ) → In O (sumsOf O w m)
-    sums-in w e m = subst (In O) (sym (sums-moment w e m)) (sums.moment-in O F X n (λ p. get_or w p 0 ⊗ W p) m)
+    pub sums_in : (w : List ℕ) → length w ≡ n → (m : ℕ) → In O (sums_of O w m)
+    sums_in w e m = subst (In O) (sym (sums_moment w e m)) (sums.moment_in O F X n (λ p. get_or w p 0 ⊗ W p) m)

@@ -10,10 +10,10 @@ module _ (O : Ops) where
 
   infixl 70 ◌⊗◌
   -- FORMAT 1.8: α^j; for a negative j, a power of the inverse
-  unfoldable pub alphaTo : ℤ → ℕ
+  unfoldable pub alpha_to : ℤ → ℕ
   unfolding power
-  alphaTo (pos m) = power O α m
-  alphaTo (negsuc m) = power O α⁻¹ (suc m)
+  alpha_to (pos m) = power O α m
+  alpha_to (negsuc m) = power O α⁻¹ (suc m)
 
   -- the cells of w are elements of the field
   pub record Cells (w : List ℕ) : Type 0 where
@@ -21,8 +21,8 @@ module _ (O : Ops) where
 
   -- FORMAT 2.3, 2.4, 2.12: the sum of each byte times α^(j i), where i is its power: 0 for the last byte, n - 1 for the first
   unfoldable pub S : ℤ → List ℕ → ℕ
-  unfolding sum_to alphaTo
-  S j w = sum_to O (length w) (λ p. get_or w p 0 ⊗ alphaTo (j *ℤ pos (length w - suc p)))
+  unfolding sum_to alpha_to
+  S j w = sum_to O (length w) (λ p. get_or w p 0 ⊗ alpha_to (j *ℤ pos (length w - suc p)))
 
   -- FORMAT 2.5: the syndrome, the five sums S_-2 to S_2
   abbrev pub syndrome : List ℕ → List ℕ

@@ -65,13 +65,13 @@ unweighed O (x ∷ xs) (u ∷ us) = O.◌⊗◌ (O.◌⊗◌ u x) x ∷ unweighe
 
 -- ---- errata added to a word
 
-abbrev pub atOr : {i p : ℕ} → Dec (i ≡ p) → ℕ → ℕ
-atOr (yes e) a = a
-atOr (no ne) a = 0
+abbrev pub at_or : {i p : ℕ} → Dec (i ≡ p) → ℕ → ℕ
+at_or (yes e) a = a
+at_or (no ne) a = 0
 
 -- a at cell p, and nothing elsewhere
 unfoldable pub only : ℕ → ℕ → ℕ → ℕ
-only p a i = atOr (ℕ_discrete i p) a
+only p a i = at_or (ℕ_discrete i p) a
 
 -- the errata with cells ps and values vs, as a word
 abbrev pub added : Ops → List ℕ → List ℕ → ℕ → ℕ

@@ -36,18 +36,18 @@ module _ (O : Ops) where
     pub inv : ℕ → ℕ
     pub add_assoc : (a b c : ℕ) → (a ⊕ b) ⊕ c ≡ a ⊕ (b ⊕ c)
     pub add_comm : (a b : ℕ) → a ⊕ b ≡ b ⊕ a
-    pub add-self : (a : ℕ) → a ⊕ a ≡ 0
-    pub add-zero : (a : ℕ) → a ⊕ 0 ≡ a
+    pub add_self : (a : ℕ) → a ⊕ a ≡ 0
+    pub add_zero : (a : ℕ) → a ⊕ 0 ≡ a
     pub mul_assoc : (a b c : ℕ) → (a ⊗ b) ⊗ c ≡ a ⊗ (b ⊗ c)
     pub mul_comm : (a b : ℕ) → a ⊗ b ≡ b ⊗ a
-    pub mul-add : (a b c : ℕ) → a ⊗ (b ⊕ c) ≡ (a ⊗ b) ⊕ (a ⊗ c)
-    pub in-zero : In O 0
+    pub mul_add : (a b c : ℕ) → a ⊗ (b ⊕ c) ≡ (a ⊗ b) ⊕ (a ⊗ c)
+    pub in_zero : In O 0
     pub in_one : In O 1
-    pub in-add : (a b : ℕ) → In O a → In O b → In O (a ⊕ b)
-    pub in-mul : (a b : ℕ) → In O (a ⊗ b)
-    pub mul-one : (a : ℕ) → In O a → a ⊗ 1 ≡ a
-    pub mul-inv : (a : ℕ) → In O a → a ≢ 0 → a ⊗ inv a ≡ 1
-    pub α-in : In O α
-    pub α-inverse : α ⊗ α⁻¹ ≡ 1
-    pub α-order : (k : ℕ) → 0 < k → k < order → power O α k ≢ 1
-    pub α-around : power O α order ≡ 1
+    pub in_add : (a b : ℕ) → In O a → In O b → In O (a ⊕ b)
+    pub in_mul : (a b : ℕ) → In O (a ⊗ b)
+    pub mul_one : (a : ℕ) → In O a → a ⊗ 1 ≡ a
+    pub mul_inv : (a : ℕ) → In O a → a ≢ 0 → a ⊗ inv a ≡ 1
+    pub α_in : In O α
+    pub α_inverse : α ⊗ α⁻¹ ≡ 1
+    pub α_order : (k : ℕ) → 0 < k → k < order → power O α k ≢ 1
+    pub α_around : power O α order ≡ 1

@@ -1,7 +1,7 @@
 -- FORMAT 2.8, 2.9: the generator of the code, and its multiples. A word is a polynomial: its first cell has the highest power.
 use Rattle.std.specs.Prelude.{◌≡◌, List, [], ◌∷◌, ◌++◌, ℕ, ◌-◌, ℤ, pos, negsuc, length, replicate}
 use Rattle.account.specs.Field.{Ops}
-use Rattle.account.specs.Code.{alphaTo, Cells}
+use Rattle.account.specs.Code.{alpha_to, Cells}
 
 -- n cells of nothing
 abbrev pub zeros : ℕ → List ℕ
@@ -30,7 +30,7 @@ module _ (O : Ops) where
 
   -- t + α^j
   abbrev pub factor : ℤ → List ℕ
-  factor j = 1 ∷ alphaTo O j ∷ []
+  factor j = 1 ∷ alpha_to O j ∷ []
 
   -- FORMAT 2.8: the product of the t + α^j, for j from -2 to 2
   unfoldable pub generator : List ℕ

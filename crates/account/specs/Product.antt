@@ -5,20 +5,20 @@ use Rattle.std.specs.Int.Bits.{bit_xor}
 use Rattle.account.specs.Field.{Ops}
 
 -- x, or nothing: c is a digit, 0 or 1
-unfoldable pub bitTimes : ℕ → ℕ → ℕ
-bitTimes zero x = 0
-bitTimes (suc c) x = x
+unfoldable pub bit_times : ℕ → ℕ → ℕ
+bit_times zero x = 0
+bit_times (suc c) x = x
 
 -- t times a, modulo the polynomial: twice a, less poly where the top digit was set
-unfoldable pub timesT : ℕ → ℕ → ℕ → ℕ
-unfolding bitTimes
-timesT top poly a = bit_xor (a * 2) (bitTimes (a / top) poly)
+unfoldable pub times_t : ℕ → ℕ → ℕ → ℕ
+unfolding bit_times
+times_t top poly a = bit_xor (a * 2) (bit_times (a / top) poly)
 
 -- a times the n lowest digits of b, the highest first
 unfoldable pub horner : ℕ → ℕ → ℕ → ℕ → ℕ → ℕ
-unfolding timesT
+unfolding times_t
 horner top poly zero a b = 0
-horner top poly (suc n) a b = bit_xor (timesT top poly (horner top poly n a (b / 2))) (bitTimes (b % 2) a)
+horner top poly (suc n) a b = bit_xor (times_t top poly (horner top poly n a (b / 2))) (bit_times (b % 2) a)
 
 -- FORMAT 1.3: the product modulo poly, a polynomial of degree suc k
 unfoldable pub product : ℕ → ℕ → ℕ → ℕ → ℕ

@@ -1,23 +1,23 @@
 -- What the parts of the search promise each other: guesses of wrong cells. t are the sums that are left.
 use Rattle.std.specs.Prelude.{◌≡◌, ◌≢◌, ◌⊎◌, Bool, true, false, List, [], ◌∷◌, map, ℕ, zero, suc, ◌<◌, ◌≤◌, length}
 use Rattle.account.specs.Field.{Ops, In}
-use Rattle.account.specs.Reach.{isMarked}
+use Rattle.account.specs.Reach.{is_marked}
 use Rattle.account.specs.Errata.{Outside, place, filt}
 
 -- ---- marked cells
 
-abbrev pub addIf : Bool → ℕ → List ℕ → List ℕ
-addIf true i ps = i ∷ ps
-addIf false i ps = ps
+abbrev pub add_if : Bool → ℕ → List ℕ → List ℕ
+add_if true i ps = i ∷ ps
+add_if false i ps = ps
 
 -- the cells below n at which f passes, the highest first
 abbrev pub places : (ℕ → Bool) → ℕ → List ℕ
 places f zero = []
-places f (suc n) = addIf (f n) n (places f n)
+places f (suc n) = add_if (f n) n (places f n)
 
 -- the marked cells, the last first
 abbrev pub erasures : List ℕ → List ℕ
-erasures marks = places (isMarked marks) (length marks)
+erasures marks = places (is_marked marks) (length marks)
 
 -- none of the cells bs is one of ps
 abbrev pub Free : List ℕ → List ℕ → Type 0
@@ -64,7 +64,7 @@ module _ (O : Ops) where
   pub record Joined (x y : ℕ) (t : ℕ → ℕ) (k n : ℕ) (ps : List ℕ) (p q : ℕ) : Type 0 where
     pub within : p ≤ n
     pub at_p : p < n → (place O n p ≡ x) × Outside ps p
-    pub at-q : p < n → (q < n) × (place O n q ≡ y) × Outside ps q
+    pub at_q : p < n → (q < n) × (place O n q ≡ y) × Outside ps q
     pub zeros : p < n → Zeros k (filt O (x ∷ y ∷ []) t)
     pub none : p ≡ n → (a b : ℕ) → a < n → b < n
         → place O n a ≡ x → place O n b ≡ y → Outside ps a → Outside ps b

@@ -11,12 +11,12 @@ use lib.Dec.{ltb}
 use lib.ListN.{length, get_or, drop}
 use lib.Seq.{drop-cons, drop-length}
 use borrow.Author.Tests.{lt-ltb, le-ltb}
-use Rattle.rules.proofs.Numbers.{lt-or-ge}
+use Rattle.rules.proofs.Numbers.{lt_or_ge}
 use Rattle.account.specs.Lists.{sum_of}
 use Rattle.tiles.specs.Sum.{weighed, weight}
 use Rattle.boards.specs.Codes.{same}
 use Rattle.tiles.specs.Rows.{Packs}
-use Rattle.tiles.proofs.Rows.{weighed-small}
+use Rattle.tiles.proofs.Rows.{weighed_small}
 
 -- ---- a tile and a code
 
@@ -34,7 +34,7 @@ record Step (c t : ℕ) : Type 0 where
   few : same c t ≤ 1
 
 step : (c t : ℕ) → Step c t
-step c t = go (lt-or-ge t c) (lt-or-ge c t)
+step c t = go (lt_or_ge t c) (lt_or_ge c t)
   where
     go : (t < c) ⊎ (c ≤ t) → (c < t) ⊎ (t ≤ c) → Step c t
     go (inl a) b = record {
@@ -54,25 +54,25 @@ step c t = go (lt-or-ge t c) (lt-or-ge c t)
     }
 
 last : (t : ℕ) → below 8 t + 1125899906842624 * since 8 t ≡ weighed t
-last t = go (lt-or-ge t 8)
+last t = go (lt_or_ge t 8)
   where
     go : (t < 8) ⊎ (8 ≤ t) → below 8 t + 1125899906842624 * since 8 t ≡ weighed t
     go (inl h) = rw (lt-ltb t 8 h) (omega arith)
     go (inr h) = let k : 7 ≤ t = omega arith in rw (le-ltb t 7 k, le-ltb t 8 h) (omega arith)
 
-below-small : (c t : ℕ) → below c t ≤ 1125899906842624
-below-small c t = go (lt-or-ge t c)
+below_small : (c t : ℕ) → below c t ≤ 1125899906842624
+below_small c t = go (lt_or_ge t c)
   where
     go : (t < c) ⊎ (c ≤ t) → below c t ≤ 1125899906842624
-    go (inl h) = rw (lt-ltb t c h) (weighed-small t)
+    go (inl h) = rw (lt-ltb t c h) (weighed_small t)
     go (inr h) = rw (le-ltb t c h) (omega arith)
 
 -- a test for it
-pub same-is : (c t : ℕ) → t ≡ c → 1 ≡ same c t
-same-is c t e = rw (le-ltb t c (omega arith), le-ltb c t (omega arith)) refl
+pub same_is : (c t : ℕ) → t ≡ c → 1 ≡ same c t
+same_is c t e = rw (le-ltb t c (omega arith), le-ltb c t (omega arith)) refl
 
 pub same_not : (c t : ℕ) → (t ≡ c → ⊥) → 0 ≡ same c t
-same_not c t d = go (lt-or-ge t c) (lt-or-ge c t)
+same_not c t d = go (lt_or_ge t c) (lt_or_ge c t)
   where
     go : (t < c) ⊎ (c ≤ t) → (c < t) ⊎ (t ≤ c) → 0 ≡ same c t
     go (inl a) b = rw (lt-ltb t c a) refl
@@ -82,8 +82,8 @@ same_not c t d = go (lt-or-ge t c) (lt-or-ge c t)
 -- ---- many tiles and a code
 
 -- the tiles from k on
-abbrev pub tilesAt : List ℕ → ℕ → ℕ → ℕ
-tilesAt tiles k j = get_or tiles (k + j) 0
+abbrev pub tiles_at : List ℕ → ℕ → ℕ → ℕ
+tiles_at tiles k j = get_or tiles (k + j) 0
 
 -- how many have code c, how many a later one or none, and what those before add
 module _ (t : ℕ → ℕ) where
@@ -93,8 +93,8 @@ module _ (t : ℕ → ℕ) where
   abbrev pub left_of : ℕ → ℕ → ℕ
   left_of n c = sum_of n (λ i. since c (t i))
 
-  abbrev pub addedBy : ℕ → ℕ → ℕ
-  addedBy n c = sum_of n (λ i. below c (t i))
+  abbrev pub added_by : ℕ → ℕ → ℕ
+  added_by n c = sum_of n (λ i. below c (t i))
 
   pub count_next : (n c : ℕ) → count_of (n + 1) c ≡ count_of n c + same c (t n)
   unfolding sum_of
@@ -105,63 +105,63 @@ module _ (t : ℕ → ℕ) where
   few zero c = omega arith
   few (suc n) c = omega (arith, few n c, (step c (t n)).few)
 
-  pub left-next : (n c : ℕ) → left_of n c ≡ count_of n c + left_of n (c + 1)
+  pub left_next : (n c : ℕ) → left_of n c ≡ count_of n c + left_of n (c + 1)
   unfolding sum_of
-  left-next zero c = refl
-  left-next (suc n) c = omega (arith, left-next n c, (step c (t n)).others)
+  left_next zero c = refl
+  left_next (suc n) c = omega (arith, left_next n c, (step c (t n)).others)
 
-  added_next : (n c : ℕ) → addedBy n (c + 1) ≡ addedBy n c + weighed c * count_of n c
+  added_next : (n c : ℕ) → added_by n (c + 1) ≡ added_by n c + weighed c * count_of n c
   unfolding sum_of
   added_next zero c = omega arith
   added_next (suc n) c = omega (arith, added_next n c, (step c (t n)).adds, mul-add (weighed c) (count_of n c) (same c (t n)))
 
-  pub left-all : (n : ℕ) → left_of n 0 ≡ n
+  pub left_all : (n : ℕ) → left_of n 0 ≡ n
   unfolding sum_of
-  left-all zero = refl
-  left-all (suc n) = rw (le-ltb (t n) 0 (omega arith)) (omega (arith, left-all n))
+  left_all zero = refl
+  left_all (suc n) = rw (le-ltb (t n) 0 (omega arith)) (omega (arith, left_all n))
 
-  pub added_none : (n : ℕ) → addedBy n 0 ≡ 0
+  pub added_none : (n : ℕ) → added_by n 0 ≡ 0
   unfolding sum_of
   added_none zero = refl
   added_none (suc n) = rw (le-ltb (t n) 0 (omega arith)) (omega (arith, added_none n))
 
-  added-all : (n : ℕ) → addedBy n 8 + 1125899906842624 * left_of n 8 ≡ sum_of n (λ i. weighed (t i))
+  added_all : (n : ℕ) → added_by n 8 + 1125899906842624 * left_of n 8 ≡ sum_of n (λ i. weighed (t i))
   unfolding sum_of
-  added-all zero = refl
-  added-all (suc n) = omega (arith, added-all n, last (t n))
+  added_all zero = refl
+  added_all (suc n) = omega (arith, added_all n, last (t n))
 
-  pub added-small : (n c : ℕ) → addedBy n c ≤ 1125899906842624 * n
+  pub added_small : (n c : ℕ) → added_by n c ≤ 1125899906842624 * n
   unfolding sum_of
-  added-small zero c = omega arith
-  added-small (suc n) c = omega (arith, added-small n c, below-small c (t n))
+  added_small zero c = omega arith
+  added_small (suc n) c = omega (arith, added_small n c, below_small c (t n))
 
-  pub sum-small : (n : ℕ) → sum_of n (λ i. weighed (t i)) ≤ 1125899906842624 * n
+  pub sum_small : (n : ℕ) → sum_of n (λ i. weighed (t i)) ≤ 1125899906842624 * n
   unfolding sum_of
-  sum-small zero = omega arith
-  sum-small (suc n) = omega (arith, sum-small n, weighed-small (t n))
+  sum_small zero = omega arith
+  sum_small (suc n) = omega (arith, sum_small n, weighed_small (t n))
 
   -- one code more, and what has none, by the rows
   module _ (rows : List ℕ) (p : Packs rows) (n x m : ℕ) where
-    pub row_next : (c : ℕ) → c < 8 → x ≡ addedBy n c → m ≡ count_of n c → x + get_or rows c 0 * m ≡ addedBy n (c + 1)
+    pub row_next : (c : ℕ) → c < 8 → x ≡ added_by n c → m ≡ count_of n c → x + get_or rows c 0 * m ≡ added_by n (c + 1)
     row_next c h ex em = ap₂ (λ (a b : ℕ). a + b) ex (ap₂ (λ (a b : ℕ). a * b) (p.row_at c h) em) ∙ sym (added_next n c)
 
-    pub row_last : x ≡ addedBy n 8 → m ≡ left_of n 8 → x + get_or rows 8 0 * m ≡ sum_of n (λ i. weighed (t i))
-    row_last ex em = ap₂ (λ (a b : ℕ). a + b) ex (ap₂ (λ (a b : ℕ). a * b) p.other em) ∙ added-all n
+    pub row_last : x ≡ added_by n 8 → m ≡ left_of n 8 → x + get_or rows 8 0 * m ≡ sum_of n (λ i. weighed (t i))
+    row_last ex em = ap₂ (λ (a b : ℕ). a + b) ex (ap₂ (λ (a b : ℕ). a * b) p.other em) ∙ added_all n
 
 -- ---- the tiles of a board
 
 -- one more, none, and a run
-pub weight-next : (ts : List ℕ) (i : ℕ) → i < length ts → weight (drop i ts) ≡ weighed (get_or ts i 0) + weight (drop (i + 1) ts)
+pub weight_next : (ts : List ℕ) (i : ℕ) → i < length ts → weight (drop i ts) ≡ weighed (get_or ts i 0) + weight (drop (i + 1) ts)
 unfolding weight
-weight-next ts i h = rw (add-one, drop-cons ts i 0) refl
+weight_next ts i h = rw (add-one, drop-cons ts i 0) refl
 
-pub weight-end : (ts : List ℕ) (i : ℕ) → i ≡ length ts → weight (drop i ts) ≡ 0
+pub weight_end : (ts : List ℕ) (i : ℕ) → i ≡ length ts → weight (drop i ts) ≡ 0
 unfolding weight
-weight-end ts i h = rw (h, drop-length) refl
+weight_end ts i h = rw (h, drop-length) refl
 
-pub weight-run : (ts : List ℕ) (k n : ℕ) → k + n ≤ length ts → weight (drop k ts) ≡ sum_of n (λ i. weighed (get_or ts (k + i) 0)) + weight (drop (k + n) ts)
+pub weight_run : (ts : List ℕ) (k n : ℕ) → k + n ≤ length ts → weight (drop k ts) ≡ sum_of n (λ i. weighed (get_or ts (k + i) 0)) + weight (drop (k + n) ts)
 unfolding sum_of
-weight-run ts k zero h = let e : k ≡ k + 0 = omega arith in omega (arith, ap (λ (j : ℕ). weight (drop j ts)) e)
-weight-run ts k (suc n) h =
+weight_run ts k zero h = let e : k ≡ k + 0 = omega arith in omega (arith, ap (λ (j : ℕ). weight (drop j ts)) e)
+weight_run ts k (suc n) h =
     let e : k + n + 1 ≡ k + suc n = omega arith in
-    omega (arith, weight-run ts k n (omega arith), weight-next ts (k + n) (omega arith), ap (λ (j : ℕ). weight (drop j ts)) e)
+    omega (arith, weight_run ts k n (omega arith), weight_next ts (k + n) (omega arith), ap (λ (j : ℕ). weight (drop j ts)) e)

@@ -8,10 +8,10 @@ use Rattle.tiles.specs.Word.{word_of}
 -- ---- masks
 
 -- six bits at each of four places
-mask-six : (x0 x1 x2 x3 : ℕ) → x1 < 65536 → x2 < 65536 → x3 < 65536
+mask_six : (x0 x1 x2 x3 : ℕ) → x1 < 65536 → x2 < 65536 → x3 < 65536
     → bit_and (x0 * 281474976710656 + x1 * 4294967296 + x2 * 65536 + x3) 17733194119839807
     ≡ x0 % 64 * 281474976710656 + x1 % 64 * 4294967296 + x2 % 64 * 65536 + x3 % 64
-mask-six x0 x1 x2 x3 h1 h2 h3 =
+mask_six x0 x1 x2 x3 h1 h2 h3 =
     let z : x0 * 281474976710656 + x1 * 4294967296 + x2 * 65536 + x3 ≡ ((x0 * 65536 + x1) * 65536 + x2) * 65536 + x3 = omega arith in
     ap (λ (v : ℕ). bit_and v 17733194119839807) z
     ∙ and_block 16 ((x0 * 65536 + x1) * 65536 + x2) 270587068479 x3 63 h3 (omega arith)
@@ -23,8 +23,8 @@ mask-six x0 x1 x2 x3 h1 h2 h3 =
     two u v = u * 65536 + v
 
 -- twelve bits at each of two
-mask-twelve : (y0 y1 : ℕ) → y1 < 4294967296 → bit_and (y0 * 4294967296 + y1) 17587891081215 ≡ y0 % 4096 * 4294967296 + y1 % 4096
-mask-twelve y0 y1 h =
+mask_twelve : (y0 y1 : ℕ) → y1 < 4294967296 → bit_and (y0 * 4294967296 + y1) 17587891081215 ≡ y0 % 4096 * 4294967296 + y1 % 4096
+mask_twelve y0 y1 h =
     and_block 32 y0 4095 y1 4095 h (omega arith) ∙ ap₂ (λ (u v : ℕ). u * 4294967296 + v) (and_mask y0 12) (and_mask y1 12)
 
 -- ---- eight tiles
@@ -48,7 +48,7 @@ module _ (a b c d e f g h : ℕ) (ha : a ≤ 7) (hb : b ≤ 7) (hc : c ≤ 7) (h
   pairs : bit_and (w + w / 32) 17733194119839807 ≡ (a * 8 + b) * 281474976710656 + (c * 8 + d) * 4294967296 + (e * 8 + f) * 65536 + (g * 8 + h)
   pairs =
       ap (λ (v : ℕ). bit_and v 17733194119839807) beside
-      ∙ mask-six (a * 256 + (a * 8 + b)) ((b * 8 + c) * 256 + (c * 8 + d)) ((d * 8 + e) * 256 + (e * 8 + f)) ((f * 8 + g) * 256 + (g * 8 + h))
+      ∙ mask_six (a * 256 + (a * 8 + b)) ((b * 8 + c) * 256 + (c * 8 + d)) ((d * 8 + e) * 256 + (e * 8 + f)) ((f * 8 + g) * 256 + (g * 8 + h))
       (omega arith) (omega arith) (omega arith)
       ∙ omega (
         arith,
@@ -63,20 +63,20 @@ module _ (p q r s : ℕ) (hp : p < 64) (hq : q < 64) (hr : r < 64) (hs : s < 64)
   abbrev v : ℕ
   v = p * 281474976710656 + q * 4294967296 + r * 65536 + s
 
-  next-to : v + v / 1024 ≡ (p * 65536 + q + p * 64) * 4294967296 + (q * 4194304 + r * 65536 + r * 64 + s)
-  next-to = omega arith
+  next_to : v + v / 1024 ≡ (p * 65536 + q + p * 64) * 4294967296 + (q * 4194304 + r * 65536 + r * 64 + s)
+  next_to = omega arith
 
   fours : bit_and (v + v / 1024) 17587891081215 ≡ (p * 64 + q) * 4294967296 + (r * 64 + s)
   fours =
-      ap (λ (x : ℕ). bit_and x 17587891081215) next-to
-      ∙ mask-twelve (p * 65536 + q + p * 64) (q * 4194304 + r * 65536 + r * 64 + s) (omega arith)
-      ∙ omega (arith, high, low-four)
+      ap (λ (x : ℕ). bit_and x 17587891081215) next_to
+      ∙ mask_twelve (p * 65536 + q + p * 64) (q * 4194304 + r * 65536 + r * 64 + s) (omega arith)
+      ∙ omega (arith, high, low_four)
     where
       high : (p * 65536 + q + p * 64) % 4096 ≡ p * 64 + q
       high = omega arith
 
-      low-four : (q * 4194304 + r * 65536 + r * 64 + s) % 4096 ≡ r * 64 + s
-      low-four = omega arith
+      low_four : (q * 4194304 + r * 65536 + r * 64 + s) % 4096 ≡ r * 64 + s
+      low_four = omega arith
 
 abbrev quads : ℕ → ℕ
 quads x = bit_and (x + x / 1024) 17587891081215

@@ -1,7 +1,7 @@
 // What the tiles of a board add, from a byte each.
 ghost use Rattle.std.specs.Prelude.{◌≡◌, ◌+◌, ◌*◌, ◌≤◌, length, get_or, drop};
 ghost use Rattle.account.specs.Lists.{sum_of};
-ghost use Rattle.level.specs.Sizes.{tilesMost};
+ghost use Rattle.level.specs.Sizes.{tiles_most};
 ghost use Rattle.tiles.specs.Sum.{weighed, weight};
 ghost use Rattle.boards.specs.Codes.{same};
 ghost use Rattle.tiles.specs.Rows.{Packs};
@@ -51,8 +51,8 @@ fn block(rows: &[u64; 9], tiles: &[u8], k: usize) -> u64
 
 // What the tiles from k on add, one after the other.
 fn rest(rows: &[u64; 9], tiles: &[u8], k: usize) -> u64
-    requires { Packs rows.now × (k ≤ length tiles.now) × (length tiles.now ≤ tilesMost) }
-    ensures { (result ≡ weight (drop k tiles.now)) × (result ≤ 1125899906842624 * tilesMost) }
+    requires { Packs rows.now × (k ≤ length tiles.now) × (length tiles.now ≤ tiles_most) }
+    ensures { (result ≡ weight (drop k tiles.now)) × (result ≤ 1125899906842624 * tiles_most) }
 {
     let mut x: u64 = 0;
     let mut i = k;
@@ -65,7 +65,7 @@ fn rest(rows: &[u64; 9], tiles: &[u8], k: usize) -> u64
 
 // What the tiles of a board add, in all.
 pub fn tally(tiles: &[u8]) -> u64
-    requires { length tiles.now ≤ tilesMost }
+    requires { length tiles.now ≤ tiles_most }
     ensures { result ≡ weight tiles.now }
 {
     let rows = tiles::tile::rows();

@@ -1,7 +1,7 @@
 // Tiles, a byte each, packed: three bits each from byte 3 of a record on.
 ghost use Rattle.std.specs.Prelude.{◌≡◌, ℕ, ◌+◌, ◌*◌, ◌/◌, ◌≤◌, ◌<◌, length, get_or};
-ghost use Rattle.level.specs.Sizes.{tilesMost};
-ghost use Rattle.boards.specs.Pack.{joinedAt, turnedOf, PackedIn};
+ghost use Rattle.level.specs.Sizes.{tiles_most};
+ghost use Rattle.boards.specs.Pack.{joined_at, turned_of, PackedIn};
 
 use tiles::group::wide;
 
@@ -16,7 +16,7 @@ fn push(v: u64, t: u8) -> u64
 // Eight tiles as one number of 24 bits, the first highest: two are put together at each of four places, then four at two.
 fn full(tiles: &[u8], g: usize) -> u64
     requires { (g ≤ 1000) × (8 * g + 8 ≤ length tiles.now) × ((q : ℕ) → get_or tiles.now q 0 ≤ 7) }
-    ensures { result ≡ joinedAt tiles.now g }
+    ensures { result ≡ joined_at tiles.now g }
 {
     let w = tiles::group::word(tiles, 8 * g);
     let a = (w + w / 32) & 0x003F003F003F003F;
@@ -27,7 +27,7 @@ fn full(tiles: &[u8], g: usize) -> u64
 // The same, floor past the end.
 fn last(tiles: &[u8], g: usize) -> u64
     requires { (g ≤ 1000) × ((q : ℕ) → get_or tiles.now q 0 ≤ 7) }
-    ensures { result ≡ joinedAt tiles.now g }
+    ensures { result ≡ joined_at tiles.now g }
 {
     let mut v: u64 = 0;
     let mut j: usize = 0;
@@ -41,14 +41,14 @@ fn last(tiles: &[u8], g: usize) -> u64
 // The three bytes of a number, the highest now lowest.
 fn turned(v: u64) -> u64
     requires { v < 16777216 }
-    ensures { result ≡ turnedOf v }
+    ensures { result ≡ turned_of v }
 {
     v / 65536 + v / 256 % 256 * 256 + v % 256 * 65536
 }
 
 // The tiles in a record whose first bytes are a buffer's, from byte 3 on; the rest of the buffer keeps its value.
 pub fn pack(tiles: &[u8], out: &mut [u8])
-    requires { (length tiles.now ≤ tilesMost) × ((q : ℕ) → get_or tiles.now q 0 ≤ 7) × (3 + (3 * length tiles.now + 7) / 8 ≤ length out.old) }
+    requires { (length tiles.now ≤ tiles_most) × ((q : ℕ) → get_or tiles.now q 0 ≤ 7) × (3 + (3 * length tiles.now + 7) / 8 ≤ length out.old) }
     ensures { PackedIn tiles.now out.old out.new }
 {
     let n = tiles.len() / 8;

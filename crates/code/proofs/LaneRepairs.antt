@@ -12,44 +12,44 @@ use Rattle.rules.proofs.Laws.{stops, either}
 use Rattle.code.specs.declared.repair.Repaired.{Repaired}
 use Rattle.code.specs.declared.repair.Repaired.TheVariants as repaired
 use Rattle.code.specs.declared.lane.Lane.{Lane}
-use Rattle.code.specs.Word.{wordMost}
-use Rattle.code.specs.Repair.{repairedNumbers, repairing, Repairs, RepairsAs}
-use Rattle.code.specs.Lane.{laneMost, word_of, LaneRepairsAs}
-use Rattle.code.proofs.Repairing.{refuses, repairs-alike}
+use Rattle.code.specs.Word.{word_most}
+use Rattle.code.specs.Repair.{repaired_numbers, repairing, Repairs, RepairsAs}
+use Rattle.code.specs.Lane.{lane_most, word_of, LaneRepairsAs}
+use Rattle.code.proofs.Repairing.{refuses, repairs_alike}
 
 module _ (lane marks : Lane) where
-  none : (c : ℕ) → c ≢ 0 → First (repairing gf256 laneMost lane.len marks.len (word_of marks) (word_of lane)) c
+  none : (c : ℕ) → c ≢ 0 → First (repairing gf256 lane_most lane.len marks.len (word_of marks) (word_of lane)) c
       → LaneRepairsAs lane marks (record { lane = lane; answer = repaired.Refused c })
-  none c k f = record { repairs = refuses gf256 laneMost lane.len marks.len (word_of marks) (word_of lane) c k f; same_len = refl; past = refl }
+  none c k f = record { repairs = refuses gf256 lane_most lane.len marks.len (word_of marks) (word_of lane) c k f; same_len = refl; past = refl }
 
-  pub lane-1 : (Within 6 laneMost lane.len → ⊥) → LaneRepairsAs lane marks (record { lane = lane; answer = repaired.Refused 1 })
-  lane-1 h = none 1 (λ z. omega (arith, z)) (stops 0 (repairing gf256 laneMost lane.len marks.len (word_of marks) (word_of lane)) 1 (h, refl))
+  pub lane_1 : (Within 6 lane_most lane.len → ⊥) → LaneRepairsAs lane marks (record { lane = lane; answer = repaired.Refused 1 })
+  lane_1 h = none 1 (λ z. omega (arith, z)) (stops 0 (repairing gf256 lane_most lane.len marks.len (word_of marks) (word_of lane)) 1 (h, refl))
 
-  module _ (low : 6 ≤ lane.len) (high : lane.len ≤ laneMost) where
-    within : Within 6 laneMost lane.len
+  module _ (low : 6 ≤ lane.len) (high : lane.len ≤ lane_most) where
+    within : Within 6 lane_most lane.len
     within = record { from = low; to = high }
 
-    pub lane-2 : marks.len ≢ lane.len → LaneRepairsAs lane marks (record { lane = lane; answer = repaired.Refused 2 })
-    lane-2 h = none 2 (λ z. omega (arith, z)) (stops 1 (repairing gf256 laneMost lane.len marks.len (word_of marks) (word_of lane)) 2 (within, (h, refl)))
+    pub lane_2 : marks.len ≢ lane.len → LaneRepairsAs lane marks (record { lane = lane; answer = repaired.Refused 2 })
+    lane_2 h = none 2 (λ z. omega (arith, z)) (stops 1 (repairing gf256 lane_most lane.len marks.len (word_of marks) (word_of lane)) 2 (within, (h, refl)))
 
     -- the word repaired, in front of what was past it
-    module _ (x : List ℕ) (a : Repaired) (em : marks.len ≡ lane.len) (room : length lane.bytes ≡ laneMost) (mroom : length marks.bytes ≡ laneMost)
-        (A : RepairsAs gf256 wordMost (take lane.len marks.bytes) (word_of lane) x a) where
+    module _ (x : List ℕ) (a : Repaired) (em : marks.len ≡ lane.len) (room : length lane.bytes ≡ lane_most) (mroom : length marks.bytes ≡ lane_most)
+        (A : RepairsAs gf256 word_most (take lane.len marks.bytes) (word_of lane) x a) where
       long : length (word_of lane) ≡ lane.len
       long = length-take-le lane.len lane.bytes (omega arith)
 
       mlong : length (take lane.len marks.bytes) ≡ lane.len
       mlong = length-take-le lane.len marks.bytes (omega arith)
 
-      x-long : length x ≡ lane.len
-      x-long = either (length x ≡ lane.len) (repairedNumbers a).code (λ z. (A.reach z).same_length ∙ long) (λ n. ap length (A.kept n) ∙ long)
+      x_long : length x ≡ lane.len
+      x_long = either (length x ≡ lane.len) (repaired_numbers a).code (λ z. (A.reach z).same_length ∙ long) (λ n. ap length (A.kept n) ∙ long)
 
-      word-is : take lane.len (x ++ drop lane.len lane.bytes) ≡ x
-      word-is = take_at x (drop lane.len lane.bytes) lane.len x-long
+      word_is : take lane.len (x ++ drop lane.len lane.bytes) ≡ x
+      word_is = take_at x (drop lane.len lane.bytes) lane.len x_long
 
-      same : Repairs gf256 laneMost lane.len lane.len (take lane.len marks.bytes) (word_of lane) x a
+      same : Repairs gf256 lane_most lane.len lane.len (take lane.len marks.bytes) (word_of lane) x a
       same =
-          repairs-alike gf256 wordMost laneMost (length (word_of lane)) lane.len (length (take lane.len marks.bytes)) lane.len
+          repairs_alike gf256 word_most lane_most (length (word_of lane)) lane.len (length (take lane.len marks.bytes)) lane.len
           (take lane.len marks.bytes) (word_of lane) x a (
             refl,
             (λ _. within),
@@ -58,13 +58,13 @@ module _ (lane marks : Lane) where
           )
           A
 
-      pub lane-repaired : LaneRepairsAs lane marks (record { lane = record { bytes = x ++ drop lane.len lane.bytes; len = lane.len }; answer = a })
-      lane-repaired = record {
+      pub lane_repaired : LaneRepairsAs lane marks (record { lane = record { bytes = x ++ drop lane.len lane.bytes; len = lane.len }; answer = a })
+      lane_repaired = record {
         repairs =
             subst
-            (λ (m : ℕ). Repairs gf256 laneMost lane.len m (take m marks.bytes) (word_of lane) (take lane.len (x ++ drop lane.len lane.bytes)) a)
+            (λ (m : ℕ). Repairs gf256 lane_most lane.len m (take m marks.bytes) (word_of lane) (take lane.len (x ++ drop lane.len lane.bytes)) a)
             (sym em)
-            (subst (λ (v : List ℕ). Repairs gf256 laneMost lane.len lane.len (take lane.len marks.bytes) (word_of lane) v a) (sym word-is) same);
+            (subst (λ (v : List ℕ). Repairs gf256 lane_most lane.len lane.len (take lane.len marks.bytes) (word_of lane) v a) (sym word_is) same);
         same_len = refl;
-        past = drop_at x (drop lane.len lane.bytes) lane.len x-long;
+        past = drop_at x (drop lane.len lane.bytes) lane.len x_long;
       }

@@ -12,8 +12,8 @@ use Rattle.remainder.specs.Remainder.{Checks, unpacked}
 use Rattle.code.specs.declared.word.Written.TheVariants as written
 use Rattle.code.specs.declared.word.Tested.TheVariants as tested
 use Rattle.rules.specs.Refusal.{First, Within}
-use Rattle.rules.proofs.Laws.{stops, hold-first}
-use Rattle.code.specs.Word.{wordMost, dataMost, writing, testing, WritesAs, TestsAs}
+use Rattle.rules.proofs.Laws.{stops, hold_first}
+use Rattle.code.specs.Word.{word_most, data_most, writing, testing, WritesAs, TestsAs}
 
 -- ---- the check bytes
 
@@ -51,10 +51,10 @@ word_of d w x C is = record {
   clean = subst (Clean gf256) (sym is) C.clean;
 }
 
-pub wrote : (d old mid new : List ℕ) (x : ℕ) → 1 ≤ length d → length d ≤ dataMost → length old ≡ length d + 5 → Checks d x → mid ≡ d ++ drop (length d) old
+pub wrote : (d old mid new : List ℕ) (x : ℕ) → 1 ≤ length d → length d ≤ data_most → length old ≡ length d + 5 → Checks d x → mid ≡ d ++ drop (length d) old
     → new ≡ sets mid (length d) (unpacked x) → WritesAs d old new (written.Length (length d + 5))
 wrote d old mid new x l h e C em en = record {
-  code = hold-first (writing d old) (record { from = l; to = h }, (e, tt));
+  code = hold_first (writing d old) (record { from = l; to = h }, (e, tt));
   word = λ _. word_of d new x C is;
   value = λ _. sym (ap length is ∙ length-append d (unpacked x));
   kept = λ n. absurd (n refl);
@@ -67,29 +67,29 @@ module _ (d old : List ℕ) where
   none : (c : ℕ) → c ≢ 0 → First (writing d old) c → WritesAs d old old (written.Refused c)
   none c k f = record { code = f; word = λ z. absurd (k z); value = λ z. absurd (k z); kept = λ _. refl }
 
-  pub refused-1 : (Within 1 dataMost (length d) → ⊥) → WritesAs d old old (written.Refused 1)
-  refused-1 h = none 1 (λ z. omega (arith, z)) (stops 0 (writing d old) 1 (h, refl))
+  pub refused_1 : (Within 1 data_most (length d) → ⊥) → WritesAs d old old (written.Refused 1)
+  refused_1 h = none 1 (λ z. omega (arith, z)) (stops 0 (writing d old) 1 (h, refl))
 
-  pub refused-4 : 1 ≤ length d → length d ≤ dataMost → length old ≢ length d + 5 → WritesAs d old old (written.Refused 4)
-  refused-4 low high h = none 4 (λ z. omega (arith, z)) (stops 1 (writing d old) 4 (record { from = low; to = high }, (h, refl)))
+  pub refused_4 : 1 ≤ length d → length d ≤ data_most → length old ≢ length d + 5 → WritesAs d old old (written.Refused 4)
+  refused_4 low high h = none 4 (λ z. omega (arith, z)) (stops 1 (writing d old) 4 (record { from = low; to = high }, (h, refl)))
 
 -- ---- the test
 
 module _ (w : List ℕ) where
-  pub test-refused : (Within 6 wordMost (length w) → ⊥) → TestsAs w (tested.Refused 1)
-  test-refused h = record {
+  pub test_refused : (Within 6 word_most (length w) → ⊥) → TestsAs w (tested.Refused 1)
+  test_refused h = record {
     told = λ z. omega (arith, z);
     code = stops 0 (testing w) 1 (h, refl);
     only = λ e. absurd (omega (arith, e));
     always = λ e. absurd (omega (arith, e));
   }
 
-  module _ (low : 6 ≤ length w) (high : length w ≤ wordMost) where
+  module _ (low : 6 ≤ length w) (high : length w ≤ word_most) where
     entered : First (testing w) 0
-    entered = hold-first (testing w) (record { from = low; to = high }, tt)
+    entered = hold_first (testing w) (record { from = low; to = high }, tt)
 
-    pub test-clean : Clean gf256 w → TestsAs w tested.Clean
-    test-clean c = record { told = tt; code = entered; only = λ _. c; always = λ _ _. refl }
+    pub test_clean : Clean gf256 w → TestsAs w tested.Clean
+    test_clean c = record { told = tt; code = entered; only = λ _. c; always = λ _ _. refl }
 
-    pub test-damaged : (Clean gf256 w → ⊥) → TestsAs w tested.Damaged
-    test-damaged n = record { told = tt; code = entered; only = λ e. absurd (omega (arith, e)); always = λ _ c. absurd (n c) }
+    pub test_damaged : (Clean gf256 w → ⊥) → TestsAs w tested.Damaged
+    test_damaged n = record { told = tt; code = entered; only = λ e. absurd (omega (arith, e)); always = λ _ c. absurd (n c) }

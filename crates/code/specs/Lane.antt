@@ -6,8 +6,8 @@ use Rattle.code.specs.declared.lane.Lane.{Lane}
 use Rattle.code.specs.declared.lane.LaneRepair.{LaneRepair}
 
 -- FORMAT 9.1: how many bytes a lane has at most
-abbrev pub laneMost : ℕ
-laneMost = 187
+abbrev pub lane_most : ℕ
+lane_most = 187
 
 -- FORMAT 8.6: the word that a lane holds
 abbrev pub word_of : Lane → List ℕ
@@ -15,6 +15,6 @@ word_of l = take l.len l.bytes
 
 -- FORMAT 8.6, 10.7: the repair of the word that a lane holds; what is past its length keeps its value
 pub record LaneRepairsAs (lane marks : Lane) (r : LaneRepair) : Type 0 where
-  pub repairs : Repairs gf256 laneMost lane.len marks.len (word_of marks) (word_of lane) (word_of r.lane) r.answer
+  pub repairs : Repairs gf256 lane_most lane.len marks.len (word_of marks) (word_of lane) (word_of r.lane) r.answer
   pub same_len : r.lane.len ≡ lane.len
   pub past : drop lane.len r.lane.bytes ≡ drop lane.len lane.bytes

@@ -2,9 +2,9 @@
 use Rattle.std.specs.Prelude.{◌≡◌, ◌≢◌, List, [], ◌∷◌, ◌++◌, ℕ, ◌≤◌, length}
 use Rattle.account.specs.Field.{Ops}
 use Rattle.account.specs.Code.{Cells, Clean}
-use Rattle.account.specs.Reach.{count_to, isMarked, differing, repainted, Reach, GoodMarks, Reachable}
+use Rattle.account.specs.Reach.{count_to, is_marked, differing, repainted, Reach, GoodMarks, Reachable}
 use Rattle.rules.specs.Refusal.{Rule, unless, First, Within}
-use Rattle.code.specs.Word.{wordMost}
+use Rattle.code.specs.Word.{word_most}
 use Rattle.code.specs.declared.repair.Repaired.{Repaired}
 use Rattle.code.specs.declared.repair.Repaired.TheVariants as repaired
 use Rattle.code.specs.declared.repair.Entered.{Entered}
@@ -16,9 +16,9 @@ pub record RepairNumbers : Type 0 where
   pub mended : ℕ
   pub repainted : ℕ
 
-abbrev pub repairedNumbers : Repaired → RepairNumbers
-repairedNumbers (repaired.Mended e d) = record { code = 0; mended = e; repainted = d }
-repairedNumbers (repaired.Refused c) = record { code = c; mended = 0; repainted = 0 }
+abbrev pub repaired_numbers : Repaired → RepairNumbers
+repaired_numbers (repaired.Mended e d) = record { code = 0; mended = e; repainted = d }
+repaired_numbers (repaired.Refused c) = record { code = c; mended = 0; repainted = 0 }
 
 -- a refusal has a number
 abbrev pub RepairTold : Repaired → Type 0
@@ -26,24 +26,24 @@ RepairTold (repaired.Mended e d) = Unit {0}
 RepairTold (repaired.Refused c) = c ≢ 0
 
 -- FORMAT 9.1 to 9.3: a word of n bytes with m marks is entered. 1: its length is not 6 to the most; 2: the marks are not as many; 3: a mark is above 1
-abbrev pub enteringWord : ℕ → ℕ → ℕ → List ℕ → List Rule
-enteringWord most n m marks = unless 1 (Within 6 most n) ∷ unless 2 (m ≡ n) ∷ unless 3 (GoodMarks marks) ∷ []
+abbrev pub entering_word : ℕ → ℕ → ℕ → List ℕ → List Rule
+entering_word most n m marks = unless 1 (Within 6 most n) ∷ unless 2 (m ≡ n) ∷ unless 3 (GoodMarks marks) ∷ []
 
 -- FORMAT 9.6: and repaired. 6: no clean word is within reach
 abbrev pub repairing : Ops → ℕ → ℕ → ℕ → List ℕ → List ℕ → List Rule
-repairing O most n m marks r = enteringWord most n m marks ++ unless 6 (Reachable O marks r) ∷ []
+repairing O most n m marks r = entering_word most n m marks ++ unless 6 (Reachable O marks r) ∷ []
 
 -- FORMAT 4.1 to 4.3, 4.6, 10.2: the word `old`, said to have n bytes and m marks, becomes `new`, the clean word within reach, and what differs is
 -- told. With a refusal it is kept.
 pub record Repairs (O : Ops) (most n m : ℕ) (marks old new : List ℕ) (a : Repaired) : Type 0 where
   pub told : RepairTold a
-  pub code : First (repairing O most n m marks old) (repairedNumbers a).code
-  pub cells : (repairedNumbers a).code ≡ 0 → Cells O new
-  pub clean : (repairedNumbers a).code ≡ 0 → Clean O new
-  pub reach : (repairedNumbers a).code ≡ 0 → Reach marks old new
-  pub mended-is : (repairedNumbers a).code ≡ 0 → (repairedNumbers a).mended ≡ differing marks old new
-  pub repainted-is : (repairedNumbers a).code ≡ 0 → (repairedNumbers a).repainted ≡ repainted marks old new
-  pub kept : (repairedNumbers a).code ≢ 0 → new ≡ old
+  pub code : First (repairing O most n m marks old) (repaired_numbers a).code
+  pub cells : (repaired_numbers a).code ≡ 0 → Cells O new
+  pub clean : (repaired_numbers a).code ≡ 0 → Clean O new
+  pub reach : (repaired_numbers a).code ≡ 0 → Reach marks old new
+  pub mended_is : (repaired_numbers a).code ≡ 0 → (repaired_numbers a).mended ≡ differing marks old new
+  pub repainted_is : (repaired_numbers a).code ≡ 0 → (repaired_numbers a).repainted ≡ repainted marks old new
+  pub kept : (repaired_numbers a).code ≢ 0 → new ≡ old
 
 -- FORMAT 8.5: the repair of a word of at most so many bytes, in place
 abbrev pub RepairsAs : Ops → ℕ → List ℕ → List ℕ → List ℕ → Repaired → Type 0
@@ -53,12 +53,12 @@ RepairsAs O most marks old new a = Repairs O most (length old) (length marks) ma
 
 -- refusals 1 to 3 of a word of n, and how many of its cells are marked
 pub record WordEntersAs (n : ℕ) (marks : List ℕ) (e : Entered) : Type 0 where
-  pub first : First (enteringWord wordMost n (length marks) marks) e.code
-  pub count : e.code ≡ 0 → e.marked ≡ count_to (isMarked marks) (length marks)
+  pub first : First (entering_word word_most n (length marks) marks) e.code
+  pub count : e.code ≡ 0 → e.marked ≡ count_to (is_marked marks) (length marks)
 
 -- what the search goes on with: a word of n with its marks, f of them set
 pub record Searchable (n : ℕ) (marks : List ℕ) (f : ℕ) : Type 0 where
   pub matched : n ≡ length marks
-  pub short : length marks ≤ wordMost
-  pub count : f ≡ count_to (isMarked marks) (length marks)
+  pub short : length marks ≤ word_most
+  pub count : f ≡ count_to (is_marked marks) (length marks)
   pub few : f ≤ 5

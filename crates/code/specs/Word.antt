@@ -9,36 +9,36 @@ use Rattle.code.specs.declared.word.Tested.{Tested}
 use Rattle.code.specs.declared.word.Tested.TheVariants as tested
 
 -- FORMAT 2.1: how many bytes a word has at most
-abbrev pub wordMost : ℕ
-wordMost = 255
+abbrev pub word_most : ℕ
+word_most = 255
 
 -- FORMAT 2.2: and how many of them are data
-abbrev pub dataMost : ℕ
-dataMost = 250
+abbrev pub data_most : ℕ
+data_most = 250
 
 -- ---- writing: the length is returned
 
-abbrev pub writtenNumbers : Written → Numbers
-writtenNumbers (written.Length n) = done n
-writtenNumbers (written.Refused c) = refused c
+abbrev pub written_numbers : Written → Numbers
+written_numbers (written.Length n) = done n
+written_numbers (written.Refused c) = refused c
 
 -- FORMAT 9.1, 9.4. 1: the data are not 1 to 250 bytes; 4: the buffer is not five longer
 abbrev pub writing : List ℕ → List ℕ → List Rule
-writing d old = unless 1 (Within 1 dataMost (length d)) ∷ unless 4 (length old ≡ length d + 5) ∷ []
+writing d old = unless 1 (Within 1 data_most (length d)) ∷ unless 4 (length old ≡ length d + 5) ∷ []
 
 -- FORMAT 8.3, 10.2: the word of the data, over the whole buffer, and its length; with a refusal the buffer is kept
 pub record WritesAs (d old new : List ℕ) (a : Written) : Type 0 where
-  pub code : First (writing d old) (writtenNumbers a).code
-  pub word : (writtenNumbers a).code ≡ 0 → WordOf gf256 d new
-  pub value : (writtenNumbers a).code ≡ 0 → (writtenNumbers a).value ≡ length new
-  pub kept : (writtenNumbers a).code ≢ 0 → new ≡ old
+  pub code : First (writing d old) (written_numbers a).code
+  pub word : (written_numbers a).code ≡ 0 → WordOf gf256 d new
+  pub value : (written_numbers a).code ≡ 0 → (written_numbers a).value ≡ length new
+  pub kept : (written_numbers a).code ≢ 0 → new ≡ old
 
 -- ---- testing: 1 for clean, 0 for not
 
-abbrev pub testedNumbers : Tested → Numbers
-testedNumbers tested.Clean = done 1
-testedNumbers tested.Damaged = done 0
-testedNumbers (tested.Refused c) = refused c
+abbrev pub tested_numbers : Tested → Numbers
+tested_numbers tested.Clean = done 1
+tested_numbers tested.Damaged = done 0
+tested_numbers (tested.Refused c) = refused c
 
 -- a refusal has a number
 abbrev pub TestTold : Tested → Type 0
@@ -48,11 +48,11 @@ TestTold (tested.Refused c) = c ≢ 0
 
 -- FORMAT 9.1: the length is not 6 to 255
 abbrev pub testing : List ℕ → List Rule
-testing w = unless 1 (Within 6 wordMost (length w)) ∷ []
+testing w = unless 1 (Within 6 word_most (length w)) ∷ []
 
 -- FORMAT 8.4: clean is answered of a word only if its five sums are zero, and always then
 pub record TestsAs (w : List ℕ) (a : Tested) : Type 0 where
   pub told : TestTold a
-  pub code : First (testing w) (testedNumbers a).code
-  pub only : (testedNumbers a).value ≡ 1 → Clean gf256 w
-  pub always : (testedNumbers a).code ≡ 0 → Clean gf256 w → (testedNumbers a).value ≡ 1
+  pub code : First (testing w) (tested_numbers a).code
+  pub only : (tested_numbers a).value ≡ 1 → Clean gf256 w
+  pub always : (tested_numbers a).code ≡ 0 → Clean gf256 w → (tested_numbers a).value ≡ 1

@@ -1,6 +1,6 @@
 // GF(256), for callers above.
 ghost use Rattle.std.specs.Prelude.{◌≡◌};
-ghost use Rattle.account.specs.Code.{alphaTo};
+ghost use Rattle.account.specs.Code.{alpha_to};
 ghost use Rattle.gf256.specs.Gf256.{gf256, times};
 
 // The product of two bytes.
@@ -13,7 +13,7 @@ pub fn product(a: u8, b: u8) -> u8
 
 // α^j; a negative exponent is a power of the inverse.
 pub fn power(j: i32) -> u8
-    ensures { result ≡ alphaTo gf256 j }
+    ensures { result ≡ alpha_to gf256 j }
 {
     let tables = gf256::tables::make();
     gf256::alpha_to(&tables, j)

@@ -1,12 +1,12 @@
 // Repair of a word in place: find the errata, count, apply.
 ghost use Rattle.std.specs.Prelude.{◌≡◌, List, ℕ, ◌<◌, ◌≤◌, length};
 ghost use Rattle.account.specs.Code.{Cells};
-ghost use Rattle.account.specs.Reach.{count_to, isMarked};
+ghost use Rattle.account.specs.Reach.{count_to, is_marked};
 ghost use Rattle.account.specs.Errata.{Applied};
 ghost use Rattle.gf256.specs.Gf256.{gf256};
-ghost use Rattle.remainder.specs.Remainder.{packedEnd, Remains};
+ghost use Rattle.remainder.specs.Remainder.{packed_end, Remains};
 ghost use Rattle.errata.specs.Errata.{cells_of, values_of, ErrataFor, SearchedAs};
-ghost use Rattle.code.specs.Word.{wordMost};
+ghost use Rattle.code.specs.Word.{word_most};
 ghost use Rattle.code.specs.Repair.{WordEntersAs, Searchable, RepairsAs};
 
 use super::word::WORD_MOST;
@@ -48,7 +48,7 @@ fn enter(n: usize, marks: &[u8]) -> Entered
 
 // The errata of a word with the remainder r. The tables are laid out here.
 fn errata_of(r: u64, marks: &[u8], f: usize) -> errata::Found
-    requires { (r < packedEnd) × (length marks.now ≤ 255) × (f ≡ count_to (isMarked marks.now) (length marks.now)) × (f ≤ 5) }
+    requires { (r < packed_end) × (length marks.now ≤ 255) × (f ≡ count_to (is_marked marks.now) (length marks.now)) × (f ≤ 5) }
     ensures { (w : List ℕ) → length w ≡ length marks.now → Cells gf256 w → Remains w r → SearchedAs result.good marks.now w result.errata }
 {
     let cells = marks::all(marks, f);
@@ -93,7 +93,7 @@ fn apply(e: values::Errata, word: &mut [u8])
 
 // The word becomes the clean word within reach, if there is one.
 pub fn repair(word: &mut [u8], marks: &[u8]) -> Repaired
-    ensures { RepairsAs gf256 wordMost marks.now word.old word.new result }
+    ensures { RepairsAs gf256 word_most marks.now word.old word.new result }
 {
     let entered = enter(word.len(), marks);
     let code = entered.code;

@@ -7,7 +7,7 @@ use Rattle.gf256.specs.Gf256.{gf256}
 use Rattle.remainder.specs.Remainder.{unpacked, Remains, LanesRemain}
 use Rattle.errata.specs.declared.Found.{Found}
 use Rattle.errata.specs.Errata.{Gathered, SearchedAs}
-use Rattle.code.specs.Lane.{laneMost}
+use Rattle.code.specs.Lane.{lane_most}
 
 module _ (O : Ops) (R : ℕ) where
   -- each lane of the first k columns of x is completed to a clean word by the five columns after them; the other cells are as they were
@@ -30,12 +30,12 @@ pub record Remaindered (R : ℕ) (s r : List ℕ) : Type 0 where
 -- lane l of R, each of n cells
 pub record LaneOf (R l n : ℕ) (s : List ℕ) : Type 0 where
   pub inside : l < R
-  pub short : n ≤ laneMost
+  pub short : n ≤ lane_most
   pub full : length s ≡ R * n
 
 -- cell p of the five columns after k columns, where c has the packed check bytes of each of R lanes
-abbrev pub checkCell : ℕ → ℕ → List ℕ → ℕ → ℕ
-checkCell R k c p = get_or (unpacked (get_or c (p % R) 0)) ((p - R * k) / R) 0
+abbrev pub check_cell : ℕ → ℕ → List ℕ → ℕ → ℕ
+check_cell R k c p = get_or (unpacked (get_or c (p % R) 0)) ((p - R * k) / R) 0
 
 -- what a search found for every word w of n cells that has the remainder r, where the first f of `erased` are its marked cells
 abbrev pub SearchedBy : ℕ → ℕ → List ℕ → ℕ → Found → Type 0

@@ -6,11 +6,11 @@ ghost use Rattle.gf256.specs.Gf256.{gf256};
 ghost use Rattle.rules.specs.Placed.{Placed};
 ghost use Rattle.gf256.specs.Tables.{Tables};
 ghost use Rattle.rules.specs.Refusal.{Within};
-ghost use Rattle.remainder.specs.Remainder.{unpacked, packedEnd};
+ghost use Rattle.remainder.specs.Remainder.{unpacked, packed_end};
 ghost use Rattle.errata.specs.Errata.{Listed};
-ghost use Rattle.code.specs.Word.{dataMost};
+ghost use Rattle.code.specs.Word.{data_most};
 ghost use Rattle.code.specs.Lane.{word_of};
-ghost use Rattle.dealt.specs.Lanes.{Remaindered, ChecksPut, LaneOf, checkCell, SearchedBy};
+ghost use Rattle.dealt.specs.Lanes.{Remaindered, ChecksPut, LaneOf, check_cell, SearchedBy};
 
 use code::lane::{LANE_MOST, Lane};
 
@@ -46,7 +46,7 @@ pub fn gather(strip: &[u8], lanes: usize, l: usize, n: usize) -> Lane
 
 // The errata of a lane of n cells with the remainder r, of which the first f of `erased` are the marked cells.
 pub fn search(tables: &[u8; 1022], n: usize, r: u64, erased: [usize; 5], f: usize) -> errata::Found
-    requires { Tables tables.now × Listed n erased f × (r < packedEnd) }
+    requires { Tables tables.now × Listed n erased f × (r < packed_end) }
     ensures { SearchedBy r n erased f result }
 {
     let s = remainder::syndrome_of(r);
@@ -63,8 +63,8 @@ fn check_byte(c: u64, i: usize) -> u8
 
 // Check byte i of each lane, as a column of cells: the i-th after k columns.
 fn place_column(x: &mut [u8], lanes: usize, k: usize, c: &[u64; LANES], i: usize)
-    requires { Within 1 16 lanes × (k ≤ dataMost) × (i < 5) × (lanes * (k + 5) ≤ length x.old) }
-    ensures { Placed (lanes * (k + i)) (lanes * (k + i + 1)) (checkCell lanes k c.now) x.old x.new }
+    requires { Within 1 16 lanes × (k ≤ data_most) × (i < 5) × (lanes * (k + 5) ≤ length x.old) }
+    ensures { Placed (lanes * (k + i)) (lanes * (k + i + 1)) (check_cell lanes k c.now) x.old x.new }
 {
     let from = lanes * (k + i);
     let mut j: usize = 0;
@@ -76,8 +76,8 @@ fn place_column(x: &mut [u8], lanes: usize, k: usize, c: &[u64; LANES], i: usize
 
 // The packed check bytes of the lanes of k cells, as five columns after them.
 fn place_checks(x: &mut [u8], lanes: usize, k: usize, c: &[u64; LANES])
-    requires { Within 1 16 lanes × (k ≤ dataMost) × (lanes * (k + 5) ≤ length x.old) }
-    ensures { Placed (lanes * k) (lanes * (k + 5)) (checkCell lanes k c.now) x.old x.new }
+    requires { Within 1 16 lanes × (k ≤ data_most) × (lanes * (k + 5) ≤ length x.old) }
+    ensures { Placed (lanes * k) (lanes * (k + 5)) (check_cell lanes k c.now) x.old x.new }
 {
     let mut i: usize = 0;
     while i < 5 {
@@ -88,7 +88,7 @@ fn place_checks(x: &mut [u8], lanes: usize, k: usize, c: &[u64; LANES])
 
 // The check cells of lanes of k data cells, which stand in front.
 pub fn put_checks(x: &mut [u8], lanes: usize, k: usize)
-    requires { Within 1 16 lanes × (k ≤ dataMost) × (lanes * (k + 5) ≤ length x.old) }
+    requires { Within 1 16 lanes × (k ≤ data_most) × (lanes * (k + 5) ≤ length x.old) }
     ensures { ChecksPut gf256 lanes k x.old x.new }
 {
     let c = remainder::lane_checks_of(&x[0..lanes * k], lanes);

@@ -10,23 +10,23 @@ use lib.Bits.{bit_xor}
 use lib.ListN.{length, take, set, length-set}
 use lib.Seq.{take-suc-set, length-take-le}
 use Rattle.account.specs.Code.{Cells, syndrome}
-use Rattle.account.specs.Reach.{isMarked}
+use Rattle.account.specs.Reach.{is_marked}
 use Rattle.account.specs.Errata.{Below, Distinct, filt, solve, unweighed, Applied}
 use Rattle.account.specs.Search.{erasures, Zeros, Fits}
-use Rattle.account.proofs.Cells.{below-append, below-places}
+use Rattle.account.proofs.Cells.{below_append, below_places}
 use Rattle.account.proofs.Filter as filter
-use Rattle.account.proofs.Solve.{solve-near}
+use Rattle.account.proofs.Solve.{solve_near}
 use Rattle.account.proofs.Locate as locate
 use Rattle.account.proofs.Powers as powers
-use Rattle.account.proofs.Words.{sumsOf}
+use Rattle.account.proofs.Words.{sums_of}
 use Rattle.account.proofs.Decode.{values}
 use Rattle.account.proofs.Search as search'
-use Rattle.account.proofs.Search.{Ready, distinct_append, distinct-erasures}
+use Rattle.account.proofs.Search.{Ready, distinct_append, distinct_erasures}
 use Rattle.gf256.specs.Gf256.{gf256, times}
-use Rattle.gf256.specs.Tables.{place_of, inverseOf}
-use Rattle.gf256.proofs.Lookups.{same-quotient}
-use Rattle.gf256.proofs.Field256.{field256, inv-is}
-use Rattle.locate.proofs.Sums.{drain-starts}
+use Rattle.gf256.specs.Tables.{place_of, inverse_of}
+use Rattle.gf256.proofs.Lookups.{same_quotient}
+use Rattle.gf256.proofs.Field256.{field256, inv_is}
+use Rattle.locate.proofs.Sums.{drain_starts}
 use Rattle.values.specs.declared.Errata.{Errata}
 use Rattle.errata.specs.Errata.{at, Left, Listed, Drained, Gathered, Guess, NoGuess}
 use Rattle.errata.specs.Errata.{GuessedAs, Bytes5, Couple, Valued, cells_of, values_of, Corrects, Beyond}
@@ -94,39 +94,39 @@ module _ (b : Bool) (n : ℕ) (ps t : List ℕ) (f count : ℕ) (cells : List �
 
 -- ---- listed cells
 
-pub listed-guess : (n : ℕ) (erased t : List ℕ) (f count : ℕ) (cells : List ℕ) → Listed n erased f → Guess n (take f erased) t f count cells
+pub listed_guess : (n : ℕ) (erased t : List ℕ) (f count : ℕ) (cells : List ℕ) → Listed n erased f → Guess n (take f erased) t f count cells
     → Listed n cells count
-listed-guess n erased t f count cells L U = record {
+listed_guess n erased t f count cells L U = record {
   short = L.short;
   room = U.room;
   few = omega (arith, U.counted, U.few);
-  below = subst (λ (l : List ℕ). Below l n) (sym U.list) (below-append (take f erased) U.wrong n L.below U.below);
+  below = subst (λ (l : List ℕ). Below l n) (sym U.list) (below_append (take f erased) U.wrong n L.below U.below);
   distinct = subst Distinct (sym U.list) (distinct_append (take f erased) U.wrong L.distinct U.distinct U.fits.free);
 }
 
-pub listed-marks : (marks cells : List ℕ) (f : ℕ) → length marks ≤ 255 → f ≤ 5 → Gathered marks cells f → Listed (length marks) cells f
-listed-marks marks cells f short h G = record {
+pub listed_marks : (marks cells : List ℕ) (f : ℕ) → length marks ≤ 255 → f ≤ 5 → Gathered marks cells f → Listed (length marks) cells f
+listed_marks marks cells f short h G = record {
   short = short;
   room = G.room;
   few = h;
-  below = subst (λ (l : List ℕ). Below l (length marks)) (sym G.list) (below-places (isMarked marks) (length marks));
-  distinct = subst Distinct (sym G.list) (distinct-erasures marks);
+  below = subst (λ (l : List ℕ). Below l (length marks)) (sym G.list) (below_places (is_marked marks) (length marks));
+  distinct = subst Distinct (sym G.list) (distinct_erasures marks);
 }
 
 -- ---- a syndrome and the words that have it
 
-sum-at : (s r : List ℕ) → s ≡ syndrome gf256 r → (m : ℕ) → m < 5 → at s m ≡ sumsOf gf256 r m
-sum-at s r e zero l = ap (λ (x : List ℕ). at x 0) e
-sum-at s r e (suc zero) l = ap (λ (x : List ℕ). at x 1) e
-sum-at s r e (suc (suc zero)) l = ap (λ (x : List ℕ). at x 2) e
-sum-at s r e (suc (suc (suc zero))) l = ap (λ (x : List ℕ). at x 3) e
-sum-at s r e (suc (suc (suc (suc zero)))) l = ap (λ (x : List ℕ). at x 4) e
-sum-at s r e (suc (suc (suc (suc (suc m))))) l = absurd (omega arith)
+sum_at : (s r : List ℕ) → s ≡ syndrome gf256 r → (m : ℕ) → m < 5 → at s m ≡ sums_of gf256 r m
+sum_at s r e zero l = ap (λ (x : List ℕ). at x 0) e
+sum_at s r e (suc zero) l = ap (λ (x : List ℕ). at x 1) e
+sum_at s r e (suc (suc zero)) l = ap (λ (x : List ℕ). at x 2) e
+sum_at s r e (suc (suc (suc zero))) l = ap (λ (x : List ℕ). at x 3) e
+sum_at s r e (suc (suc (suc (suc zero)))) l = ap (λ (x : List ℕ). at x 4) e
+sum_at s r e (suc (suc (suc (suc (suc m))))) l = absurd (omega arith)
 
 pub left_in : (n : ℕ) (cells s t : List ℕ) (f : ℕ) → Bytes5 s → Listed n cells f → Drained n (take f cells) s t → Left t f
 left_in n cells s t f b L D m l =
     subst (λ (x : ℕ). x < 256) (sym (D.sum m (omega (arith, length-take-le f cells (omega (arith, L.few, L.room))))))
-    (filter.filt-in gf256 field256 (map (place_of n) (take f cells)) (at s) b m)
+    (filter.filt_in gf256 field256 (map (place_of n) (take f cells)) (at s) b m)
 
 module _ (marks s t r : List ℕ) (n f : ℕ) (erased : List ℕ) (L : Listed n erased f) (D : Drained n (take f erased) s t)
     (en : length marks ≡ n) (G : Gathered marks erased f) (er : length r ≡ length marks) (cr : Cells gf256 r) (es : s ≡ syndrome gf256 r) where
@@ -142,76 +142,76 @@ module _ (marks s t r : List ℕ) (n f : ℕ) (erased : List ℕ) (L : Listed n 
     left = λ m l.
         D.sum m (omega (arith, long))
         ∙ ap₂ (λ (k : ℕ) (ps : List ℕ). filt gf256 (map (place_of k) ps) (at s) m) (sym en) G.list
-        ∙ filter.filt-near gf256 (map (place_of (length marks)) (erasures marks)) (at s) (sumsOf gf256 r) 5 (sum-at s r es) m
-        (rw (filter.length-map (place_of (length marks)) (erasures marks)) (omega (arith, long, ap length G.list)));
+        ∙ filter.filt_near gf256 (map (place_of (length marks)) (erasures marks)) (at s) (sums_of gf256 r) 5 (sum_at s r es) m
+        (rw (filter.length_map (place_of (length marks)) (erasures marks)) (omega (arith, long, ap length G.list)));
   }
 
   -- what is said of n and the listed cells, said of the marks
-  to-marks : (P : ℕ → List ℕ → Type 0) → P n (take f erased) → P (length marks) (erasures marks)
-  to-marks P x = subst (P (length marks)) G.list (subst (λ (k : ℕ). P k (take f erased)) (sym en) x)
+  to_marks : (P : ℕ → List ℕ → Type 0) → P n (take f erased) → P (length marks) (erasures marks)
+  to_marks P x = subst (P (length marks)) G.list (subst (λ (k : ℕ). P k (take f erased)) (sym en) x)
 
   pub beyond : NoGuess n (take f erased) t f → Beyond marks r
-  beyond N w cw kw hw = search'.refuted gf256 field256 marks r (at t) f ready w cw hw kw M.not_None M.not-one M.not-two
+  beyond N w cw kw hw = search'.refuted gf256 field256 marks r (at t) f ready w cw hw kw M.not_None M.not_one M.not_two
     where
       M : NoGuess (length marks) (erasures marks) t f
-      M = to-marks (λ k ps. NoGuess k ps t f) N
+      M = to_marks (λ k ps. NoGuess k ps t f) N
 
   pub corrects : (count : ℕ) (cells : List ℕ) (e : Errata) → Guess n (take f erased) t f count cells → Valued n cells count s e → Corrects marks r e
   corrects count cells e U K = record {
     listed = record {
       few = omega (arith, K.count, U.counted, U.few);
-      room = ap length K.same-cells ∙ U.room;
-      values-room = K.room;
-      below = subst (Below (cells_of e)) (sym same_length) (subst (λ (l : List ℕ). Below l n) (sym same-list) C.below);
-      distinct = subst Distinct (sym same-list) C.distinct;
+      room = ap length K.same_cells ∙ U.room;
+      values_room = K.room;
+      below = subst (Below (cells_of e)) (sym same_length) (subst (λ (l : List ℕ). Below l n) (sym same_list) C.below);
+      distinct = subst Distinct (sym same_list) C.distinct;
     };
     corrects = λ w a. search'.mended gf256 field256 marks r (at t) f ready U'.wrong U'.below U'.distinct U'.few U'.fits w
-        (subst (λ (ps : List ℕ). Applied gf256 ps (values gf256 field256 ps r) r w) (same-list ∙ U'.list)
-        (subst (λ (vs : List ℕ). Applied gf256 (cells_of e) vs r w) same-values a));
+        (subst (λ (ps : List ℕ). Applied gf256 ps (values gf256 field256 ps r) r w) (same_list ∙ U'.list)
+        (subst (λ (vs : List ℕ). Applied gf256 (cells_of e) vs r w) same_values a));
   }
     where
       C : Listed n cells count
-      C = listed-guess n erased t f count cells L U
+      C = listed_guess n erased t f count cells L U
 
       U' : Guess (length marks) (erasures marks) t f count cells
-      U' = to-marks (λ k ps. Guess k ps t f count cells) U
+      U' = to_marks (λ k ps. Guess k ps t f count cells) U
 
       same_length : length r ≡ n
       same_length = er ∙ en
 
-      same-list : cells_of e ≡ take count cells
-      same-list = ap₂ take K.count K.same-cells
+      same_list : cells_of e ≡ take count cells
+      same_list = ap₂ take K.count K.same_cells
 
       xs : List ℕ
       xs = map (place_of n) (take count cells)
 
-      same-values : values_of e ≡ values gf256 field256 (cells_of e) r
-      same-values =
+      same_values : values_of e ≡ values gf256 field256 (cells_of e) r
+      same_values =
           ap (λ (m : ℕ). take m e.values) K.count ∙ K.values
           ∙ ap (unweighed gf256 xs)
-          (solve-near gf256 field256 inverseOf xs (at s) (sumsOf gf256 r)
+          (solve_near gf256 field256 inverse_of xs (at s) (sums_of gf256 r)
           (λ m l.
-          sum-at s r es m
+          sum_at s r es m
           (omega (
             arith,
-            filter.length-map (place_of n) (take count cells),
+            filter.length_map (place_of n) (take count cells),
             length-take-le count cells (omega (arith, C.few, C.room)),
             C.few,
           ))))
-          ∙ ap₂ (λ (k : ℕ) (ps : List ℕ). unweighed gf256 (map (place_of k) ps) (solve gf256 inverseOf (map (place_of k) ps) (sumsOf gf256 r)))
-          (sym same_length) (sym same-list)
+          ∙ ap₂ (λ (k : ℕ) (ps : List ℕ). unweighed gf256 (map (place_of k) ps) (solve gf256 inverse_of (map (place_of k) ps) (sums_of gf256 r)))
+          (sym same_length) (sym same_list)
           ∙ ap (λ (inv : ℕ → ℕ). unweighed gf256 (map (place_of (length r)) (cells_of e))
-          (solve gf256 inv (map (place_of (length r)) (cells_of e)) (sumsOf gf256 r)))
-          (sym inv-is)
+          (solve gf256 inv (map (place_of (length r)) (cells_of e)) (sums_of gf256 r)))
+          (sym inv_is)
 
 -- ---- five marks
 
 module _ (n : ℕ) (erased s : List ℕ) (f : ℕ) (L : Listed n erased f) (five : f ≡ 5) where
-  pub five-drained : Drained n (take f erased) s s
-  five-drained = record { sum = λ m l. absurd (omega (arith, length-take-le f erased (omega (arith, L.few, L.room)))) }
+  pub five_drained : Drained n (take f erased) s s
+  five_drained = record { sum = λ m l. absurd (omega (arith, length-take-le f erased (omega (arith, L.few, L.room)))) }
 
-  pub five-guess : Guess n (take f erased) s f f erased
-  five-guess = guess0 n erased f L s L.few (λ m l. absurd (omega arith))
+  pub five_guess : Guess n (take f erased) s f f erased
+  five_guess = guess0 n erased f L s L.few (λ m l. absurd (omega arith))
 
 -- ---- no marks
 
@@ -219,36 +219,36 @@ module _ (n : ℕ) (s : List ℕ) (short : n ≤ 255) where
   abbrev nowhere : List ℕ
   nowhere = 0 ∷ 0 ∷ 0 ∷ 0 ∷ 0 ∷ []
 
-  none-listed : Listed n nowhere 0
-  none-listed = record { short = short; room = refl; few = omega arith; below = tt; distinct = tt }
+  none_listed : Listed n nowhere 0
+  none_listed = record { short = short; room = refl; few = omega arith; below = tt; distinct = tt }
 
-  none-gathered : (marks : List ℕ) → erasures marks ≡ [] → Gathered marks nowhere 0
-  none-gathered marks e = record { room = refl; list = sym e }
+  none_gathered : (marks : List ℕ) → erasures marks ≡ [] → Gathered marks nowhere 0
+  none_gathered marks e = record { room = refl; list = sym e }
 
-  pub none-beyond : NoGuess n [] s 0 → (marks : List ℕ) → length marks ≡ n → erasures marks ≡ [] → (r : List ℕ) → length r ≡ length marks → Cells gf256 r
+  pub none_beyond : NoGuess n [] s 0 → (marks : List ℕ) → length marks ≡ n → erasures marks ≡ [] → (r : List ℕ) → length r ≡ length marks → Cells gf256 r
       → s ≡ syndrome gf256 r → Beyond marks r
-  none-beyond N marks en em r er cr es =
-      beyond marks s s r n 0 nowhere none-listed (drain-starts n nowhere s) en (none-gathered marks em) er cr es N
+  none_beyond N marks en em r er cr es =
+      beyond marks s s r n 0 nowhere none_listed (drain_starts n nowhere s) en (none_gathered marks em) er cr es N
 
-  pub none-corrects : (count : ℕ) (cells : List ℕ) (e : Errata) → Guess n [] s 0 count cells → Valued n cells count s e
+  pub none_corrects : (count : ℕ) (cells : List ℕ) (e : Errata) → Guess n [] s 0 count cells → Valued n cells count s e
       → (marks : List ℕ) → length marks ≡ n → erasures marks ≡ [] → (r : List ℕ) → length r ≡ length marks → Cells gf256 r
       → s ≡ syndrome gf256 r → Corrects marks r e
-  none-corrects count cells e U K marks en em r er cr es =
-      corrects marks s s r n 0 nowhere none-listed (drain-starts n nowhere s) en (none-gathered marks em) er cr es count cells e U K
+  none_corrects count cells e U K marks en em r er cr es =
+      corrects marks s s r n 0 nowhere none_listed (drain_starts n nowhere s) en (none_gathered marks em) er cr es count cells e U K
 
   -- what is said of none, of one cell or of two
-  pub none-wrong : Zeros 5 (at s) → Guess n [] s 0 0 nowhere
-  none-wrong z = guess0 n nowhere 0 none-listed s (omega arith) z
+  pub none_wrong : Zeros 5 (at s) → Guess n [] s 0 0 nowhere
+  none_wrong z = guess0 n nowhere 0 none_listed s (omega arith) z
 
-  pub one-wrong : (p : ℕ) → p < n → Fits gf256 n [] (at s) 4 (p ∷ []) → Guess n [] s 0 1 (p ∷ 0 ∷ 0 ∷ 0 ∷ 0 ∷ [])
-  one-wrong p l fit = guess1 n nowhere 0 none-listed s p (omega arith) l fit
+  pub one_wrong : (p : ℕ) → p < n → Fits gf256 n [] (at s) 4 (p ∷ []) → Guess n [] s 0 1 (p ∷ 0 ∷ 0 ∷ 0 ∷ 0 ∷ [])
+  one_wrong p l fit = guess1 n nowhere 0 none_listed s p (omega arith) l fit
 
-  pub two-wrong : (p q : ℕ) → p < n → q < n → p ≢ q → Fits gf256 n [] (at s) 3 (p ∷ q ∷ []) → Guess n [] s 0 2 (p ∷ q ∷ 0 ∷ 0 ∷ 0 ∷ [])
-  two-wrong p q lp lq ne fit = guess2 n nowhere 0 none-listed s p q (omega arith) lp lq ne fit
+  pub two_wrong : (p q : ℕ) → p < n → q < n → p ≢ q → Fits gf256 n [] (at s) 3 (p ∷ q ∷ []) → Guess n [] s 0 2 (p ∷ q ∷ 0 ∷ 0 ∷ 0 ∷ [])
+  two_wrong p q lp lq ne fit = guess2 n nowhere 0 none_listed s p q (omega arith) lp lq ne fit
 
-  pub one-valued : (p : ℕ) → Bytes5 s → Fits gf256 n [] (at s) 4 (p ∷ [])
+  pub one_valued : (p : ℕ) → Bytes5 s → Fits gf256 n [] (at s) 4 (p ∷ [])
       → Valued n (p ∷ 0 ∷ 0 ∷ 0 ∷ 0 ∷ []) 1 s (record { count = 1; cells = p ∷ 0 ∷ 0 ∷ 0 ∷ 0 ∷ []; values = at s 2 ∷ 0 ∷ 0 ∷ 0 ∷ 0 ∷ [] })
-  one-valued p b fit = record { count = refl; same-cells = refl; room = refl; values = ap (λ (v : ℕ). v ∷ []) value }
+  one_valued p b fit = record { count = refl; same_cells = refl; room = refl; values = ap (λ (v : ℕ). v ∷ []) value }
     where
       X : ℕ
       X = place_of n p
@@ -262,23 +262,23 @@ module _ (n : ℕ) (s : List ℕ) (short : n ≤ 255) where
       value : at s 2 ≡ times (times (bit_xor (at s 0) 0) X) X
       value =
           sym second ∙ ap (times X) (sym first) ∙ ap (times X) (field256.mul_comm X (at s 0)) ∙ field256.mul_comm X (times (at s 0) X)
-          ∙ ap (λ (v : ℕ). times (times v X) X) (sym (field256.add-zero (at s 0)))
+          ∙ ap (λ (v : ℕ). times (times v X) X) (sym (field256.add_zero (at s 0)))
 
-  pub none-valued : (cells values : List ℕ) → length values ≡ 5 → Valued n cells 0 s (record { count = 0; cells = cells; values = values })
-  none-valued cells values h = record { count = refl; same-cells = refl; room = h; values = refl }
+  pub none_valued : (cells values : List ℕ) → length values ≡ 5 → Valued n cells 0 s (record { count = 0; cells = cells; values = values })
+  none_valued cells values h = record { count = refl; same_cells = refl; room = h; values = refl }
 
-  pub pair-apart : (p q : ℕ) → Couple s n p q → 0 < bit_xor (place_of n p) (place_of n q)
-  pair-apart p q C = some (bit_xor (place_of n p) (place_of n q)) (filter.apart_some gf256 field256 n short p q C.below-p C.below-q C.apart)
+  pub pair_apart : (p q : ℕ) → Couple s n p q → 0 < bit_xor (place_of n p) (place_of n q)
+  pair_apart p q C = some (bit_xor (place_of n p) (place_of n q)) (filter.apart_some gf256 field256 n short p q C.below_p C.below_q C.apart)
     where
       some : (x : ℕ) → x ≢ 0 → 0 < x
       some zero h = absurd (h refl)
       some (suc x) h = omega arith
 
-  pub pair-valued : (p q v i : ℕ) → Bytes5 s → Couple s n p q → times (bit_xor (place_of n p) (place_of n q)) i ≡ 1
+  pub pair_valued : (p q v i : ℕ) → Bytes5 s → Couple s n p q → times (bit_xor (place_of n p) (place_of n q)) i ≡ 1
       → v ≡ times (bit_xor (at s 3) (times (place_of n q) (at s 2))) i
       → Valued n (p ∷ q ∷ 0 ∷ 0 ∷ 0 ∷ []) 2 s
       (record { count = 2; cells = p ∷ q ∷ 0 ∷ 0 ∷ 0 ∷ []; values = v ∷ bit_xor (at s 2) v ∷ 0 ∷ 0 ∷ 0 ∷ [] })
-  pair-valued p q v i b C ei ev = record { count = refl; same-cells = refl; room = refl; values = ap₂ (λ (a c : ℕ). a ∷ c ∷ []) first second }
+  pair_valued p q v i b C ei ev = record { count = refl; same_cells = refl; room = refl; values = ap₂ (λ (a c : ℕ). a ∷ c ∷ []) first second }
     where
       X : ℕ
       X = place_of n p
@@ -289,31 +289,31 @@ module _ (n : ℕ) (s : List ℕ) (short : n ≤ 255) where
       g : ℕ
       g = bit_xor (at s 1) (times X (at s 0))
 
-      quotient : times (bit_xor g 0) (inverseOf (bit_xor Y X)) ≡ times g i
+      quotient : times (bit_xor g 0) (inverse_of (bit_xor Y X)) ≡ times g i
       quotient =
-          sym (same-quotient (bit_xor g 0) (bit_xor Y X) i (field256.in-add Y X (powers.place_in gf256 field256 n q) (powers.place_in gf256 field256 n p))
-          (filter.apart_some gf256 field256 n short q p C.below-q C.below-p (λ e. C.apart (sym e)))
+          sym (same_quotient (bit_xor g 0) (bit_xor Y X) i (field256.in_add Y X (powers.place_in gf256 field256 n q) (powers.place_in gf256 field256 n p))
+          (filter.apart_some gf256 field256 n short q p C.below_q C.below_p (λ e. C.apart (sym e)))
           (ap (λ (a : ℕ). times a i) (field256.add_comm Y X) ∙ ei))
-          ∙ ap (λ (a : ℕ). times a i) (field256.add-zero g)
+          ∙ ap (λ (a : ℕ). times a i) (field256.add_zero g)
 
-      first : v ≡ times (times (bit_xor (at s 0) (bit_xor (times (bit_xor g 0) (inverseOf (bit_xor Y X))) 0)) X) X
+      first : v ≡ times (times (bit_xor (at s 0) (bit_xor (times (bit_xor g 0) (inverse_of (bit_xor Y X))) 0)) X) X
       first =
-          ev ∙ sym (locate.pair-first gf256 field256 (at s) X Y i ei b C.fits.none)
-          ∙ ap (λ (a : ℕ). times (times (bit_xor (at s 0) a) X) X) (sym quotient ∙ sym (field256.add-zero (times (bit_xor g 0) (inverseOf (bit_xor Y X)))))
+          ev ∙ sym (locate.pair_first gf256 field256 (at s) X Y i ei b C.fits.none)
+          ∙ ap (λ (a : ℕ). times (times (bit_xor (at s 0) a) X) X) (sym quotient ∙ sym (field256.add_zero (times (bit_xor g 0) (inverse_of (bit_xor Y X)))))
 
-      second : bit_xor (at s 2) v ≡ times (times (times (bit_xor g 0) (inverseOf (bit_xor Y X))) Y) Y
+      second : bit_xor (at s 2) v ≡ times (times (times (bit_xor g 0) (inverse_of (bit_xor Y X))) Y) Y
       second =
-          ap (bit_xor (at s 2)) ev ∙ sym (locate.pair-second gf256 field256 (at s) X Y i ei b C.fits.none)
+          ap (bit_xor (at s 2)) ev ∙ sym (locate.pair_second gf256 field256 (at s) X Y i ei b C.fits.none)
           ∙ ap (λ (a : ℕ). times (times a Y) Y) (sym quotient)
 
 -- ---- five sums
 
 -- five are all there are
-pub same-five : (l : List ℕ) → length l ≡ 5 → at l 0 ∷ at l 1 ∷ at l 2 ∷ at l 3 ∷ at l 4 ∷ [] ≡ l
-same-five [] h = absurd (omega arith)
-same-five (a ∷ []) h = absurd (omega arith)
-same-five (a ∷ b ∷ []) h = absurd (omega arith)
-same-five (a ∷ b ∷ c ∷ []) h = absurd (omega arith)
-same-five (a ∷ b ∷ c ∷ d ∷ []) h = absurd (omega arith)
-same-five (a ∷ b ∷ c ∷ d ∷ e ∷ []) h = refl
-same-five (a ∷ b ∷ c ∷ d ∷ e ∷ f ∷ l) h = absurd (omega arith)
+pub same_five : (l : List ℕ) → length l ≡ 5 → at l 0 ∷ at l 1 ∷ at l 2 ∷ at l 3 ∷ at l 4 ∷ [] ≡ l
+same_five [] h = absurd (omega arith)
+same_five (a ∷ []) h = absurd (omega arith)
+same_five (a ∷ b ∷ []) h = absurd (omega arith)
+same_five (a ∷ b ∷ c ∷ []) h = absurd (omega arith)
+same_five (a ∷ b ∷ c ∷ d ∷ []) h = absurd (omega arith)
+same_five (a ∷ b ∷ c ∷ d ∷ e ∷ []) h = refl
+same_five (a ∷ b ∷ c ∷ d ∷ e ∷ f ∷ l) h = absurd (omega arith)

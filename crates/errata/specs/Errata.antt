@@ -32,8 +32,8 @@ NotTwo n ps t f = (p q : ℕ) → p < n → q < p → Fits gf256 n ps (at t) (5 
 -- no guess of none, one or two cells fits, where so many may be wrong
 pub record NoGuess (n : ℕ) (ps t : List ℕ) (f : ℕ) : Type 0 where
   pub not_none : NotNone t f
-  pub not-one : 2 + f ≤ 5 → NotOne n ps t f
-  pub not-two : 4 + f ≤ 5 → NotTwo n ps t f
+  pub not_one : 2 + f ≤ 5 → NotOne n ps t f
+  pub not_two : 4 + f ≤ 5 → NotTwo n ps t f
 
 abbrev pub GuessedAs : Bool → ℕ → List ℕ → List ℕ → ℕ → ℕ → List ℕ → Type 0
 GuessedAs true n ps t f count cells = Guess n ps t f count cells
@@ -43,8 +43,8 @@ GuessedAs false n ps t f count cells = NoGuess n ps t f
 
 -- p and q are the wrong cells of a word of n with no marks
 pub record Couple (s : List ℕ) (n p q : ℕ) : Type 0 where
-  pub below-p : p < n
-  pub below-q : q < n
+  pub below_p : p < n
+  pub below_q : q < n
   pub apart : p ≢ q
   pub fits : Fits gf256 n [] (at s) 3 (p ∷ q ∷ [])
 

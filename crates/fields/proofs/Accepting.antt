@@ -9,14 +9,14 @@ use Rattle.rules.specs.Refusal.{First, Hold, asked}
 use Rattle.rules.proofs.Laws.{all_hold}
 use Rattle.level.specs.Level.{Level}
 use Rattle.level.specs.Record.{field_at}
-use Rattle.level.specs.Reading.{tilesIn, tilesOf, levelOf, judging}
-use Rattle.level.proofs.Fields.{same-level}
-use Rattle.level.proofs.Judged.{length-tiles}
-use Rattle.tiles.specs.Part.{tilesFrom}
-use Rattle.tiles.proofs.Part.{part_of, tilesFrom-part}
+use Rattle.level.specs.Reading.{tiles_in, tiles_of, level_of, judging}
+use Rattle.level.proofs.Fields.{same_level}
+use Rattle.level.proofs.Judged.{length_tiles}
+use Rattle.tiles.specs.Part.{tiles_from}
+use Rattle.tiles.proofs.Part.{part_of, tiles_from_part}
 use Rattle.fields.specs.declared.judged.Judged.{Judged}
 use Rattle.fields.specs.Judged.{JudgedAs, AcceptedAs}
-use Rattle.fields.proofs.Judging.{part-fits}
+use Rattle.fields.proofs.Judging.{part_fits}
 
 -- what is not refused has passed every rule
 pub passed : (upto R : ℕ) (bs : List ℕ) (c : ℕ) → c ≡ 0 → First (asked (λ ask. ask bs) (judging upto R)) c → Hold (asked (λ ask. ask bs) (judging upto R))
@@ -39,32 +39,32 @@ module _ (upto lanes : ℕ) (bs : List ℕ) (r : Judged) (J : JudgedAs upto lane
     area = ap₂ (λ (x y : ℕ). x * y) (J.spells z).width (J.spells z).height
 
     pub room_for : 0 < lanes → 3 * (r.width * r.height) ≤ 8 * length (part_of bs)
-    room_for some = omega (arith, area, part-fits lanes bs some (passed upto lanes bs r.code z J.first).1.0)
+    room_for some = omega (arith, area, part_fits lanes bs some (passed upto lanes bs r.code z J.first).1.0)
 
-    pub accepted : (new : List ℕ) → new ≡ tilesFrom (part_of bs) (r.width * r.height) ++ drop (r.width * r.height) old → AcceptedAs upto lanes bs old new r
+    pub accepted : (new : List ℕ) → new ≡ tiles_from (part_of bs) (r.width * r.height) ++ drop (r.width * r.height) old → AcceptedAs upto lanes bs old new r
     accepted new e = record {
       first = J.first;
       version = λ z. (J.spells z).version;
       width = λ z. (J.spells z).width;
       height = λ z. (J.spells z).height;
       par = λ z. (J.spells z).par;
-      tiles = λ _. e ∙ ap (λ (ts : List ℕ). ts ++ drop (r.width * r.height) old) (tilesFrom-part bs (r.width * r.height) ∙ ap (tilesIn bs) area);
+      tiles = λ _. e ∙ ap (λ (ts : List ℕ). ts ++ drop (r.width * r.height) old) (tiles_from_part bs (r.width * r.height) ∙ ap (tiles_in bs) area);
       kept = λ n. absurd (n z);
     }
 
 -- the level that the bytes spell is the one returned, and what is past its tiles keeps its value
 module _ (bs old new : List ℕ) (v w h par : ℕ) (ev : v ≡ field_at bs 0 4) (ew : w ≡ field_at bs 4 5) (eh : h ≡ field_at bs 9 5) (ep : par ≡ field_at bs 14 10)
-    (put : new ≡ tilesOf bs ++ drop (w * h) old) where
+    (put : new ≡ tiles_of bs ++ drop (w * h) old) where
   abbrev made : Level
   made = record { version = v; width = w; height = h; par = par; tiles = take (w * h) new }
 
-  count : length (tilesOf bs) ≡ w * h
-  count = length-tiles bs (field_at bs 4 5 * field_at bs 9 5) ∙ sym (ap₂ (λ (x y : ℕ). x * y) ew eh)
+  count : length (tiles_of bs) ≡ w * h
+  count = length_tiles bs (field_at bs 4 5 * field_at bs 9 5) ∙ sym (ap₂ (λ (x y : ℕ). x * y) ew eh)
 
-  pub level-is : levelOf bs ≡ record { version = v; width = w; height = h; par = par; tiles = take (w * h) new }
-  level-is =
-      same-level (levelOf bs) made (sym ev) (sym ew) (sym eh) (sym ep)
-      (sym (ap (take (w * h)) put ∙ take_at (tilesOf bs) (drop (w * h) old) (w * h) count))
+  pub level_is : level_of bs ≡ record { version = v; width = w; height = h; par = par; tiles = take (w * h) new }
+  level_is =
+      same_level (level_of bs) made (sym ev) (sym ew) (sym eh) (sym ep)
+      (sym (ap (take (w * h)) put ∙ take_at (tiles_of bs) (drop (w * h) old) (w * h) count))
 
-  pub tiles-past : drop (w * h) new ≡ drop (w * h) old
-  tiles-past = ap (drop (w * h)) put ∙ drop_at (tilesOf bs) (drop (w * h) old) (w * h) count
+  pub tiles_past : drop (w * h) new ≡ drop (w * h) old
+  tiles_past = ap (drop (w * h)) put ∙ drop_at (tiles_of bs) (drop (w * h) old) (w * h) count

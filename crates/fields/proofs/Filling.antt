@@ -8,27 +8,27 @@ use lib.Pow.{pow_pos}
 use native.Mathlib.Omega.{arith}
 use lib.ListN.{length, get_or}
 use Rattle.rules.specs.Says.{Says}
-use Rattle.rules.proofs.Numbers.{lt-or-ge}
-use Rattle.rules.proofs.Tests.{says-as}
+use Rattle.rules.proofs.Numbers.{lt_or_ge}
+use Rattle.rules.proofs.Tests.{says_as}
 use Rattle.level.specs.Record.{bit_at, field_at}
-use Rattle.level.proofs.Windows.{within-byte}
+use Rattle.level.proofs.Windows.{within_byte}
 
 -- a field is zero if its bits are, and no bit is set in a field that is zero
-field-zero : (bs : List ℕ) (p n : ℕ) → ((q : ℕ) → p ≤ q → q < p + n → bit_at bs q ≡ 0) → field_at bs p n ≡ 0
+field_zero : (bs : List ℕ) (p n : ℕ) → ((q : ℕ) → p ≤ q → q < p + n → bit_at bs q ≡ 0) → field_at bs p n ≡ 0
 unfolding field_at
-field-zero bs p zero h = refl
-field-zero bs p (suc n) h = omega (arith, field-zero bs p n (λ q a b. h q a (omega arith)), h (p + n) (omega arith) (omega arith))
+field_zero bs p zero h = refl
+field_zero bs p (suc n) h = omega (arith, field_zero bs p n (λ q a b. h q a (omega arith)), h (p + n) (omega arith) (omega arith))
 
-bits-zero : (bs : List ℕ) (p n : ℕ) → field_at bs p n ≡ 0 → (q : ℕ) → p ≤ q → q < p + n → bit_at bs q ≡ 0
+bits_zero : (bs : List ℕ) (p n : ℕ) → field_at bs p n ≡ 0 → (q : ℕ) → p ≤ q → q < p + n → bit_at bs q ≡ 0
 unfolding field_at
-bits-zero bs p zero e q a b = absurd (omega arith)
-bits-zero bs p (suc n) e q a b =
-    ⊎_elim (λ l. bits-zero bs p n (omega (arith, e)) q a l) (λ l.
-    let z : p + n ≡ q = omega arith in subst (λ (k : ℕ). bit_at bs k ≡ 0) z (omega (arith, e))) (lt-or-ge q (p + n))
+bits_zero bs p zero e q a b = absurd (omega arith)
+bits_zero bs p (suc n) e q a b =
+    ⊎_elim (λ l. bits_zero bs p n (omega (arith, e)) q a l) (λ l.
+    let z : p + n ≡ q = omega arith in subst (λ (k : ℕ). bit_at bs k ≡ 0) z (omega (arith, e))) (lt_or_ge q (p + n))
 
 -- the end of a byte, from bit k on
 end_is : (bs : List ℕ) (q k : ℕ) → k < 8 → field_at bs (8 * q + k) (8 - k) ≡ get_or bs q 0 % 2 ^ (8 - k)
-end_is bs q k h = within-byte bs q k (8 - k) 0 (omega arith) ∙ ap (λ (x : ℕ). x % 2 ^ (8 - k)) (omega arith)
+end_is bs q k h = within_byte bs q k (8 - k) 0 (omega arith) ∙ ap (λ (x : ℕ). x % 2 ^ (8 - k)) (omega arith)
 
 -- 2 ^ (8 - k), as it is shifted
 pub shifted : (k : ℕ) → k < 8 → 256 / 2 ^ k ≡ 2 ^ (8 - k)
@@ -42,8 +42,8 @@ shifted (suc (suc (suc (suc (suc (suc zero)))))) h = refl
 shifted (suc (suc (suc (suc (suc (suc (suc zero))))))) h = refl
 shifted (suc (suc (suc (suc (suc (suc (suc (suc k)))))))) h = absurd (omega arith)
 
-pub shifted-some : (k : ℕ) → k < 8 → 1 ≤ 256 / 2 ^ k
-shifted-some k h = omega (arith, shifted k h, pow_pos (8 - k))
+pub shifted_some : (k : ℕ) → k < 8 → 1 ≤ 256 / 2 ^ k
+shifted_some k h = omega (arith, shifted k h, pow_pos (8 - k))
 
 module _ (bs : List ℕ) (from : ℕ) where
   abbrev Blank : Type 0
@@ -53,26 +53,26 @@ module _ (bs : List ℕ) (from : ℕ) where
   place = omega arith
 
   -- in the byte of the place
-  pub first-set : from / 8 < length bs → (get_or bs (from / 8) 0 % 2 ^ (8 - from % 8) ≡ 0 → ⊥) → Blank → ⊥
-  first-set h n f =
+  pub first_set : from / 8 < length bs → (get_or bs (from / 8) 0 % 2 ^ (8 - from % 8) ≡ 0 → ⊥) → Blank → ⊥
+  first_set h n f =
       n (sym (end_is bs (from / 8) (from % 8) (omega arith))
-      ∙ field-zero bs (8 * (from / 8) + from % 8) (8 - from % 8) (λ q a b. f q (omega (arith, place)) (omega arith)))
+      ∙ field_zero bs (8 * (from / 8) + from % 8) (8 - from % 8) (λ q a b. f q (omega (arith, place)) (omega arith)))
 
   -- in those after it
   module _ (by : (q : ℕ) → get_or bs q 0 < 256) (h : from / 8 < length bs) where
-    rest-blank : get_or bs (from / 8) 0 % 2 ^ (8 - from % 8) ≡ 0 → ((q : ℕ) → from / 8 + 1 ≤ q → q < length bs → get_or bs q 0 ≡ 0) → Blank
-    rest-blank e z p a b =
+    rest_blank : get_or bs (from / 8) 0 % 2 ^ (8 - from % 8) ≡ 0 → ((q : ℕ) → from / 8 + 1 ≤ q → q < length bs → get_or bs q 0 ≡ 0) → Blank
+    rest_blank e z p a b =
         ⊎_elim (λ l.
-        bits-zero bs (8 * (from / 8) + from % 8) (8 - from % 8)
+        bits_zero bs (8 * (from / 8) + from % 8) (8 - from % 8)
         (end_is bs (from / 8) (from % 8) (omega arith) ∙ e) p (omega (arith, place)) (omega arith)) (λ l.
-        bits-zero bs (8 * (p / 8) + 0) 8 (within-byte bs (p / 8) 0 8 0 (omega arith) ∙ omega (arith, z (p / 8) (omega arith) (omega arith))) p
+        bits_zero bs (8 * (p / 8) + 0) 8 (within_byte bs (p / 8) 0 8 0 (omega arith) ∙ omega (arith, z (p / 8) (omega arith) (omega arith))) p
         (omega arith) (omega arith))
-        (lt-or-ge p (8 * (from / 8) + 8))
+        (lt_or_ge p (8 * (from / 8) + 8))
 
-    rest-zero : Blank → (q : ℕ) → from / 8 + 1 ≤ q → q < length bs → get_or bs q 0 ≡ 0
-    rest-zero f q a b =
-        omega (arith, within-byte bs q 0 8 0 (omega arith), field-zero bs (8 * q + 0) 8 (λ p k l. f p (omega arith) (omega arith)), by q)
+    rest_zero : Blank → (q : ℕ) → from / 8 + 1 ≤ q → q < length bs → get_or bs q 0 ≡ 0
+    rest_zero f q a b =
+        omega (arith, within_byte bs q 0 8 0 (omega arith), field_zero bs (8 * q + 0) 8 (λ p k l. f p (omega arith) (omega arith)), by q)
 
-    pub rest-is : (b : Bool) → get_or bs (from / 8) 0 % 2 ^ (8 - from % 8) ≡ 0
+    pub rest_is : (b : Bool) → get_or bs (from / 8) 0 % 2 ^ (8 - from % 8) ≡ 0
         → Says b ((q : ℕ) → from / 8 + 1 ≤ q → q < length bs → get_or bs q 0 ≡ 0) → Says b Blank
-    rest-is b e = says-as ((q : ℕ) → from / 8 + 1 ≤ q → q < length bs → get_or bs q 0 ≡ 0) Blank b (rest-blank e) rest-zero
+    rest_is b e = says_as ((q : ℕ) → from / 8 + 1 ≤ q → q < length bs → get_or bs q 0 ≡ 0) Blank b (rest_blank e) rest_zero

@@ -9,103 +9,103 @@ use lib.ListN.{length}
 use Rattle.rules.specs.Refusal.{First, asked}
 use Rattle.rules.proofs.Laws.{stops}
 use Rattle.level.specs.Level.{Known, Taken}
-use Rattle.level.specs.Record.{field_at, recordLength}
-use Rattle.level.specs.Reading.{tilesOf, levelOf, Shaped, judging}
+use Rattle.level.specs.Record.{field_at, record_length}
+use Rattle.level.specs.Reading.{tiles_of, level_of, Shaped, judging}
 use Rattle.level.proofs.Dealing.{within}
-use Rattle.level.proofs.Judged.{length-tiles}
+use Rattle.level.proofs.Judged.{length_tiles}
 use Rattle.level.proofs.Windows.{field_below}
 use Rattle.tiles.specs.Sum.{weight, PartSummed}
-use Rattle.tiles.proofs.Part.{part_of, length_part, bit-on, tilesFrom-part}
+use Rattle.tiles.proofs.Part.{part_of, length_part, bit_on, tiles_from_part}
 use Rattle.fields.specs.declared.head.Head.{Head}
 use Rattle.fields.specs.declared.judged.Judged.{Judged}
 use Rattle.fields.specs.Sum.{BoardCode, SumCode}
 use Rattle.fields.specs.Head.{Heads, HeadRanged}
 use Rattle.fields.specs.Judged.{without, AnswersAs, JudgedAs}
 use Rattle.fields.proofs.Tiles.{area_small}
-use Rattle.fields.proofs.Reading.{field-5}
+use Rattle.fields.proofs.Reading.{field_5}
 
 module _ (upto R : ℕ) (bs : List ℕ) where
   refusal : (code : ℕ) → (code ≡ 0 → ⊥) → First (asked (λ ask. ask bs) (judging upto R)) code → JudgedAs upto R bs (without code)
   refusal code n f = record { first = f; spells = λ z. absurd (n z); none = λ _. refl }
 
-  judged-none : (r : Judged) (code : ℕ) → r ≡ without code → (code ≡ 0 → ⊥) → First (asked (λ ask. ask bs) (judging upto R)) code → JudgedAs upto R bs r
-  judged-none r code e n f = subst (JudgedAs upto R bs) (sym e) (refusal code n f)
+  judged_none : (r : Judged) (code : ℕ) → r ≡ without code → (code ≡ 0 → ⊥) → First (asked (λ ask. ask bs) (judging upto R)) code → JudgedAs upto R bs r
+  judged_none r code e n f = subst (JudgedAs upto R bs) (sym e) (refusal code n f)
 
-  pub judged-7 : (r : Judged) → r ≡ without 7 → (Taken upto (levelOf bs) → ⊥) → JudgedAs upto R bs r
-  judged-7 r e n = judged-none r 7 e (λ z. omega arith) (stops 0 (asked (λ ask. ask bs) (judging upto R)) 7 (n, refl))
+  pub judged_7 : (r : Judged) → r ≡ without 7 → (Taken upto (level_of bs) → ⊥) → JudgedAs upto R bs r
+  judged_7 r e n = judged_none r 7 e (λ z. omega arith) (stops 0 (asked (λ ask. ask bs) (judging upto R)) 7 (n, refl))
 
-  pub judged-8 : (r : Judged) → r ≡ without 8 → Taken upto (levelOf bs) → (Shaped R bs → ⊥) → JudgedAs upto R bs r
-  judged-8 r e h n = judged-none r 8 e (λ z. omega arith) (stops 1 (asked (λ ask. ask bs) (judging upto R)) 8 (h, (n, refl)))
+  pub judged_8 : (r : Judged) → r ≡ without 8 → Taken upto (level_of bs) → (Shaped R bs → ⊥) → JudgedAs upto R bs r
+  judged_8 r e h n = judged_none r 8 e (λ z. omega arith) (stops 1 (asked (λ ask. ask bs) (judging upto R)) 8 (h, (n, refl)))
 
 -- the bytes have room for the tiles, and so has their part from byte 3
 module _ (R : ℕ) (bs : List ℕ) (some : 0 < R) (s : Shaped R bs) where
-  pub tiles-fit : 24 + 3 * (field_at bs 4 5 * field_at bs 9 5) ≤ 8 * length bs
-  tiles-fit = omega (arith, s.fits, within R some (recordLength (field_at bs 4 5) (field_at bs 9 5)))
+  pub tiles_fit : 24 + 3 * (field_at bs 4 5 * field_at bs 9 5) ≤ 8 * length bs
+  tiles_fit = omega (arith, s.fits, within R some (record_length (field_at bs 4 5) (field_at bs 9 5)))
 
-  pub part-fits : 3 * (field_at bs 4 5 * field_at bs 9 5) ≤ 8 * length (part_of bs)
-  part-fits = omega (arith, tiles-fit, length_part bs)
+  pub part_fits : 3 * (field_at bs 4 5 * field_at bs 9 5) ≤ 8 * length (part_of bs)
+  part_fits = omega (arith, tiles_fit, length_part bs)
 
   -- what the part adds is what the tiles do
-  pub summed-tiles : (x : ℕ) → PartSummed (part_of bs) x → x ≡ weight (tilesOf bs)
-  summed-tiles x t =
-      t.sum (field_at bs 4 5 * field_at bs 9 5) part-fits (λ p a b. bit-on bs p ∙ s.filling (24 + p) (omega arith) (omega (arith, length_part bs)))
-      ∙ ap weight (tilesFrom-part bs (field_at bs 4 5 * field_at bs 9 5))
+  pub summed_tiles : (x : ℕ) → PartSummed (part_of bs) x → x ≡ weight (tiles_of bs)
+  summed_tiles x t =
+      t.sum (field_at bs 4 5 * field_at bs 9 5) part_fits (λ p a b. bit_on bs p ∙ s.filling (24 + p) (omega arith) (omega (arith, length_part bs)))
+      ∙ ap weight (tiles_from_part bs (field_at bs 4 5 * field_at bs 9 5))
 
 -- the head is one that a level has
 abbrev pub Opens : ℕ → Head → Type 0
 Opens upto f = HeadRanged upto f.version f.width f.height
 
 module _ (bs : List ℕ) (f : Head) (hd : Heads bs f) where
-  pub area-is : f.width * f.height ≡ field_at bs 4 5 * field_at bs 9 5
-  area-is = ap₂ (λ (x y : ℕ). x * y) hd.width hd.height
+  pub area_is : f.width * f.height ≡ field_at bs 4 5 * field_at bs 9 5
+  area_is = ap₂ (λ (x y : ℕ). x * y) hd.width hd.height
 
-  pub area-few : f.width * f.height ≤ 961
-  area-few = area_small f.width f.height (omega (arith, hd.width, field-5 bs 4)) (omega (arith, hd.height, field-5 bs 9))
+  pub area_few : f.width * f.height ≤ 961
+  area_few = area_small f.width f.height (omega (arith, hd.width, field_5 bs 4)) (omega (arith, hd.height, field_5 bs 9))
 
-  pub headed : (upto : ℕ) → Opens upto f → Taken upto (levelOf bs)
+  pub headed : (upto : ℕ) → Opens upto f → Taken upto (level_of bs)
   headed upto k = record {
     ranged = record {
-      known = subst Known hd.version k.version-taken.known;
+      known = subst Known hd.version k.version_taken.known;
       sized = record {
         wide = omega (arith, hd.width, k.wide);
-        not_wider = field-5 bs 4;
+        not_wider = field_5 bs 4;
         high = omega (arith, hd.height, k.high);
-        not-higher = field-5 bs 9;
+        not_higher = field_5 bs 9;
       };
-      par-small = omega (arith, field_below bs 14 10);
+      par_small = omega (arith, field_below bs 14 10);
     };
-    not-newer = omega (arith, hd.version, k.version-taken.not-newer);
+    not_newer = omega (arith, hd.version, k.version_taken.not_newer);
   }
 
-  pub head-of-level : (upto : ℕ) → Taken upto (levelOf bs) → Opens upto f
-  head-of-level upto t = record {
-    version-taken = record { known = subst Known (sym hd.version) t.ranged.known; not-newer = omega (arith, hd.version, t.not-newer) };
+  pub head_of_level : (upto : ℕ) → Taken upto (level_of bs) → Opens upto f
+  head_of_level upto t = record {
+    version_taken = record { known = subst Known (sym hd.version) t.ranged.known; not_newer = omega (arith, hd.version, t.not_newer) };
     wide = omega (arith, hd.width, t.ranged.sized.wide);
     high = omega (arith, hd.height, t.ranged.sized.high);
   }
 
   -- what the tiles add tells their refusal
   boarded : (R x code : ℕ) → 0 < R → Shaped R bs → PartSummed (part_of bs) x → SumCode f.version x code
-      → BoardCode (field_at bs 0 4) (tilesOf bs) code
+      → BoardCode (field_at bs 0 4) (tiles_of bs) code
   boarded R x code some s t j =
-      subst (λ (y : ℕ). BoardCode y (tilesOf bs) code) hd.version
-      (j.code_of (tilesOf bs) (omega (arith, length-tiles bs (field_at bs 4 5 * field_at bs 9 5), area-is, area-few)) (summed-tiles R bs some s x t))
+      subst (λ (y : ℕ). BoardCode y (tiles_of bs) code) hd.version
+      (j.code_of (tiles_of bs) (omega (arith, length_tiles bs (field_at bs 4 5 * field_at bs 9 5), area_is, area_few)) (summed_tiles R bs some s x t))
 
   -- where head and shape hold, the tiles decide
-  pub judged-by-tiles : (upto R x code : ℕ) → 0 < R → Opens upto f → Shaped R bs → PartSummed (part_of bs) x → SumCode f.version x code
+  pub judged_by_tiles : (upto R x code : ℕ) → 0 < R → Opens upto f → Shaped R bs → PartSummed (part_of bs) x → SumCode f.version x code
       → First (asked (λ ask. ask bs) (judging upto R)) code
-  judged-by-tiles upto R x code some k s t j = inr (headed upto k, inr (s, boarded R x code some s t j))
+  judged_by_tiles upto R x code some k s t j = inr (headed upto k, inr (s, boarded R x code some s t j))
 
-  judged-0 : (upto R : ℕ) → First (asked (λ ask. ask bs) (judging upto R)) 0 → JudgedAs upto R bs (record { code = 0; version = f.version; width = f.width; height = f.height; par = f.par })
-  judged-0 upto R k = record {
+  judged_0 : (upto R : ℕ) → First (asked (λ ask. ask bs) (judging upto R)) 0 → JudgedAs upto R bs (record { code = 0; version = f.version; width = f.width; height = f.height; par = f.par })
+  judged_0 upto R k = record {
     first = k;
-    spells = λ _. record { version = hd.version; width = hd.width; height = hd.height; par = hd.par; few = area-few };
+    spells = λ _. record { version = hd.version; width = hd.width; height = hd.height; par = hd.par; few = area_few };
     none = λ n. absurd (n refl);
   }
 
-  pub judged-answer : (upto R code : ℕ) (r : Judged) → AnswersAs f code r → First (asked (λ ask. ask bs) (judging upto R)) code → JudgedAs upto R bs r
-  judged-answer upto R code r A k = go (ℕ_discrete code 0)
+  pub judged_answer : (upto R code : ℕ) (r : Judged) → AnswersAs f code r → First (asked (λ ask. ask bs) (judging upto R)) code → JudgedAs upto R bs r
+  judged_answer upto R code r A k = go (ℕ_discrete code 0)
     where
       go : Dec (code ≡ 0) → JudgedAs upto R bs r
-      go (yes z) = subst (JudgedAs upto R bs) (sym (A.some z)) (judged-0 upto R (subst (First (asked (λ ask. ask bs) (judging upto R))) z k))
-      go (no n) = judged-none upto R bs r code (A.none n) n k
+      go (yes z) = subst (JudgedAs upto R bs) (sym (A.some z)) (judged_0 upto R (subst (First (asked (λ ask. ask bs) (judging upto R))) z k))
+      go (no n) = judged_none upto R bs r code (A.none n) n k

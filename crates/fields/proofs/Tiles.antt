@@ -9,13 +9,13 @@ use native.Mathlib.Omega.{arith}
 use lib.Dec.{ltb}
 use lib.ListN.{length, get_or}
 use borrow.Author.Tests.{lt-ltb, le-ltb}
-use Rattle.rules.proofs.Numbers.{lt-or-ge}
+use Rattle.rules.proofs.Numbers.{lt_or_ge}
 use Rattle.level.specs.Tile.{adds, totals}
 use Rattle.level.specs.Level.{Sized, AllTiles}
-use Rattle.level.specs.Record.{recordLength}
-use Rattle.level.proofs.Versions.{code-early, code-late}
+use Rattle.level.specs.Record.{record_length}
+use Rattle.level.proofs.Versions.{code_early, code_late}
 use Rattle.tiles.specs.Sum.{packed, weighed, weight}
-use Rattle.tiles.proofs.Rows.{adds-small, adds_none, weighed-in, weighed-pit, weighed-out}
+use Rattle.tiles.proofs.Rows.{adds_small, adds_none, weighed_in, weighed_pit, weighed_out}
 
 -- 1 for a tile code above m
 over : ℕ → ℕ → ℕ
@@ -39,7 +39,7 @@ module _ (m : ℕ) where
   at_most : (ts : List ℕ) → above m ts ≡ 0 → UpTo ts
   unfolding above over
   at_most [] z = λ i l. absurd (omega arith)
-  at_most (t ∷ ts) z = go (lt-or-ge m t) (at_most ts (omega (arith, z)))
+  at_most (t ∷ ts) z = go (lt_or_ge m t) (at_most ts (omega (arith, z)))
     where
       go : (m < t) ⊎ (t ≤ m) → UpTo ts → UpTo (t ∷ ts)
       go (inl h) f i l = absurd (omega (arith, rw (lt-ltb m t h) at z))
@@ -59,67 +59,67 @@ record TileCounts (t : ℕ) : Type 0 where
   fewer : over 7 t ≤ over 6 t
   one : over 6 t ≤ 1
 
-tile-counts : (t : ℕ) → TileCounts t
+tile_counts : (t : ℕ) → TileCounts t
 unfolding over
-tile-counts t = go (lt-or-ge t 7) (lt-or-ge t 8)
+tile_counts t = go (lt_or_ge t 7) (lt_or_ge t 8)
   where
     go : (t < 7) ⊎ (7 ≤ t) → (t < 8) ⊎ (8 ≤ t) → TileCounts t
     go (inl h) k =
         let a : t ≤ 6 = omega arith in let b : t ≤ 7 = omega arith in
-        record { sum = rw (le-ltb 6 t a, le-ltb 7 t b) (omega (arith, weighed-in t h)); fewer = rw (le-ltb 6 t a, le-ltb 7 t b) (omega arith); one = rw (le-ltb 6 t a) (omega arith) }
+        record { sum = rw (le-ltb 6 t a, le-ltb 7 t b) (omega (arith, weighed_in t h)); fewer = rw (le-ltb 6 t a, le-ltb 7 t b) (omega arith); one = rw (le-ltb 6 t a) (omega arith) }
     go (inr h) (inl k) =
         let a : 6 < t = omega arith in let b : t ≤ 7 = omega arith in
-        record { sum = rw (lt-ltb 6 t a, le-ltb 7 t b) (omega (arith, weighed-pit t h k, adds_none t h)); fewer = rw (lt-ltb 6 t a, le-ltb 7 t b) (omega arith); one = rw (lt-ltb 6 t a) (omega arith) }
+        record { sum = rw (lt-ltb 6 t a, le-ltb 7 t b) (omega (arith, weighed_pit t h k, adds_none t h)); fewer = rw (lt-ltb 6 t a, le-ltb 7 t b) (omega arith); one = rw (lt-ltb 6 t a) (omega arith) }
     go (inr h) (inr k) =
         let a : 6 < t = omega arith in let b : 7 < t = omega arith in
-        record { sum = rw (lt-ltb 6 t a, lt-ltb 7 t b) (omega (arith, weighed-out t k, adds_none t h)); fewer = rw (lt-ltb 6 t a, lt-ltb 7 t b) (omega arith); one = rw (lt-ltb 6 t a) (omega arith) }
+        record { sum = rw (lt-ltb 6 t a, lt-ltb 7 t b) (omega (arith, weighed_out t k, adds_none t h)); fewer = rw (lt-ltb 6 t a, lt-ltb 7 t b) (omega arith); one = rw (lt-ltb 6 t a) (omega arith) }
 
 counts : (ts : List ℕ) → Counts ts
 unfolding weight totals above
 counts [] = record { sum = refl; fewer = omega arith; short = omega arith; few = (omega arith, omega arith, omega arith, omega arith) }
 counts (t ∷ ts) =
     let r = counts ts in
-    let c = tile-counts t in
+    let c = tile_counts t in
     record {
       sum = omega (arith, r.sum, c.sum);
       fewer = omega (arith, r.fewer, c.fewer);
       short = omega (arith, r.short, c.one);
-      few = (omega (arith, adds-small t, r.few), omega (arith, adds-small t, r.few), omega (arith, adds-small t, r.few), omega (arith, adds-small t, r.few));
+      few = (omega (arith, adds_small t, r.few), omega (arith, adds_small t, r.few), omega (arith, adds_small t, r.few), omega (arith, adds_small t, r.few));
     }
 
 -- a tile adds at most one crate and one goal
-pub at-most-each : (ts : List ℕ) → ((totals ts).crate' ≤ length ts) × ((totals ts).goal ≤ length ts)
-at-most-each ts = ((counts ts).few.1, (counts ts).few.2)
+pub at_most_each : (ts : List ℕ) → ((totals ts).crate' ≤ length ts) × ((totals ts).goal ≤ length ts)
+at_most_each ts = ((counts ts).few.1, (counts ts).few.2)
 
 module _ (ts : List ℕ) (x : ℕ) (short : length ts ≤ 961) (e : x ≡ weight ts) where
   -- each code is one of the version exactly where no more is counted than the four sums, or the pits beside them
-  pub early-tiles : (v : ℕ) → v < 2 → (x < 1099511627776 → AllTiles v ts) × (AllTiles v ts → x < 1099511627776)
-  early-tiles v h = (
-    λ z. subst (λ (m : ℕ). UpTo m ts) (sym (code-early v h)) (at_most 6 ts (omega (arith, e, (counts ts).sum, (counts ts).fewer, z))),
-    λ f. omega (arith, e, (counts ts).sum, (counts ts).fewer, (counts ts).few, none_above 6 ts (subst (λ (m : ℕ). UpTo m ts) (code-early v h) f)),
+  pub early_tiles : (v : ℕ) → v < 2 → (x < 1099511627776 → AllTiles v ts) × (AllTiles v ts → x < 1099511627776)
+  early_tiles v h = (
+    λ z. subst (λ (m : ℕ). UpTo m ts) (sym (code_early v h)) (at_most 6 ts (omega (arith, e, (counts ts).sum, (counts ts).fewer, z))),
+    λ f. omega (arith, e, (counts ts).sum, (counts ts).fewer, (counts ts).few, none_above 6 ts (subst (λ (m : ℕ). UpTo m ts) (code_early v h) f)),
   )
 
-  pub late-tiles : (v : ℕ) → 2 ≤ v → (x < 1125899906842624 → AllTiles v ts) × (AllTiles v ts → x < 1125899906842624)
-  late-tiles v h = (
-    λ z. subst (λ (m : ℕ). UpTo m ts) (sym (code-late v h)) (at_most 7 ts (omega (arith, e, (counts ts).sum, (counts ts).fewer, z))),
-    λ f. omega (arith, e, (counts ts).sum, (counts ts).fewer, (counts ts).short, (counts ts).few, none_above 7 ts (subst (λ (m : ℕ). UpTo m ts) (code-late v h) f)),
+  pub late_tiles : (v : ℕ) → 2 ≤ v → (x < 1125899906842624 → AllTiles v ts) × (AllTiles v ts → x < 1125899906842624)
+  late_tiles v h = (
+    λ z. subst (λ (m : ℕ). UpTo m ts) (sym (code_late v h)) (at_most 7 ts (omega (arith, e, (counts ts).sum, (counts ts).fewer, z))),
+    λ f. omega (arith, e, (counts ts).sum, (counts ts).fewer, (counts ts).short, (counts ts).few, none_above 7 ts (subst (λ (m : ℕ). UpTo m ts) (code_late v h) f)),
   )
 
   -- the four sums, each in its place
   pub record Sums : Type 0 where
-    pub player-is : x % 1024 ≡ (totals ts).player
-    pub crate-is : x / 1024 % 1024 ≡ (totals ts).crate'
-    pub goal-is : x / 1048576 % 1024 ≡ (totals ts).goal
-    pub off-is : x / 1073741824 % 1024 ≡ (totals ts).off
-    pub off-crates : (totals ts).off ≤ (totals ts).crate'
+    pub player_is : x % 1024 ≡ (totals ts).player
+    pub crate_is : x / 1024 % 1024 ≡ (totals ts).crate'
+    pub goal_is : x / 1048576 % 1024 ≡ (totals ts).goal
+    pub off_is : x / 1073741824 % 1024 ≡ (totals ts).off
+    pub off_crates : (totals ts).off ≤ (totals ts).crate'
 
   pub sums : Sums
   sums = record {
-    player-is = omega (arith, e, (counts ts).sum, (counts ts).fewer, (counts ts).few);
-    crate-is = omega (arith, e, (counts ts).sum, (counts ts).fewer, (counts ts).few);
-    goal-is = omega (arith, e, (counts ts).sum, (counts ts).fewer, (counts ts).few);
-    off-is = omega (arith, e, (counts ts).sum, (counts ts).fewer, (counts ts).few);
-    off-crates = omega (arith, (counts ts).few);
+    player_is = omega (arith, e, (counts ts).sum, (counts ts).fewer, (counts ts).few);
+    crate_is = omega (arith, e, (counts ts).sum, (counts ts).fewer, (counts ts).few);
+    goal_is = omega (arith, e, (counts ts).sum, (counts ts).fewer, (counts ts).few);
+    off_is = omega (arith, e, (counts ts).sum, (counts ts).fewer, (counts ts).few);
+    off_crates = omega (arith, (counts ts).few);
   }
 
 -- a board has at most 961 tiles
@@ -127,5 +127,5 @@ pub area_small : (w h : ℕ) → w ≤ 31 → h ≤ 31 → w * h ≤ 961
 area_small w h a b = mul-le-mul a b
 
 -- and its record at most 364 bytes
-pub record-short : (w h : ℕ) → Sized w h → recordLength w h ≤ 364
-record-short w h s = omega (arith, area_small w h s.not_wider s.not-higher)
+pub record_short : (w h : ℕ) → Sized w h → record_length w h ≤ 364
+record_short w h s = omega (arith, area_small w h s.not_wider s.not_higher)

@@ -14,10 +14,10 @@ pub record Heads (bs : List ℕ) (r : Head) : Type 0 where
 -- a version that there is, and that is taken: any up to this one
 pub record VersionTaken (upto version : ℕ) : Type 0 where
   pub known : Known version
-  pub not-newer : version ≤ upto
+  pub not_newer : version ≤ upto
 
 -- of such a version, and of a size that a level has
 pub record HeadRanged (upto version width height : ℕ) : Type 0 where
-  pub version-taken : VersionTaken upto version
+  pub version_taken : VersionTaken upto version
   pub wide : 1 ≤ width
   pub high : 1 ≤ height

@@ -2,8 +2,8 @@
 use Rattle.std.specs.Prelude.{◌≡◌, List, ◌++◌, ℕ, ◌*◌, ◌≤◌, drop}
 use Rattle.rules.specs.Refusal.{First, asked}
 use Rattle.level.specs.Record.{field_at}
-use Rattle.level.specs.Sizes.{tilesMost}
-use Rattle.level.specs.Reading.{tilesOf, judging}
+use Rattle.level.specs.Sizes.{tiles_most}
+use Rattle.level.specs.Reading.{tiles_of, judging}
 use Rattle.fields.specs.declared.head.Head.{Head}
 use Rattle.fields.specs.declared.judged.Judged.{Judged}
 
@@ -22,7 +22,7 @@ pub record Spells (bs : List ℕ) (r : Judged) : Type 0 where
   pub width : r.width ≡ field_at bs 4 5
   pub height : r.height ≡ field_at bs 9 5
   pub par : r.par ≡ field_at bs 14 10
-  pub few : r.width * r.height ≤ tilesMost
+  pub few : r.width * r.height ≤ tiles_most
 
 -- a record (lanes = 1), or the data cells of a strip, judged by a reader of versions up to this one
 pub record JudgedAs (upto lanes : ℕ) (bs : List ℕ) (r : Judged) : Type 0 where
@@ -37,5 +37,5 @@ pub record AcceptedAs (upto lanes : ℕ) (bs old new : List ℕ) (r : Judged) : 
   pub width : r.code ≡ 0 → r.width ≡ field_at bs 4 5
   pub height : r.code ≡ 0 → r.height ≡ field_at bs 9 5
   pub par : r.code ≡ 0 → r.par ≡ field_at bs 14 10
-  pub tiles : r.code ≡ 0 → new ≡ tilesOf bs ++ drop (r.width * r.height) old
+  pub tiles : r.code ≡ 0 → new ≡ tiles_of bs ++ drop (r.width * r.height) old
   pub kept : (r.code ≡ 0 → ⊥) → new ≡ old

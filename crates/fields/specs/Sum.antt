@@ -2,7 +2,7 @@
 use Rattle.std.specs.Prelude.{◌≡◌, Bool, List, ℕ, ◌≤◌, ◌<◌, length}
 use Rattle.rules.specs.Says.{Says}
 use Rattle.rules.specs.Refusal.{First, asked}
-use Rattle.level.specs.Sizes.{tilesMost}
+use Rattle.level.specs.Sizes.{tiles_most}
 use Rattle.level.specs.Level.{Level, AllTiles, boarding}
 use Rattle.tiles.specs.Sum.{weight}
 
@@ -12,16 +12,16 @@ pub record Matched (v crates goals : ℕ) : Type 0 where
   pub as_many : v < 2 → crates ≡ goals
 
 -- a board of version v, as far as refusals 9 and 10 ask
-abbrev pub boardOf : ℕ → List ℕ → Level
-boardOf v tiles = record { version = v; width = 0; height = 0; par = 0; tiles = tiles }
+abbrev pub board_of : ℕ → List ℕ → Level
+board_of v tiles = record { version = v; width = 0; height = 0; par = 0; tiles = tiles }
 
 abbrev pub BoardCode : ℕ → List ℕ → ℕ → Type 0
-BoardCode v tiles = First (asked (λ ask. ask (boardOf v tiles)) boarding)
+BoardCode v tiles = First (asked (λ ask. ask (board_of v tiles)) boarding)
 
 -- whether the codes are those of the version, for every board whose tiles add x
 pub record SumCoded (v x : ℕ) (r : Bool) : Type 0 where
-  pub says : (tiles : List ℕ) → length tiles ≤ tilesMost → x ≡ weight tiles → Says r (AllTiles v tiles)
+  pub says : (tiles : List ℕ) → length tiles ≤ tiles_most → x ≡ weight tiles → Says r (AllTiles v tiles)
 
 -- the refusal of every board whose tiles add x
 pub record SumCode (v x code : ℕ) : Type 0 where
-  pub code_of : (tiles : List ℕ) → length tiles ≤ tilesMost → x ≡ weight tiles → BoardCode v tiles code
+  pub code_of : (tiles : List ℕ) → length tiles ≤ tiles_most → x ≡ weight tiles → BoardCode v tiles code

@@ -5,7 +5,7 @@ ghost use Rattle.rules.specs.Says.{Says};
 ghost use Rattle.level.specs.Record.{bit_at, field_at};
 ghost use Rattle.level.specs.Strip.{columns};
 ghost use Rattle.level.specs.Reading.{Shaped};
-ghost use Rattle.level.specs.Sizes.{tilesMost};
+ghost use Rattle.level.specs.Sizes.{tiles_most};
 
 // The bits of a byte from bit k on, the most significant being bit 0.
 fn low_bits(b: u8, k: usize) -> usize
@@ -45,7 +45,7 @@ pub fn blank(bs: &[u8], from: usize) -> bool
 
 // So many bytes are those of m tiles, for a record (lanes = 1) or the data cells of a strip.
 pub fn fits(len: usize, lanes: usize, m: usize) -> bool
-    requires { Within 1 16 lanes × (m ≤ tilesMost) }
+    requires { Within 1 16 lanes × (m ≤ tiles_most) }
     ensures { Says result (len ≡ lanes * columns lanes (3 + (3 * m + 7) / 8)) }
 {
     let n = 3 + (3 * m + 7) / 8;
@@ -57,7 +57,7 @@ pub fn fits(len: usize, lanes: usize, m: usize) -> bool
 
 // The length is that of the size, and what is left over is blank.
 pub fn shaped(bs: &[u8], lanes: usize, m: usize) -> bool
-    requires { Within 1 16 lanes × (m ≡ field_at bs.now 4 5 * field_at bs.now 9 5) × (m ≤ tilesMost) }
+    requires { Within 1 16 lanes × (m ≡ field_at bs.now 4 5 * field_at bs.now 9 5) × (m ≤ tiles_most) }
     ensures { Says result (Shaped lanes bs.now) }
 {
     if !fits(bs.len(), lanes, m) {

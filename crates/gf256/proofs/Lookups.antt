@@ -9,8 +9,8 @@ use lib.ListN.{get_or}
 use Rattle.account.specs.Field.{power}
 use Rattle.account.proofs.Powers as powers
 use Rattle.gf256.specs.Gf256.{gf256, times, IsLog}
-use Rattle.gf256.specs.Tables.{Powers, Tables, place_of, inverseOf}
-use Rattle.gf256.proofs.Field256.{field256, inverse-right}
+use Rattle.gf256.specs.Tables.{Powers, Tables, place_of, inverse_of}
+use Rattle.gf256.proofs.Field256.{field256, inverse_right}
 
 -- ---- powers
 
@@ -18,87 +18,87 @@ whole : (x i k : ℕ) → power gf256 x k ≡ 1 → power gf256 x (k * i) ≡ 1
 unfolding power
 whole x zero k e = ap (power gf256 x) (mul-zero k)
 whole x (suc i) k e =
-    ap (power gf256 x) (mul-suc k i) ∙ powers.pow-add gf256 field256 x (k * i) k ∙ ap₂ times (whole x i k e) e ∙ field256.mul-one 1 field256.in_one
+    ap (power gf256 x) (mul-suc k i) ∙ powers.pow_add gf256 field256 x (k * i) k ∙ ap₂ times (whole x i k e) e ∙ field256.mul_one 1 field256.in_one
 
 -- a power goes by the remainder of its exponent
 pub reduced : (x k : ℕ) → power gf256 x 255 ≡ 1 → power gf256 x (k % 255) ≡ power gf256 x k
 reduced x k e =
     sym
-    (ap (power gf256 x) split ∙ powers.pow-add gf256 field256 x (255 * (k / 255)) (k % 255)
+    (ap (power gf256 x) split ∙ powers.pow_add gf256 field256 x (255 * (k / 255)) (k % 255)
     ∙ ap (λ (y : ℕ). times y (power gf256 x (k % 255))) (whole x (k / 255) 255 e)
-    ∙ field256.mul_comm 1 (power gf256 x (k % 255)) ∙ field256.mul-one (power gf256 x (k % 255)) (powers.pow-in gf256 field256 x (k % 255)))
+    ∙ field256.mul_comm 1 (power gf256 x (k % 255)) ∙ field256.mul_one (power gf256 x (k % 255)) (powers.pow_in gf256 field256 x (k % 255)))
   where
     split : k ≡ 255 * (k / 255) + k % 255
     split = omega arith
 
 -- the 255 entries of the table of powers are all different
-pub entries-differ : (t : List ℕ) → Powers t → (i j : ℕ) → i < 255 → j < 255 → i ≢ j → get_or t i 0 ≢ get_or t j 0
-entries-differ t P i j hi hj n e = powers.pow_apart gf256 field256 i j hi hj n (sym (P.power_at i hi) ∙ e ∙ P.power_at j hj)
+pub entries_differ : (t : List ℕ) → Powers t → (i j : ℕ) → i < 255 → j < 255 → i ≢ j → get_or t i 0 ≢ get_or t j 0
+entries_differ t P i j hi hj n e = powers.pow_apart gf256 field256 i j hi hj n (sym (P.power_at i hi) ∙ e ∙ P.power_at j hj)
 
 -- ---- products
 
-log-sum : (a b i j : ℕ) → IsLog a i → IsLog b j → power gf256 2 (i + j) ≡ times a b
-log-sum a b i j I J = powers.pow-add gf256 field256 2 i j ∙ ap₂ times I.is J.is
+log_sum : (a b i j : ℕ) → IsLog a i → IsLog b j → power gf256 2 (i + j) ≡ times a b
+log_sum a b i j I J = powers.pow_add gf256 field256 2 i j ∙ ap₂ times I.is J.is
 
 -- FORMAT 1.12
-pub product-of-logs : (a b i j : ℕ) → IsLog a i → IsLog b j → times a b ≡ power gf256 2 ((i + j) % 255)
-product-of-logs a b i j I J = sym (reduced 2 (i + j) field256.α-around ∙ log-sum a b i j I J)
+pub product_of_logs : (a b i j : ℕ) → IsLog a i → IsLog b j → times a b ≡ power gf256 2 ((i + j) % 255)
+product_of_logs a b i j I J = sym (reduced 2 (i + j) field256.α_around ∙ log_sum a b i j I J)
 
 -- dividing by a is multiplying with any inverse of it
-pub same-quotient : (u a i : ℕ) → a < 256 → a ≢ 0 → times a i ≡ 1 → times u i ≡ times u (inverseOf a)
-same-quotient u a i ha na e =
-    sym (field256.mul-one (times u i) (field256.in-mul u i)) ∙ ap (times (times u i)) (sym (inverse-right a ha na))
-    ∙ field256.mul_assoc u i (times a (inverseOf a))
-    ∙ ap (times u) (sym (field256.mul_assoc i a (inverseOf a)) ∙ ap (λ (y : ℕ). times y (inverseOf a)) (field256.mul_comm i a ∙ e)
-    ∙ field256.mul_comm 1 (inverseOf a))
-    ∙ sym (field256.mul_assoc u (inverseOf a) 1) ∙ field256.mul-one (times u (inverseOf a)) (field256.in-mul u (inverseOf a))
+pub same_quotient : (u a i : ℕ) → a < 256 → a ≢ 0 → times a i ≡ 1 → times u i ≡ times u (inverse_of a)
+same_quotient u a i ha na e =
+    sym (field256.mul_one (times u i) (field256.in_mul u i)) ∙ ap (times (times u i)) (sym (inverse_right a ha na))
+    ∙ field256.mul_assoc u i (times a (inverse_of a))
+    ∙ ap (times u) (sym (field256.mul_assoc i a (inverse_of a)) ∙ ap (λ (y : ℕ). times y (inverse_of a)) (field256.mul_comm i a ∙ e)
+    ∙ field256.mul_comm 1 (inverse_of a))
+    ∙ sym (field256.mul_assoc u (inverse_of a) 1) ∙ field256.mul_one (times u (inverse_of a)) (field256.in_mul u (inverse_of a))
 
 module _ (t : List ℕ) (T : Tables t) where
-  pub product-by : (a b i j : ℕ) → IsLog a i → IsLog b j → get_or t (i + j) 0 ≡ times a b
-  product-by a b i j I J =
-      T.power_at (i + j) (omega (arith, I.small, J.small)) ∙ log-sum a b i j I J
+  pub product_by : (a b i j : ℕ) → IsLog a i → IsLog b j → get_or t (i + j) 0 ≡ times a b
+  product_by a b i j I J =
+      T.power_at (i + j) (omega (arith, I.small, J.small)) ∙ log_sum a b i j I J
 
-  pub inverse-by : (a i : ℕ) → IsLog a i → times a (get_or t (255 - i) 0) ≡ 1
-  inverse-by a i I =
-      ap₂ times (sym I.is) (T.power_at (255 - i) (omega arith)) ∙ sym (powers.pow-add gf256 field256 2 i (255 - i))
-      ∙ ap (power gf256 2) all ∙ field256.α-around
+  pub inverse_by : (a i : ℕ) → IsLog a i → times a (get_or t (255 - i) 0) ≡ 1
+  inverse_by a i I =
+      ap₂ times (sym I.is) (T.power_at (255 - i) (omega arith)) ∙ sym (powers.pow_add gf256 field256 2 i (255 - i))
+      ∙ ap (power gf256 2) all ∙ field256.α_around
     where
       all : i + (255 - i) ≡ 255
       all = omega (arith, I.small)
 
-  pub quotient_by : (a b i j : ℕ) → b < 256 → b ≢ 0 → IsLog a i → IsLog b j → get_or t (i + (255 - j)) 0 ≡ times a (inverseOf b)
+  pub quotient_by : (a b i j : ℕ) → b < 256 → b ≢ 0 → IsLog a i → IsLog b j → get_or t (i + (255 - j)) 0 ≡ times a (inverse_of b)
   quotient_by a b i j hb nb I J =
-      T.power_at (i + (255 - j)) (omega (arith, I.small)) ∙ powers.pow-add gf256 field256 2 i (255 - j)
+      T.power_at (i + (255 - j)) (omega (arith, I.small)) ∙ powers.pow_add gf256 field256 2 i (255 - j)
       ∙ ap₂ times I.is (sym (T.power_at (255 - j) (omega arith)))
-      ∙ same-quotient a b (get_or t (255 - j) 0) hb nb (inverse-by b j J)
+      ∙ same_quotient a b (get_or t (255 - j) 0) hb nb (inverse_by b j J)
 
-  pub place-by : (n p : ℕ) → p < n → n ≤ 255 → get_or t (n - (p + 1)) 0 ≡ place_of n p
-  place-by n p h k = T.power_at (n - (p + 1)) (omega arith) ∙ ap (power gf256 2) same
+  pub place_by : (n p : ℕ) → p < n → n ≤ 255 → get_or t (n - (p + 1)) 0 ≡ place_of n p
+  place_by n p h k = T.power_at (n - (p + 1)) (omega arith) ∙ ap (power gf256 2) same
     where
       same : n - (p + 1) ≡ n - suc p
       same = omega arith
 
 -- ---- powers of α and of its inverse by the table
 
-inverse-around : power gf256 0x8E 255 ≡ 1
-inverse-around =
-    sym (field256.mul-one (power gf256 0x8E 255) (powers.pow-in gf256 field256 0x8E 255)) ∙ field256.mul_comm (power gf256 0x8E 255) 1
-    ∙ ap (λ (y : ℕ). times y (power gf256 0x8E 255)) (sym field256.α-around) ∙ powers.pow-back gf256 field256 255
+inverse_around : power gf256 0x8E 255 ≡ 1
+inverse_around =
+    sym (field256.mul_one (power gf256 0x8E 255) (powers.pow_in gf256 field256 0x8E 255)) ∙ field256.mul_comm (power gf256 0x8E 255) 1
+    ∙ ap (λ (y : ℕ). times y (power gf256 0x8E 255)) (sym field256.α_around) ∙ powers.pow_back gf256 field256 255
 
 module _ (t : List ℕ) (T : Tables t) (k : ℕ) where
-  pub forward-by : get_or t (k % 255) 0 ≡ power gf256 2 k
-  forward-by = T.power_at (k % 255) (omega arith) ∙ reduced 2 k field256.α-around
+  pub forward_by : get_or t (k % 255) 0 ≡ power gf256 2 k
+  forward_by = T.power_at (k % 255) (omega arith) ∙ reduced 2 k field256.α_around
 
   -- α^(255 - i) is the power i of the inverse: both undo α^i
-  pub backward-by : get_or t (255 - k % 255) 0 ≡ power gf256 0x8E k
-  backward-by =
+  pub backward_by : get_or t (255 - k % 255) 0 ≡ power gf256 0x8E k
+  backward_by =
       T.power_at (255 - k % 255) (omega arith)
-      ∙ sym (field256.mul-one (pow 2 (255 - i)) (powers.pow-in gf256 field256 2 (255 - i)))
-      ∙ ap (times (pow 2 (255 - i))) (sym (powers.pow-back gf256 field256 i))
+      ∙ sym (field256.mul_one (pow 2 (255 - i)) (powers.pow_in gf256 field256 2 (255 - i)))
+      ∙ ap (times (pow 2 (255 - i))) (sym (powers.pow_back gf256 field256 i))
       ∙ sym (field256.mul_assoc (pow 2 (255 - i)) (pow 2 i) (pow 0x8E i))
-      ∙ ap (λ (y : ℕ). times y (pow 0x8E i)) (sym (powers.pow-add gf256 field256 2 (255 - i) i) ∙ ap (pow 2) all ∙ field256.α-around)
-      ∙ field256.mul_comm 1 (pow 0x8E i) ∙ field256.mul-one (pow 0x8E i) (powers.pow-in gf256 field256 0x8E i)
-      ∙ reduced 0x8E k inverse-around
+      ∙ ap (λ (y : ℕ). times y (pow 0x8E i)) (sym (powers.pow_add gf256 field256 2 (255 - i) i) ∙ ap (pow 2) all ∙ field256.α_around)
+      ∙ field256.mul_comm 1 (pow 0x8E i) ∙ field256.mul_one (pow 0x8E i) (powers.pow_in gf256 field256 0x8E i)
+      ∙ reduced 0x8E k inverse_around
     where
       i : ℕ
       i = k % 255

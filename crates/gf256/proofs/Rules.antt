@@ -11,14 +11,14 @@ use lib.Dec.{T, eqb, ltb, eqb→eq, ltb→lt}
 use lib.ListN.{length, get_or}
 use Rattle.account.specs.Field.{power}
 use Rattle.account.specs.Product.{product}
-use Rattle.account.proofs.Test.{both, both_left, both_right, or, or-one, upto, upto-at}
+use Rattle.account.proofs.Test.{both, both_left, both_right, or, or_one, upto, upto_at}
 use Rattle.gf256.specs.Gf256.{gf256, times, IsLog}
 use Rattle.gf256.specs.Tables.{Powers, Logs, Halves}
 
 -- ---- the tables, as the program has them
 
-abbrev pub powersList : List ℕ
-powersList =
+abbrev pub powers_list : List ℕ
+powers_list =
     1 ∷ 2 ∷ 4 ∷ 8 ∷ 16 ∷ 32 ∷ 64 ∷ 128 ∷ 29 ∷ 58 ∷ 116 ∷ 232 ∷ 205 ∷ 135 ∷ 19 ∷ 38
     ∷ 76 ∷ 152 ∷ 45 ∷ 90 ∷ 180 ∷ 117 ∷ 234 ∷ 201 ∷ 143 ∷ 3 ∷ 6 ∷ 12 ∷ 24 ∷ 48 ∷ 96 ∷ 192
     ∷ 157 ∷ 39 ∷ 78 ∷ 156 ∷ 37 ∷ 74 ∷ 148 ∷ 53 ∷ 106 ∷ 212 ∷ 181 ∷ 119 ∷ 238 ∷ 193 ∷ 159 ∷ 35
@@ -36,8 +36,8 @@ powersList =
     ∷ 18 ∷ 36 ∷ 72 ∷ 144 ∷ 61 ∷ 122 ∷ 244 ∷ 245 ∷ 247 ∷ 243 ∷ 251 ∷ 235 ∷ 203 ∷ 139 ∷ 11 ∷ 22
     ∷ 44 ∷ 88 ∷ 176 ∷ 125 ∷ 250 ∷ 233 ∷ 207 ∷ 131 ∷ 27 ∷ 54 ∷ 108 ∷ 216 ∷ 173 ∷ 71 ∷ 142 ∷ []
 
-abbrev pub logsList : List ℕ
-logsList =
+abbrev pub logs_list : List ℕ
+logs_list =
     0 ∷ 1 ∷ 25 ∷ 2 ∷ 50 ∷ 26 ∷ 198 ∷ 3 ∷ 223 ∷ 51 ∷ 238 ∷ 27 ∷ 104 ∷ 199 ∷ 75 ∷ 4
     ∷ 100 ∷ 224 ∷ 14 ∷ 52 ∷ 141 ∷ 239 ∷ 129 ∷ 28 ∷ 193 ∷ 105 ∷ 248 ∷ 200 ∷ 8 ∷ 76 ∷ 113 ∷ 5
     ∷ 138 ∷ 101 ∷ 47 ∷ 225 ∷ 36 ∷ 15 ∷ 33 ∷ 53 ∷ 147 ∷ 142 ∷ 218 ∷ 240 ∷ 18 ∷ 130 ∷ 69 ∷ 29
@@ -55,8 +55,8 @@ logsList =
     ∷ 89 ∷ 95 ∷ 176 ∷ 156 ∷ 169 ∷ 160 ∷ 81 ∷ 11 ∷ 245 ∷ 22 ∷ 235 ∷ 122 ∷ 117 ∷ 44 ∷ 215 ∷ 79
     ∷ 174 ∷ 213 ∷ 233 ∷ 230 ∷ 231 ∷ 173 ∷ 232 ∷ 116 ∷ 214 ∷ 244 ∷ 234 ∷ 168 ∷ 80 ∷ 88 ∷ 175 ∷ []
 
-abbrev pub halvesList : List ℕ
-halvesList =
+abbrev pub halves_list : List ℕ
+halves_list =
     0 ∷ 215 ∷ 234 ∷ 61 ∷ 238 ∷ 57 ∷ 4 ∷ 211 ∷ 36 ∷ 243 ∷ 206 ∷ 25 ∷ 202 ∷ 29 ∷ 32 ∷ 247
     ∷ 254 ∷ 41 ∷ 20 ∷ 195 ∷ 16 ∷ 199 ∷ 250 ∷ 45 ∷ 218 ∷ 13 ∷ 48 ∷ 231 ∷ 52 ∷ 227 ∷ 222 ∷ 9
     ∷ 32 ∷ 33 ∷ 34 ∷ 35 ∷ 36 ∷ 37 ∷ 38 ∷ 39 ∷ 40 ∷ 41 ∷ 42 ∷ 43 ∷ 44 ∷ 45 ∷ 46 ∷ 47
@@ -81,72 +81,72 @@ abbrev doubles : ℕ → List ℕ → Bool
 doubles x [] = true
 doubles x (y ∷ ys) = both (eqb x y) (doubles (times x 2) ys)
 
-doubles-at : (ys : List ℕ) (m : ℕ) → T (doubles (power gf256 2 m) ys) → (k : ℕ) → k < length ys → get_or ys k 0 ≡ power gf256 2 (m + k)
+doubles_at : (ys : List ℕ) (m : ℕ) → T (doubles (power gf256 2 m) ys) → (k : ℕ) → k < length ys → get_or ys k 0 ≡ power gf256 2 (m + k)
 unfolding power
-doubles-at [] m t k h = absurd (omega arith)
-doubles-at (y ∷ ys) m t zero h =
+doubles_at [] m t k h = absurd (omega arith)
+doubles_at (y ∷ ys) m t zero h =
     sym (eqb→eq (power gf256 2 m) y (both_left (eqb (power gf256 2 m) y) (doubles (power gf256 2 (suc m)) ys) t)) ∙ ap (power gf256 2) (sym (add-zero m))
-doubles-at (y ∷ ys) m t (suc k) h =
-    doubles-at ys (suc m) (both_right (eqb (power gf256 2 m) y) (doubles (power gf256 2 (suc m)) ys) t) k (omega arith)
+doubles_at (y ∷ ys) m t (suc k) h =
+    doubles_at ys (suc m) (both_right (eqb (power gf256 2 m) y) (doubles (power gf256 2 (suc m)) ys) t) k (omega arith)
     ∙ ap (power gf256 2) (suc-add m k ∙ sym (add-suc m k))
 
-powers-tested : T (doubles 1 powersList)
+powers_tested : T (doubles 1 powers_list)
 unfolding product
-powers-tested = tt
+powers_tested = tt
 
 -- each of the 255 powers is right
-pub powers-right : Powers powersList
+pub powers_right : Powers powers_list
 unfolding power
-powers-right = record { all = refl; power_at = λ k h. doubles-at powersList 0 powers-tested k h ∙ ap (power gf256 2) (zero-add k) }
+powers_right = record { all = refl; power_at = λ k h. doubles_at powers_list 0 powers_tested k h ∙ ap (power gf256 2) (zero-add k) }
 
 -- ---- logarithms
 
 -- the power is in the table, and is the byte
 undoes : ℕ → Bool
-undoes i = both (ltb (get_or logsList i 0) 255) (eqb (get_or powersList (get_or logsList i 0) 0) (suc i))
+undoes i = both (ltb (get_or logs_list i 0) 255) (eqb (get_or powers_list (get_or logs_list i 0) 0) (suc i))
 
-logs-tested : T (upto undoes 255)
+logs_tested : T (upto undoes 255)
 unfolding undoes
-logs-tested = tt
+logs_tested = tt
 
-log_is : (i : ℕ) → i < 255 → IsLog (suc i) (get_or logsList i 0)
+log_is : (i : ℕ) → i < 255 → IsLog (suc i) (get_or logs_list i 0)
 unfolding undoes
 log_is i h =
-    let t : T (undoes i) = upto-at undoes 255 logs-tested i h in
-    let s : get_or logsList i 0 < 255 = ltb→lt (get_or logsList i 0) 255 (both_left (ltb (get_or logsList i 0) 255) (eqb (get_or powersList (get_or logsList i 0) 0) (suc i)) t) in
+    let t : T (undoes i) = upto_at undoes 255 logs_tested i h in
+    let s : get_or logs_list i 0 < 255 = ltb→lt (get_or logs_list i 0) 255 (both_left (ltb (get_or logs_list i 0) 255) (eqb (get_or powers_list (get_or logs_list i 0) 0) (suc i)) t) in
     record {
       small = s;
       is =
-          sym (powers-right.power_at (get_or logsList i 0) s)
-          ∙ eqb→eq (get_or powersList (get_or logsList i 0) 0) (suc i)
-          (both_right (ltb (get_or logsList i 0) 255) (eqb (get_or powersList (get_or logsList i 0) 0) (suc i)) t);
+          sym (powers_right.power_at (get_or logs_list i 0) s)
+          ∙ eqb→eq (get_or powers_list (get_or logs_list i 0) 0) (suc i)
+          (both_right (ltb (get_or logs_list i 0) 255) (eqb (get_or powers_list (get_or logs_list i 0) 0) (suc i)) t);
     }
 
 -- the logarithm of each byte other than 0 is right
-pub logs-right : Logs logsList
-logs-right = record { all = refl; log-at = log_is }
+pub logs_right : Logs logs_list
+logs_right = record { all = refl; log_at = log_is }
 
 -- ---- halves
 
 -- the half of c, by the table
 given : ℕ → ℕ
-given c = bit_xor (get_or halvesList c 0) c
+given c = bit_xor (get_or halves_list c 0) c
 
 right : ℕ → Bool
 right z = or (eqb (given (bit_xor (times z z) z)) z) (eqb (given (bit_xor (times z z) z)) (bit_xor z 1))
 
-halves-tested : T (upto right 256)
+halves_tested : T (upto right 256)
 unfolding given right product
-halves-tested = tt
+halves_tested = tt
 
 either : (a b c : ℕ) → T (or (eqb a b) (eqb a c)) → (a ≡ b) ⊎ (a ≡ c)
-either a b c t = ⊎_elim (λ u. inl (eqb→eq a b u)) (λ u. inr (eqb→eq a c u)) (or-one (eqb a b) (eqb a c) t)
+either a b c t = ⊎_elim (λ u. inl (eqb→eq a b u)) (λ u. inr (eqb→eq a c u)) (or_one (eqb a b) (eqb a c) t)
 
-pub halves-right : Halves halvesList
+pub halves_right : Halves halves_list
 unfolding given right
-halves-right = record {
+halves_right = record {
   all = refl;
   half_at = λ c b a h e.
       subst (λ (x : ℕ). (given x ≡ a) ⊎ (given x ≡ bit_xor a 1)) e
-      (either (given (bit_xor (times a a) a)) a (bit_xor a 1) (upto-at right 256 halves-tested a h));
+      (either (given (bit_xor (times a a) a)) a (bit_xor a 1) (upto_at right 256 halves_tested a h));
 }

@@ -11,7 +11,7 @@ use mir.Syntax.{w32}
 use mir.Val.{SFits, to_z, of_z}
 use mir.Facts.{to_z-of_z}
 use Rattle.account.specs.Field.{power}
-use Rattle.account.specs.Code.{alphaTo}
+use Rattle.account.specs.Code.{alpha_to}
 use Rattle.gf256.specs.Gf256.{gf256}
 
 -- what the code makes of a negative x
@@ -22,19 +22,19 @@ pub record Negative (x : ℤ) : Type 0 where
   pub fits : SFits w32 (negsuc 0 -ℤ x)
   pub sign : T (non_neg (turned x))
   pub small : nat_abs (turned x) < 2 ^ 31
-  pub is : power gf256 0x8E (nat_abs (turned x) + 1) ≡ alphaTo gf256 x
+  pub is : power gf256 0x8E (nat_abs (turned x) + 1) ≡ alpha_to gf256 x
 
 pub record Positive (x : ℤ) : Type 0 where
   pub sign : T (non_neg x)
   pub small : nat_abs x < 2 ^ 31
-  pub is : power gf256 2 (nat_abs x) ≡ alphaTo gf256 x
+  pub is : power gf256 2 (nat_abs x) ≡ alpha_to gf256 x
 
 -- -1 - j is how many below -1 it is
 taken : (n : ℕ) → negsuc 0 -ℤ negsuc n ≡ pos n
 taken n = +ℤ_comm (negsuc 0) (pos (suc n)) ∙ -ℤ_one (pos (suc n))
 
 pub negative : (x : ℤ) → SFits w32 x → lt_z x (pos 0) ≡ true → Negative x
-unfolding alphaTo
+unfolding alpha_to
 negative (pos n) f e = let h : n < 0 = ltb→lt n 0 (subst T (sym e) tt) in absurd (omega arith)
 negative (negsuc n) f e =
     let g : SFits w32 (negsuc 0 -ℤ negsuc n) = subst (SFits w32) (sym (taken n)) (record { sfits = f.sfits }) in
@@ -47,6 +47,6 @@ negative (negsuc n) f e =
     }
 
 pub positive : (x : ℤ) → SFits w32 x → lt_z x (pos 0) ≡ false → Positive x
-unfolding alphaTo
+unfolding alpha_to
 positive (pos n) f e = record { sign = tt; small = f.sfits; is = refl }
 positive (negsuc n) f e = absurd (subst T e tt)

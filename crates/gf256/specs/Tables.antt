@@ -14,7 +14,7 @@ pub record Powers (t : List ℕ) : Type 0 where
 -- the logarithms of the 255 bytes other than 0, that of 1 first
 pub record Logs (t : List ℕ) : Type 0 where
   pub all : length t ≡ 255
-  pub log-at : (i : ℕ) → i < 255 → IsLog (suc i) (get_or t i 0)
+  pub log_at : (i : ℕ) → i < 255 → IsLog (suc i) (get_or t i 0)
 
 -- for each byte c the square of one of the two z with z z + z = c, wherever there are any: with c added it is z
 pub record Halves (t : List ℕ) : Type 0 where
@@ -33,7 +33,7 @@ halves = 766
 -- the three in one, the powers twice around
 pub record Tables (t : List ℕ) : Type 0 where
   pub power_at : (k : ℕ) → k < logs → get_or t k 0 ≡ power gf256 2 k
-  pub log-at : (a : ℕ) → 0 < a → a < 256 → IsLog a (get_or t (logs + a) 0)
+  pub log_at : (a : ℕ) → 0 < a → a < 256 → IsLog a (get_or t (logs + a) 0)
   pub half_at : (c : ℕ) → c < 256 → HalfOf gf256 c (bit_xor (get_or t (halves + c) 0) c)
 
 -- ---- what is read from it
@@ -43,6 +43,6 @@ abbrev pub place_of : ℕ → ℕ → ℕ
 place_of = place gf256
 
 -- the inverse of a byte other than 0: its power 254
-unfoldable pub inverseOf : ℕ → ℕ
+unfoldable pub inverse_of : ℕ → ℕ
 unfolding power
-inverseOf a = power gf256 a 254
+inverse_of a = power gf256 a 254

@@ -1,10 +1,10 @@
 // GF(256): products, quotients and powers of α by the tables, which an entry lays out once and lends.
 ghost use Rattle.std.specs.Prelude.{◌≡◌, ◌≤◌, ◌<◌};
 ghost use Rattle.account.specs.Field.{power};
-ghost use Rattle.account.specs.Code.{alphaTo};
+ghost use Rattle.account.specs.Code.{alpha_to};
 ghost use Rattle.account.specs.Search.{HalfOf};
 ghost use Rattle.gf256.specs.Gf256.{gf256, times, IsLog};
-ghost use Rattle.gf256.specs.Tables.{Tables, place_of, inverseOf};
+ghost use Rattle.gf256.specs.Tables.{Tables, place_of, inverse_of};
 
 use tables::{HALVES, LOGS};
 
@@ -37,7 +37,7 @@ pub fn product(tables: &[u8; 1022], a: u8, b: u8) -> u8
 // a over b: a times the inverse of b.
 pub fn quotient(tables: &[u8; 1022], a: u8, b: u8) -> u8
     requires { Tables tables.now × (0 < b) }
-    ensures { (times b (inverseOf b) ≡ 1) × (result ≡ times a (inverseOf b)) }
+    ensures { (times b (inverse_of b) ≡ 1) × (result ≡ times a (inverse_of b)) }
 {
     if a == 0 {
         return 0;
@@ -80,7 +80,7 @@ fn backward(tables: &[u8; 1022], k: usize) -> u8
 // α^j, of a signed exponent: a negative one is turned into a power of the inverse.
 pub fn alpha_to(tables: &[u8; 1022], j: i32) -> u8
     requires { Tables tables.now }
-    ensures { result ≡ alphaTo gf256 j }
+    ensures { result ≡ alpha_to gf256 j }
 {
     if j < 0 {
         backward(tables, ((-1 - j) as usize) + 1)

@@ -1,14 +1,14 @@
 // What C sees: numbers and byte slices, the numbers of an answer packed in one. docs/C-INTERFACE.md has the layout.
 ghost use Rattle.std.specs.Prelude.{◌≡◌, not, ◌<◌, ◌≤◌, eqb, length};
-ghost use Rattle.account.specs.Code.{alphaTo, syndrome};
+ghost use Rattle.account.specs.Code.{alpha_to, syndrome};
 ghost use Rattle.gf256.specs.Gf256.{gf256, times};
-ghost use Rattle.code.specs.Word.{wordMost};
-ghost use Rattle.code.specs.Lane.{laneMost, word_of};
+ghost use Rattle.code.specs.Word.{word_most};
+ghost use Rattle.code.specs.Lane.{lane_most, word_of};
 ghost use Rattle.level.specs.Level.{newest};
 ghost use Rattle.level.specs.Writing.{lent};
 ghost use Rattle.pool.specs.Pooled.{photo};
 ghost use Rattle.tiny.specs.Tiny.{place_of};
-ghost use Rattle.packing.specs.Packed.{packedSums};
+ghost use Rattle.packing.specs.Packed.{packed_sums};
 ghost use Rattle.host.specs.Export.{WriteExport, TestExport, RepairExport, RecordExport, RecordReadExport, TextExport, TextReadExport, StripExport, StripReadExport, PoolExport, TinyExport};
 
 use code::lane::{LANE_MOST, Lane};
@@ -33,14 +33,14 @@ pub extern "C" fn zav_word_test(word: &[u8]) -> u64
 // Repairs a word in place.
 #[unsafe(no_mangle)]
 pub extern "C" fn zav_word_repair(word: &mut [u8], marks: &[u8]) -> u64
-    ensures { RepairExport wordMost marks.now word.old word.new result }
+    ensures { RepairExport word_most marks.now word.old word.new result }
 {
     packing::pack_repaired(code::repair::repair(word, marks))
 }
 
 // A slice as a lane by value.
 fn lane_of(s: &[u8]) -> Lane
-    requires { length s.now ≤ laneMost }
+    requires { length s.now ≤ lane_most }
     ensures { (result.len ≡ length s.now) × (word_of result ≡ s.now) }
 {
     let mut bytes = [0u8; LANE_MOST];
@@ -53,7 +53,7 @@ fn lane_of(s: &[u8]) -> Lane
 
 // A lane, written over a slice of its length.
 fn put_back(lane: Lane, s: &mut [u8])
-    requires { (lane.len ≡ length s.old) × (length s.old ≤ laneMost) }
+    requires { (lane.len ≡ length s.old) × (length s.old ≤ lane_most) }
     ensures { s.new ≡ word_of lane }
 {
     let n = lane.len;
@@ -64,7 +64,7 @@ fn put_back(lane: Lane, s: &mut [u8])
 // Repairs a lane of at most 187 bytes in place.
 #[unsafe(no_mangle)]
 pub extern "C" fn zav_lane_repair(lane: &mut [u8], marks: &[u8]) -> u64
-    ensures { RepairExport laneMost marks.now lane.old lane.new result }
+    ensures { RepairExport lane_most marks.now lane.old lane.new result }
 {
     let n = lane.len();
     if LANE_MOST < n {
@@ -99,7 +99,7 @@ pub extern "C" fn zav_product(a: u8, b: u8) -> u8
 // α to a signed exponent.
 #[unsafe(no_mangle)]
 pub extern "C" fn zav_power(exponent: i32) -> u8
-    ensures { result ≡ alphaTo gf256 exponent }
+    ensures { result ≡ alpha_to gf256 exponent }
 {
     code::field::power(exponent)
 }
@@ -113,7 +113,7 @@ fn wide(x: u8) -> u64
 // The syndrome: S_-2 in the lowest byte, S_2 in bits 32 to 39.
 #[unsafe(no_mangle)]
 pub extern "C" fn zav_syndrome(word: &[u8]) -> u64
-    ensures { result ≡ packedSums (syndrome gf256 word.now) }
+    ensures { result ≡ packed_sums (syndrome gf256 word.now) }
 {
     let s = code::word::syndrome_of(word);
     wide(s[0])

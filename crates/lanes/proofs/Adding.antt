@@ -11,30 +11,30 @@ use lib.Seq.{get_or-set_same, get_or-set_other, length-take-le}
 use Rattle.account.specs.Errata.{Outside, Distinct, added, only, Applied}
 use Rattle.account.proofs.Laws as laws
 use Rattle.account.proofs.Solve as solve
-use Rattle.account.proofs.Solve.{only_here, only-off}
+use Rattle.account.proofs.Solve.{only_here, only_off}
 use Rattle.gf256.specs.Gf256.{gf256}
 use Rattle.gf256.proofs.Field256.{field256}
 use Rattle.values.specs.declared.Errata.{Errata}
 use Rattle.errata.specs.Errata.{ErrataFor}
 
-added-last : (ps vs : List ℕ) (p v j : ℕ) → length vs ≡ length ps → added gf256 (ps ++ p ∷ []) (vs ++ v ∷ []) j ≡ bit_xor (added gf256 ps vs j) (only p v j)
-added-last [] [] p v j e = field256.add_comm (only p v j) 0
-added-last [] (w ∷ vs) p v j e = absurd (omega arith)
-added-last (q ∷ ps) [] p v j e = absurd (omega arith)
-added-last (q ∷ ps) (w ∷ vs) p v j e =
-    ap (bit_xor (only q w j)) (added-last ps vs p v j (omega arith)) ∙ sym (field256.add_assoc (only q w j) (added gf256 ps vs j) (only p v j))
+added_last : (ps vs : List ℕ) (p v j : ℕ) → length vs ≡ length ps → added gf256 (ps ++ p ∷ []) (vs ++ v ∷ []) j ≡ bit_xor (added gf256 ps vs j) (only p v j)
+added_last [] [] p v j e = field256.add_comm (only p v j) 0
+added_last [] (w ∷ vs) p v j e = absurd (omega arith)
+added_last (q ∷ ps) [] p v j e = absurd (omega arith)
+added_last (q ∷ ps) (w ∷ vs) p v j e =
+    ap (bit_xor (only q w j)) (added_last ps vs p v j (omega arith)) ∙ sym (field256.add_assoc (only q w j) (added gf256 ps vs j) (only p v j))
 
 -- there are as many values as cells
 pub alike : (n : ℕ) (e : Errata) → ErrataFor n e → (i : ℕ) → i ≤ e.count → length (take i e.values) ≡ length (take i e.cells)
 alike n e F i h =
-    length-take-le i e.values (omega (arith, F.few, F.values-room)) ∙ sym (length-take-le i e.cells (omega (arith, F.few, F.room)))
+    length-take-le i e.values (omega (arith, F.few, F.values_room)) ∙ sym (length-take-le i e.cells (omega (arith, F.few, F.room)))
 
 -- a cell that comes later is none of those before
-pub outside-before : (xs : List ℕ) (n i : ℕ) → i < n → i < length xs → Distinct (take n xs) → Outside (take i xs) (get_or xs i 0)
-outside-before [] n i h l d = absurd (omega arith)
-outside-before (x ∷ xs) zero i h l d = absurd (omega arith)
-outside-before (x ∷ xs) (suc n) zero h l d = tt
-outside-before (x ∷ xs) (suc n) (suc i) h l d = (apart xs n i (omega arith) (omega arith) d.0, outside-before xs n i (omega arith) (omega arith) d.1)
+pub outside_before : (xs : List ℕ) (n i : ℕ) → i < n → i < length xs → Distinct (take n xs) → Outside (take i xs) (get_or xs i 0)
+outside_before [] n i h l d = absurd (omega arith)
+outside_before (x ∷ xs) zero i h l d = absurd (omega arith)
+outside_before (x ∷ xs) (suc n) zero h l d = tt
+outside_before (x ∷ xs) (suc n) (suc i) h l d = (apart xs n i (omega arith) (omega arith) d.0, outside_before xs n i (omega arith) (omega arith) d.1)
   where
     apart : (ys : List ℕ) (m j : ℕ) → j < m → j < length ys → Outside (take m ys) x → get_or ys j 0 ≢ x
     apart [] m j h l o = absurd (omega arith)
@@ -42,14 +42,14 @@ outside-before (x ∷ xs) (suc n) (suc i) h l d = (apart xs n i (omega arith) (o
     apart (y ∷ ys) (suc m) zero h l o = λ e. o.0 (sym e)
     apart (y ∷ ys) (suc m) (suc j) h l o = apart ys m j (omega arith) (omega arith) o.1
 
-pub applied-none : (w : List ℕ) → Applied gf256 [] [] w w
-applied-none w = record { same_length = refl; cell = λ p l. sym (field256.add-zero (get_or w p 0)) }
+pub applied_none : (w : List ℕ) → Applied gf256 [] [] w w
+applied_none w = record { same_length = refl; cell = λ p l. sym (field256.add_zero (get_or w p 0)) }
 
-pub applied-last : (ps vs r w : List ℕ) (p v : ℕ) → length vs ≡ length ps → Outside ps p → p < length r → Applied gf256 ps vs r w
+pub applied_last : (ps vs r w : List ℕ) (p v : ℕ) → length vs ≡ length ps → Outside ps p → p < length r → Applied gf256 ps vs r w
     → Applied gf256 (ps ++ p ∷ []) (vs ++ v ∷ []) r (set w p (bit_xor (get_or r p 0) v))
-applied-last ps vs r w p v e o h A = record {
+applied_last ps vs r w p v e o h A = record {
   same_length = length-set w p b ∙ A.same_length;
-  cell = λ j l. at j l (ℕ_discrete j p) ∙ ap (bit_xor (get_or r j 0)) (sym (added-last ps vs p v j e));
+  cell = λ j l. at j l (ℕ_discrete j p) ∙ ap (bit_xor (get_or r j 0)) (sym (added_last ps vs p v j e));
 }
   where
     b : ℕ
@@ -59,7 +59,7 @@ applied-last ps vs r w p v e o h A = record {
     at j l (yes q) =
         subst (λ (i : ℕ). get_or (set w p b) i 0 ≡ bit_xor (get_or r i 0) (bit_xor (added gf256 ps vs i) (only p v i))) (sym q)
         (get_or-set_same w p b 0 (omega (arith, A.same_length))
-        ∙ ap (bit_xor (get_or r p 0)) (sym (ap₂ bit_xor (solve.added-off gf256 field256 ps vs p o) (only_here p v) ∙ laws.zero-add gf256 field256 v)))
+        ∙ ap (bit_xor (get_or r p 0)) (sym (ap₂ bit_xor (solve.added_off gf256 field256 ps vs p o) (only_here p v) ∙ laws.zero_add gf256 field256 v)))
     at j l (no n) =
         get_or-set_other w p j b 0 n ∙ A.cell j l
-        ∙ ap (bit_xor (get_or r j 0)) (sym (ap (bit_xor (added gf256 ps vs j)) (only-off p v j n) ∙ field256.add-zero (added gf256 ps vs j)))
+        ∙ ap (bit_xor (get_or r j 0)) (sym (ap (bit_xor (added gf256 ps vs j)) (only_off p v j n) ∙ field256.add_zero (added gf256 ps vs j)))

@@ -3,12 +3,12 @@
 use Rattle.std.specs.Prelude.{◌≡◌, Bool, true, false, List, ℕ, ◌+◌, ◌*◌, ◌≤◌, ◌<◌, length}
 use Rattle.account.specs.Lanes.{lane}
 use Rattle.account.specs.Code.{Cells, Clean}
-use Rattle.account.specs.Reach.{count_to, isMarked, Reach, GoodMarks}
+use Rattle.account.specs.Reach.{count_to, is_marked, Reach, GoodMarks}
 use Rattle.rules.specs.Refusal.{Within}
 use Rattle.gf256.specs.Gf256.{gf256}
-use Rattle.level.specs.Sizes.{recordMost}
-use Rattle.level.specs.Strip.{columns, Legal, wrongIn, mendedOf, repaintedIn, repaintedOf, Mends, Mendable, Lowest}
-use Rattle.code.specs.Lane.{laneMost}
+use Rattle.level.specs.Sizes.{record_most}
+use Rattle.level.specs.Strip.{columns, Legal, wrong_in, mended_of, repainted_in, repainted_of, Mends, Mendable, Lowest}
+use Rattle.code.specs.Lane.{lane_most}
 use Rattle.patches.specs.Patched.{patched}
 use Rattle.dealt.specs.Lanes.{LaneRemains}
 use Rattle.lanes.specs.declared.Mending.{Mending}
@@ -16,13 +16,13 @@ use Rattle.lanes.specs.declared.One.{One}
 
 -- no cell is marked, if f is 0
 pub record NoneSet (f : ℕ) (marks : List ℕ) : Type 0 where
-  pub none : f ≡ 0 → count_to (isMarked marks) (length marks) ≡ 0
+  pub none : f ≡ 0 → count_to (is_marked marks) (length marks) ≡ 0
 
 module _ (R : ℕ) where
   -- what mending goes on with: a legal strip with its marks, of lanes that can travel by value
   pub record Entered (s marks : List ℕ) : Type 0 where
     pub lanes : Within 1 16 R
-    pub short : columns R recordMost + 5 ≤ laneMost
+    pub short : columns R record_most + 5 ≤ lane_most
     pub legal : Legal R (length s)
     pub matched : length marks ≡ length s
     pub good : GoodMarks marks
@@ -41,9 +41,9 @@ module _ (R : ℕ) where
 
   -- lane j is mended in t', and the others are as they were in t
   pub record OneGood (s marks : List ℕ) (j : ℕ) (t t' : List ℕ) (mended repainted : ℕ) : Type 0 where
-    pub mended-lane : LaneMended marks s t' j
-    pub count : mended ≡ wrongIn R marks s t' j
-    pub repaints : repainted ≡ repaintedIn R marks s t' j
+    pub mended_lane : LaneMended marks s t' j
+    pub count : mended ≡ wrong_in R marks s t' j
+    pub repaints : repainted ≡ repainted_in R marks s t' j
     pub others : (i : ℕ) → i < R → (i ≡ j → ⊥) → lane R i t' ≡ lane R i t
 
   -- by the answer: lane j, as it was in the strip, is mended by what is noted; or it cannot be
@@ -58,8 +58,8 @@ module _ (R : ℕ) where
   -- every lane mended by what is noted, or the lowest that cannot be
   pub record MendedAs (s marks cells bytes : List ℕ) (r : Mending) : Type 0 where
     pub found : R ≤ r.beyond → Mends gf256 R marks s (patched cells bytes r.noted s)
-    pub count : R ≤ r.beyond → r.mended ≡ mendedOf R marks s (patched cells bytes r.noted s)
-    pub repaints : R ≤ r.beyond → r.repainted ≡ repaintedOf R marks s (patched cells bytes r.noted s)
+    pub count : R ≤ r.beyond → r.mended ≡ mended_of R marks s (patched cells bytes r.noted s)
+    pub repaints : R ≤ r.beyond → r.repainted ≡ repainted_of R marks s (patched cells bytes r.noted s)
     pub small : r.mended ≤ 2 * R
     pub few : r.noted ≤ 80
     pub lost : r.beyond < R → Lowest gf256 R marks s r.beyond

@@ -3,12 +3,12 @@ ghost use Rattle.std.specs.Prelude.{◌≡◌, ◌≤◌, length};
 ghost use Rattle.std.proofs.lemmas.List.Edits.{sets};
 ghost use Rattle.rules.specs.Says.{Says};
 ghost use Rattle.rules.specs.Refusal.{First, asked};
-ghost use Rattle.level.specs.Sizes.{tilesMost, recordMost};
+ghost use Rattle.level.specs.Sizes.{tiles_most, record_most};
 ghost use Rattle.level.specs.Level.{Sized, IsLevel, lending};
-ghost use Rattle.level.specs.Record.{recordLength};
+ghost use Rattle.level.specs.Record.{record_length};
 ghost use Rattle.level.specs.Writing.{lent};
 ghost use Rattle.fields.specs.Sum.{BoardCode};
-ghost use Rattle.lending.specs.Lending.{RecordPut, InRange, headBytes};
+ghost use Rattle.lending.specs.Lending.{RecordPut, InRange, head_bytes};
 
 // A size that a level has.
 pub fn sized(w: usize, h: usize) -> bool
@@ -47,7 +47,7 @@ fn ranged(upto: usize, version: usize, w: usize, h: usize, par: usize) -> bool
 
 // Refusals 9 and 10 of a board.
 fn board_code(version: usize, tiles: &[u8]) -> u8
-    requires { length tiles.now ≤ tilesMost }
+    requires { length tiles.now ≤ tiles_most }
     ensures { BoardCode version tiles.now result }
 {
     fields::tile::sum_code(version, boards::board::tally(tiles))
@@ -69,7 +69,7 @@ pub fn check(upto: usize, version: usize, w: usize, h: usize, par: usize, tiles:
 // The bytes of a record.
 fn record_length(w: usize, h: usize) -> usize
     requires { Sized w h }
-    ensures { (result ≡ recordLength w h) × (result ≤ recordMost) }
+    ensures { (result ≡ record_length w h) × (result ≤ record_most) }
 {
     3 + (3 * (w * h) + 7) / 8
 }
@@ -77,7 +77,7 @@ fn record_length(w: usize, h: usize) -> usize
 // Version, width, height and par.
 fn put_head(version: usize, w: usize, h: usize, par: usize, out: &mut [u8])
     requires { (version ≤ 15) × (w ≤ 31) × (h ≤ 31) × (par ≤ 1023) × (3 ≤ length out.old) }
-    ensures { out.new ≡ sets out.old 0 (headBytes version w h par) }
+    ensures { out.new ≡ sets out.old 0 (head_bytes version w h par) }
 {
     out[0] = (version * 16 + w / 2) as u8;
     out[1] = (w % 2 * 128 + h * 4 + par / 256) as u8;
@@ -93,7 +93,7 @@ pub fn put_record(
     tiles: &[u8],
     out: &mut [u8],
 ) -> usize
-    requires { IsLevel (lent version w h par tiles.now) × (recordLength w h ≤ length out.old) }
+    requires { IsLevel (lent version w h par tiles.now) × (record_length w h ≤ length out.old) }
     ensures { RecordPut (lent version w h par tiles.now) out.old out.new result }
 {
     let n = record_length(w, h);

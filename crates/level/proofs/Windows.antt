@@ -8,30 +8,30 @@ use lib.Pow.{mod-pow-add}
 use lib.ListN.{get_or}
 use Rattle.level.specs.Record.{bit_at, field_at}
 use Rattle.level.proofs.Written.{digit, spelled}
-use Rattle.level.proofs.Bits.{bit-of}
-use Rattle.level.proofs.Determined.{bit-small}
+use Rattle.level.proofs.Bits.{bit_of}
+use Rattle.level.proofs.Determined.{bit_small}
 
 pub field_below : (bs : List ℕ) (p n : ℕ) → field_at bs p n < 2 ^ n
 unfolding field_at
 field_below bs p zero = omega arith
-field_below bs p (suc n) = omega (arith, field_below bs p n, bit-small bs (p + n), two-pow-succ n)
+field_below bs p (suc n) = omega (arith, field_below bs p n, bit_small bs (p + n), two-pow-succ n)
 
 -- what the n digits from digit p on spell
 abbrev pub run : (ℕ → ℕ) → ℕ → ℕ → ℕ
 run f p n = spelled n (λ i. f (p + i))
 
 -- two runs side by side
-pub run-append : (f : ℕ → ℕ) (p m n : ℕ) → run f p (m + n) ≡ run f p m * 2 ^ n + run f (p + m) n
+pub run_append : (f : ℕ → ℕ) (p m n : ℕ) → run f p (m + n) ≡ run f p m * 2 ^ n + run f (p + m) n
 unfolding spelled
-run-append f p m zero = let z : m + 0 ≡ m = omega arith in ap (run f p) z ∙ go (run f p m)
+run_append f p m zero = let z : m + 0 ≡ m = omega arith in ap (run f p) z ∙ go (run f p m)
   where
     go : (x : ℕ) → x ≡ x * 2 ^ 0 + 0
     go x = omega arith
-run-append f p m (suc n) =
+run_append f p m (suc n) =
     let z : m + suc n ≡ suc (m + n) = omega arith in
     let y : p + (m + n) ≡ p + m + n = omega arith in
     ap (run f p) z
-    ∙ ap₂ (λ (a b : ℕ). 2 * a + b) (run-append f p m n) (ap f y)
+    ∙ ap₂ (λ (a b : ℕ). 2 * a + b) (run_append f p m n) (ap f y)
     ∙ go (run f p m) (2 ^ n) (2 ^ suc n) (run f (p + m) n) (f (p + m + n)) (two-pow-succ n)
   where
     go : (a t d b e : ℕ) → d ≡ t + t → 2 * (a * t + b) + e ≡ a * d + (2 * b + e)
@@ -63,8 +63,8 @@ field_is bs p zero f h = refl
 field_is bs p (suc n) f h = ap₂ (λ (x y : ℕ). 2 * x + y) (field_is bs p n f (λ i l. h i (omega arith))) (h n (omega arith))
 
 -- a field within a byte
-pub within-byte : (bs : List ℕ) (q i n k : ℕ) → i + n + k ≡ 8 → field_at bs (8 * q + i) n ≡ get_or bs q 0 / 2 ^ k % 2 ^ n
-within-byte bs q i n k e =
+pub within_byte : (bs : List ℕ) (q i n k : ℕ) → i + n + k ≡ 8 → field_at bs (8 * q + i) n ≡ get_or bs q 0 / 2 ^ k % 2 ^ n
+within_byte bs q i n k e =
     field_is bs (8 * q + i) n (λ j. digit 8 (get_or bs q 0) (i + j)) at
     ∙ window (λ j. digit 8 (get_or bs q 0) (i + j)) 8 (get_or bs q 0) i n k e (λ j l. refl)
   where
@@ -72,53 +72,53 @@ within-byte bs q i n k e =
     at j l =
         let z : 8 * q + i + j ≡ 8 * q + (i + j) = omega arith in
         let y : 7 - (i + j) ≡ 8 - suc (i + j) = omega arith in
-        ap (bit_at bs) z ∙ bit-of bs q (i + j) (omega arith) ∙ ap (λ (m : ℕ). get_or bs q 0 / 2 ^ m % 2) y
+        ap (bit_at bs) z ∙ bit_of bs q (i + j) (omega arith) ∙ ap (λ (m : ℕ). get_or bs q 0 / 2 ^ m % 2) y
 
 -- two fields side by side
-pub field-append : (bs : List ℕ) (p m n : ℕ) → field_at bs p (m + n) ≡ field_at bs p m * 2 ^ n + field_at bs (p + m) n
-field-append bs p m n = as-run p (m + n) ∙ run-append (bit_at bs) p m n ∙ sym (ap₂ (λ (x y : ℕ). x * 2 ^ n + y) (as-run p m) (as-run (p + m) n))
+pub field_append : (bs : List ℕ) (p m n : ℕ) → field_at bs p (m + n) ≡ field_at bs p m * 2 ^ n + field_at bs (p + m) n
+field_append bs p m n = as_run p (m + n) ∙ run_append (bit_at bs) p m n ∙ sym (ap₂ (λ (x y : ℕ). x * 2 ^ n + y) (as_run p m) (as_run (p + m) n))
   where
-    as-run : (q k : ℕ) → field_at bs q k ≡ run (bit_at bs) q k
-    as-run q k = field_is bs q k (λ i. bit_at bs (q + i)) (λ i l. refl)
+    as_run : (q k : ℕ) → field_at bs q k ≡ run (bit_at bs) q k
+    as_run q k = field_is bs q k (λ i. bit_at bs (q + i)) (λ i l. refl)
 
 -- a field across the end of a byte
 pub across : (bs : List ℕ) (q r i m n k : ℕ) → r ≡ q + 1 → i + m ≡ 8 → n + k ≡ 8
     → field_at bs (8 * q + i) (m + n) ≡ get_or bs q 0 / 2 ^ 0 % 2 ^ m * 2 ^ n + get_or bs r 0 / 2 ^ k % 2 ^ n
 across bs q r i m n k e a b =
-    field-append bs (8 * q + i) m n
-    ∙ ap₂ (λ (x y : ℕ). x * 2 ^ n + y) (within-byte bs q i m 0 (omega arith))
-    (let z : 8 * q + i + m ≡ 8 * r + 0 = omega arith in ap (λ (p : ℕ). field_at bs p n) z ∙ within-byte bs r 0 n k (omega arith))
+    field_append bs (8 * q + i) m n
+    ∙ ap₂ (λ (x y : ℕ). x * 2 ^ n + y) (within_byte bs q i m 0 (omega arith))
+    (let z : 8 * q + i + m ≡ 8 * r + 0 = omega arith in ap (λ (p : ℕ). field_at bs p n) z ∙ within_byte bs r 0 n k (omega arith))
 
 -- the n bytes of a run from byte a on
 module _ (bs w : List ℕ) (a n : ℕ) (same : (q : ℕ) → q < n → get_or w q 0 ≡ get_or bs (a + q) 0) where
-  pub bit-seen : (p : ℕ) → p < 8 * n → bit_at w p ≡ bit_at bs (8 * a + p)
+  pub bit_seen : (p : ℕ) → p < 8 * n → bit_at w p ≡ bit_at bs (8 * a + p)
   unfolding bit_at
-  bit-seen p h =
+  bit_seen p h =
       ap (λ (x : ℕ). x / 2 ^ (7 - p % 8) % 2) (same (p / 8) (omega arith))
       ∙ ap₂ (λ (x y : ℕ). get_or bs x 0 / 2 ^ (7 - y) % 2) (omega arith) (omega arith)
 
-  pub field-seen : (p k : ℕ) → p + k ≤ 8 * n → field_at w p k ≡ field_at bs (8 * a + p) k
+  pub field_seen : (p k : ℕ) → p + k ≤ 8 * n → field_at w p k ≡ field_at bs (8 * a + p) k
   unfolding field_at
-  field-seen p zero h = refl
-  field-seen p (suc k) h =
+  field_seen p zero h = refl
+  field_seen p (suc k) h =
       let z : 8 * a + (p + k) ≡ 8 * a + p + k = omega arith in
-      ap₂ (λ (x y : ℕ). 2 * x + y) (field-seen p k (omega arith)) (bit-seen (p + k) (omega arith) ∙ ap (bit_at bs) z)
+      ap₂ (λ (x y : ℕ). 2 * x + y) (field_seen p k (omega arith)) (bit_seen (p + k) (omega arith) ∙ ap (bit_at bs) z)
 
 -- all of them from there on
 module _ (bs part : List ℕ) (k : ℕ) (same : (q : ℕ) → get_or part q 0 ≡ get_or bs (k + q) 0) where
-  pub bit-part : (p : ℕ) → bit_at part p ≡ bit_at bs (8 * k + p)
-  bit-part p = bit-seen bs part k (p + 1) (λ q l. same q) p (omega arith)
+  pub bit_part : (p : ℕ) → bit_at part p ≡ bit_at bs (8 * k + p)
+  bit_part p = bit_seen bs part k (p + 1) (λ q l. same q) p (omega arith)
 
-  pub field-part : (p n : ℕ) → field_at part p n ≡ field_at bs (8 * k + p) n
-  field-part p n = field-seen bs part k (p + n) (λ q l. same q) p n (omega arith)
+  pub field_part : (p n : ℕ) → field_at part p n ≡ field_at bs (8 * k + p) n
+  field_part p n = field_seen bs part k (p + n) (λ q l. same q) p n (omega arith)
 
 -- the first n
 module _ (xs ys : List ℕ) (n : ℕ) (same : (q : ℕ) → q < n → get_or xs q 0 ≡ get_or ys q 0) where
-  from-0 : (q : ℕ) → q < n → get_or xs q 0 ≡ get_or ys (0 + q) 0
-  from-0 q l = let z : q ≡ 0 + q = omega arith in same q l ∙ ap (λ (i : ℕ). get_or ys i 0) z
+  from_0 : (q : ℕ) → q < n → get_or xs q 0 ≡ get_or ys (0 + q) 0
+  from_0 q l = let z : q ≡ 0 + q = omega arith in same q l ∙ ap (λ (i : ℕ). get_or ys i 0) z
 
-  pub bit-front : (p : ℕ) → p < 8 * n → bit_at xs p ≡ bit_at ys p
-  bit-front p h = let z : 8 * 0 + p ≡ p = omega arith in bit-seen ys xs 0 n from-0 p h ∙ ap (bit_at ys) z
+  pub bit_front : (p : ℕ) → p < 8 * n → bit_at xs p ≡ bit_at ys p
+  bit_front p h = let z : 8 * 0 + p ≡ p = omega arith in bit_seen ys xs 0 n from_0 p h ∙ ap (bit_at ys) z
 
-  pub field-front : (p k : ℕ) → p + k ≤ 8 * n → field_at xs p k ≡ field_at ys p k
-  field-front p k h = let z : 8 * 0 + p ≡ p = omega arith in field-seen ys xs 0 n from-0 p k h ∙ ap (λ (i : ℕ). field_at ys i k) z
+  pub field_front : (p k : ℕ) → p + k ≤ 8 * n → field_at xs p k ≡ field_at ys p k
+  field_front p k h = let z : 8 * 0 + p ≡ p = omega arith in field_seen ys xs 0 n from_0 p k h ∙ ap (λ (i : ℕ). field_at ys i k) z

@@ -6,7 +6,7 @@ use lib.Dec.{ltb}
 use lib.ListN.{get_or}
 use Rattle.account.specs.Lists.{list_of}
 use Rattle.level.specs.Level.{Level}
-use Rattle.level.specs.Record.{recordLength}
+use Rattle.level.specs.Record.{record_length}
 
 -- digit i of v's n binary digits, the most significant first
 abbrev pub digit : ℕ → ℕ → ℕ → ℕ
@@ -18,18 +18,18 @@ spelled zero f = 0
 spelled (suc n) f = 2 * spelled n f + f n
 
 -- version, width, height, par, tiles; past them zero bits
-unfoldable pub recordBit : Level → ℕ → ℕ
-recordBit l p =
+unfoldable pub record_bit : Level → ℕ → ℕ
+record_bit l p =
     cond (ltb p 4) (digit 4 l.version p)
     (cond (ltb p 9) (digit 5 l.width (p - 4))
     (cond (ltb p 14) (digit 5 l.height (p - 9))
     (cond (ltb p 24) (digit 10 l.par (p - 14))
     (digit 3 (get_or l.tiles ((p - 24) / 3) 0) ((p - 24) % 3)))))
 
-unfoldable pub recordByte : Level → ℕ → ℕ
-unfolding spelled recordBit
-recordByte l q = spelled 8 (λ i. recordBit l (8 * q + i))
+unfoldable pub record_byte : Level → ℕ → ℕ
+unfolding spelled record_bit
+record_byte l q = spelled 8 (λ i. record_bit l (8 * q + i))
 
-unfoldable pub recordOf : Level → List ℕ
-unfolding list_of recordByte
-recordOf l = list_of (recordLength l.width l.height) (recordByte l)
+unfoldable pub record_of : Level → List ℕ
+unfolding list_of record_byte
+record_of l = list_of (record_length l.width l.height) (record_byte l)

@@ -4,11 +4,11 @@ use Rattle.account.specs.Code.{Clean, WordOf}
 use Rattle.account.specs.Reach.{differing, repainted, Reach, Reachable}
 use Rattle.gf256.specs.Gf256.{gf256, times}
 use Rattle.rules.specs.Refusal.{First, asked}
-use Rattle.level.specs.Sizes.{tilesMost}
+use Rattle.level.specs.Sizes.{tiles_most}
 use Rattle.level.specs.Level.{Level, IsLevel, newest, lending}
 use Rattle.level.specs.Record.{IsRecord}
 use Rattle.level.specs.Strip.{IsStrip, IsWear}
-use Rattle.level.specs.Reading.{readingRecord}
+use Rattle.level.specs.Reading.{reading_record}
 
 -- FORMAT 12.12: m cells mended out of N are wear w
 pub data Worn : Type 0 where
@@ -36,9 +36,9 @@ pub data Cell : Type 0 where
   -- FORMAT 12.13, 12.16: it is a level
   level : Level → Cell
   -- FORMAT 12.5, 12.16, 12.17: it is none, and lent to a writer it is refused with this number
-  noLevel : Level → ℕ → Cell
+  no_level : Level → ℕ → Cell
   -- FORMAT 12.17: as a record these bytes are refused with this number
-  noRecord : List ℕ → ℕ → Cell
+  no_record : List ℕ → ℕ → Cell
   -- FORMAT 12.12: each of these rows holds
   wears : List Worn → Cell
 
@@ -49,8 +49,8 @@ Holds (becomes marks r w e d) = Clean gf256 w × Reach marks r w × (differing m
 Holds (refused marks r) = Reachable gf256 marks r → ⊥
 Holds (lays R l bs s) = IsRecord l bs × IsStrip gf256 R l s
 Holds (level l) = IsLevel l
-Holds (noLevel l n) = (IsLevel l → ⊥) × First (asked (λ ask. ask l) (lending newest)) n
-Holds (noRecord bs n) = First (readingRecord newest bs tilesMost) n
+Holds (no_level l n) = (IsLevel l → ⊥) × First (asked (λ ask. ask l) (lending newest)) n
+Holds (no_record bs n) = First (reading_record newest bs tiles_most) n
 Holds (wears rows) = (r : Worn) → Has r rows → IsWorn r
 
 abbrev pub All : List Cell → Type 0
@@ -71,11 +71,11 @@ board v h tiles = record { version = v; width = 2; height = h; par = 5; tiles = 
 abbrev pub finished : ℕ → Level
 finished v = board v 1 (4 ∷ 5 ∷ [])
 
-abbrev pub finishedRecord : List ℕ
-finishedRecord = 0x11 ∷ 0x04 ∷ 0x05 ∷ 0x94 ∷ []
+abbrev pub finished_record : List ℕ
+finished_record = 0x11 ∷ 0x04 ∷ 0x05 ∷ 0x94 ∷ []
 
-abbrev pub finishedStrip : List ℕ
-finishedStrip =
+abbrev pub finished_strip : List ℕ
+finished_strip =
     0x11 ∷ 0x04 ∷ 0x05 ∷ 0x94 ∷ 0xB2 ∷ 0x1F ∷ 0xD1 ∷ 0xA4 ∷ 0x20 ∷ 0xBF ∷ 0x59 ∷ 0x07
     ∷ 0x20 ∷ 0xBF ∷ 0x59 ∷ 0x07 ∷ 0xB2 ∷ 0x1F ∷ 0xD1 ∷ 0xA4 ∷ 0x11 ∷ 0x04 ∷ 0x05 ∷ 0x94 ∷ []
 
@@ -83,30 +83,30 @@ finishedStrip =
 abbrev pub unfinished : ℕ → Level
 unfinished v = board v 1 (2 ∷ 6 ∷ [])
 
-abbrev pub unfinishedRecord : List ℕ
-unfinishedRecord = 0x11 ∷ 0x04 ∷ 0x05 ∷ 0x58 ∷ []
+abbrev pub unfinished_record : List ℕ
+unfinished_record = 0x11 ∷ 0x04 ∷ 0x05 ∷ 0x58 ∷ []
 
-abbrev pub unfinishedStrip : List ℕ
-unfinishedStrip =
+abbrev pub unfinished_strip : List ℕ
+unfinished_strip =
     0x11 ∷ 0x04 ∷ 0x05 ∷ 0x58 ∷ 0xB2 ∷ 0x1F ∷ 0xD1 ∷ 0xAF ∷ 0x20 ∷ 0xBF ∷ 0x59 ∷ 0x9A
     ∷ 0x20 ∷ 0xBF ∷ 0x59 ∷ 0x9A ∷ 0xB2 ∷ 0x1F ∷ 0xD1 ∷ 0xAF ∷ 0x11 ∷ 0x04 ∷ 0x05 ∷ 0x58 ∷ []
 
 -- FORMAT 12.18: the same level in two lanes, and in eight
-abbrev pub unfinishedOfTwo : List ℕ
-unfinishedOfTwo = 0x11 ∷ 0x04 ∷ 0x05 ∷ 0x58 ∷ 0x33 ∷ 0x02 ∷ 0x81 ∷ 0x08 ∷ 0x13 ∷ 0xA8 ∷ 0x02 ∷ 0xB9 ∷ 0xB7 ∷ 0x47 ∷ []
+abbrev pub unfinished_of_two : List ℕ
+unfinished_of_two = 0x11 ∷ 0x04 ∷ 0x05 ∷ 0x58 ∷ 0x33 ∷ 0x02 ∷ 0x81 ∷ 0x08 ∷ 0x13 ∷ 0xA8 ∷ 0x02 ∷ 0xB9 ∷ 0xB7 ∷ 0x47 ∷ []
 
-abbrev pub unfinishedOfEight : List ℕ
-unfinishedOfEight =
+abbrev pub unfinished_of_eight : List ℕ
+unfinished_of_eight =
     0x11 ∷ 0x04 ∷ 0x05 ∷ 0x58 ∷ 0x00 ∷ 0x00 ∷ 0x00 ∷ 0x00 ∷ 0xB2 ∷ 0x1F ∷ 0xD1 ∷ 0xAF ∷ 0x00 ∷ 0x00 ∷ 0x00 ∷ 0x00
     ∷ 0x20 ∷ 0xBF ∷ 0x59 ∷ 0x9A ∷ 0x00 ∷ 0x00 ∷ 0x00 ∷ 0x00 ∷ 0x20 ∷ 0xBF ∷ 0x59 ∷ 0x9A ∷ 0x00 ∷ 0x00 ∷ 0x00 ∷ 0x00
     ∷ 0xB2 ∷ 0x1F ∷ 0xD1 ∷ 0xAF ∷ 0x00 ∷ 0x00 ∷ 0x00 ∷ 0x00 ∷ 0x11 ∷ 0x04 ∷ 0x05 ∷ 0x58 ∷ 0x00 ∷ 0x00 ∷ 0x00 ∷ 0x00 ∷ []
 
 -- FORMAT 12.17: the same tiles in version 2
-abbrev pub unfinishedRecord2 : List ℕ
-unfinishedRecord2 = 0x21 ∷ 0x04 ∷ 0x05 ∷ 0x58 ∷ []
+abbrev pub unfinished_record2 : List ℕ
+unfinished_record2 = 0x21 ∷ 0x04 ∷ 0x05 ∷ 0x58 ∷ []
 
-abbrev pub unfinishedStrip2 : List ℕ
-unfinishedStrip2 =
+abbrev pub unfinished_strip2 : List ℕ
+unfinished_strip2 =
     0x21 ∷ 0x04 ∷ 0x05 ∷ 0x58 ∷ 0x36 ∷ 0x1F ∷ 0xD1 ∷ 0xAF ∷ 0x77 ∷ 0xBF ∷ 0x59 ∷ 0x9A
     ∷ 0x77 ∷ 0xBF ∷ 0x59 ∷ 0x9A ∷ 0x36 ∷ 0x1F ∷ 0xD1 ∷ 0xAF ∷ 0x21 ∷ 0x04 ∷ 0x05 ∷ 0x58 ∷ []
 
@@ -114,11 +114,11 @@ unfinishedStrip2 =
 abbrev pub pitted : ℕ → Level
 pitted v = board v 2 (2 ∷ 6 ∷ 2 ∷ 7 ∷ [])
 
-abbrev pub pittedRecord : List ℕ
-pittedRecord = 0x21 ∷ 0x08 ∷ 0x05 ∷ 0x59 ∷ 0x70 ∷ []
+abbrev pub pitted_record : List ℕ
+pitted_record = 0x21 ∷ 0x08 ∷ 0x05 ∷ 0x59 ∷ 0x70 ∷ []
 
-abbrev pub pittedStrip : List ℕ
-pittedStrip =
+abbrev pub pitted_strip : List ℕ
+pitted_strip =
     0x21 ∷ 0x08 ∷ 0x05 ∷ 0x59 ∷ 0x70 ∷ 0x00 ∷ 0x00 ∷ 0x00 ∷ 0x04 ∷ 0x47 ∷ 0xC1 ∷ 0xA7 ∷ 0x26 ∷ 0x39
     ∷ 0x38 ∷ 0x34 ∷ 0x67 ∷ 0x64 ∷ 0xB0 ∷ 0x29 ∷ 0x52 ∷ 0x2C ∷ 0x9D ∷ 0x82 ∷ 0x46 ∷ 0x3E ∷ 0xD1 ∷ 0x61 ∷ []
 
@@ -167,18 +167,18 @@ table =
     ∷ refused (1 ∷ 1 ∷ 1 ∷ 1 ∷ 1 ∷ 1 ∷ []) (0x02 ∷ 0 ∷ 0 ∷ 0 ∷ 0 ∷ 0 ∷ [])
     ∷ becomes none7 (0x00 ∷ 0x00 ∷ 0x6C ∷ 0xAA ∷ 0x82 ∷ 0x8B ∷ 0xCE ∷ []) (0x01 ∷ 0x00 ∷ 0x6C ∷ 0xAA ∷ 0x82 ∷ 0x8B ∷ 0xCE ∷ []) 1 0
     ∷ refused none6 (0x00 ∷ 0x6C ∷ 0xAA ∷ 0x82 ∷ 0x8B ∷ 0xCE ∷ [])
-    ∷ lays 4 (finished 1) finishedRecord finishedStrip
-    ∷ noLevel (finished 1) 10
-    ∷ lays 4 (unfinished 1) unfinishedRecord unfinishedStrip
-    ∷ lays 2 (unfinished 1) unfinishedRecord unfinishedOfTwo
-    ∷ lays 8 (unfinished 1) unfinishedRecord unfinishedOfEight
+    ∷ lays 4 (finished 1) finished_record finished_strip
+    ∷ no_level (finished 1) 10
+    ∷ lays 4 (unfinished 1) unfinished_record unfinished_strip
+    ∷ lays 2 (unfinished 1) unfinished_record unfinished_of_two
+    ∷ lays 8 (unfinished 1) unfinished_record unfinished_of_eight
     ∷ level (unfinished 1)
-    ∷ lays 4 (pitted 2) pittedRecord pittedStrip
+    ∷ lays 4 (pitted 2) pitted_record pitted_strip
     ∷ level (pitted 2)
-    ∷ noLevel (pitted 1) 9
-    ∷ lays 4 (unfinished 2) unfinishedRecord2 unfinishedStrip2
+    ∷ no_level (pitted 1) 9
+    ∷ lays 4 (unfinished 2) unfinished_record2 unfinished_strip2
     ∷ level (unfinished 2)
-    ∷ noRecord (0x31 ∷ 0x04 ∷ 0x05 ∷ 0x94 ∷ []) 7
-    ∷ noRecord (0x21 ∷ 0x04 ∷ 0x05 ∷ 0x94 ∷ []) 10
+    ∷ no_record (0x31 ∷ 0x04 ∷ 0x05 ∷ 0x94 ∷ []) 7
+    ∷ no_record (0x21 ∷ 0x04 ∷ 0x05 ∷ 0x94 ∷ []) 10
     ∷ wears worn
     ∷ []

@@ -21,13 +21,13 @@ abbrev pub Known : ℕ → Type 0
 Known = Within 1 newest
 
 -- FORMAT 5.7: the greatest tile code: that of player on goal, and from version 2 on that of the pit
-abbrev pub codeMost : ℕ → ℕ
-codeMost v = cond (ltb v 2) 6 7
+abbrev pub code_most : ℕ → ℕ
+code_most v = cond (ltb v 2) 6 7
 
 -- FORMAT 5.8 to 5.10, 5.13: the rule over what the tiles add. Crates do not fall short of goals; before version 2 they do not outnumber them either.
 pub record Playable (v : ℕ) (r : Row) : Type 0 where
-  pub one-player : r.player ≡ 1
-  pub some-crate : 1 ≤ r.crate'
+  pub one_player : r.player ≡ 1
+  pub some_crate : 1 ≤ r.crate'
   pub enough : r.goal ≤ r.crate'
   pub as_many : v < 2 → r.crate' ≡ r.goal
   pub unfinished : 1 ≤ r.off
@@ -39,13 +39,13 @@ pub record Sized (w h : ℕ) : Type 0 where
   pub wide : 1 ≤ w
   pub not_wider : w ≤ 31
   pub high : 1 ≤ h
-  pub not-higher : h ≤ 31
+  pub not_higher : h ≤ 31
 
 -- FORMAT 5.5, 5.6, 6.4: version, size and par are within their ranges
 pub record Ranged (l : Level) : Type 0 where
   pub known : Known l.version
   pub sized : Sized l.width l.height
-  pub par-small : l.par ≤ 1023
+  pub par_small : l.par ≤ 1023
 
 -- FORMAT 5.3: there are as many tiles as the size has places
 abbrev pub Counted : Level → Type 0
@@ -53,7 +53,7 @@ Counted l = length l.tiles ≡ l.width * l.height
 
 -- FORMAT 5.7: each tile code is one of the version
 abbrev pub AllTiles : ℕ → List ℕ → Type 0
-AllTiles v ts = (i : ℕ) → i < length ts → get_or ts i 0 ≤ codeMost v
+AllTiles v ts = (i : ℕ) → i < length ts → get_or ts i 0 ≤ code_most v
 
 abbrev pub Coded : Level → Type 0
 Coded l = AllTiles l.version l.tiles
@@ -74,7 +74,7 @@ pub record IsLevel (l : Level) : Type 0 where
 -- FORMAT 9.7: within the ranges, and of a version that is taken. A reader or writer takes every version up to one of them, which is 1 or the newest.
 pub record Taken (upto : ℕ) (l : Level) : Type 0 where
   pub ranged : Ranged l
-  pub not-newer : l.version ≤ upto
+  pub not_newer : l.version ≤ upto
 
 -- FORMAT 9.10: for readers and writers alike, of texts too
 abbrev pub ruling : Question Level

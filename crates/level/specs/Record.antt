@@ -13,13 +13,13 @@ field_at bs p zero = 0
 field_at bs p (suc n) = 2 * field_at bs p n + bit_at bs (p + n)
 
 -- FORMAT 6.7: three bytes, and the bits of the tiles, rounded up to whole bytes
-abbrev pub recordLength : ℕ → ℕ → ℕ
-recordLength w h = 3 + (3 * (w * h) + 7) / 8
+abbrev pub record_length : ℕ → ℕ → ℕ
+record_length w h = 3 + (3 * (w * h) + 7) / 8
 
 -- FORMAT 6.3 to 6.6: version 4 bits, width 5, height 5, par 10; the tiles from byte 3 on, row by row, 3 bits each; zero bits to the end
 pub record IsRecord (l : Level) (bs : List ℕ) : Type 0 where
   pub bytes : Bytes bs
-  pub size : length bs ≡ recordLength l.width l.height
+  pub size : length bs ≡ record_length l.width l.height
   pub version : field_at bs 0 4 ≡ l.version
   pub width : field_at bs 4 5 ≡ l.width
   pub height : field_at bs 9 5 ≡ l.height

@@ -2,26 +2,26 @@
 use Rattle.std.specs.Prelude.{ℕ}
 
 -- FORMAT 5.5: tiles of a board, 31 by 31
-abbrev pub tilesMost : ℕ
-tilesMost = 961
+abbrev pub tiles_most : ℕ
+tiles_most = 961
 
 -- FORMAT 6.7: bytes of a record, that of 961 tiles; the least is that of one
-abbrev pub recordMost : ℕ
-recordMost = 364
+abbrev pub record_most : ℕ
+record_most = 364
 
-abbrev pub recordLeast : ℕ
-recordLeast = 4
+abbrev pub record_least : ℕ
+record_least = 4
 
 -- FORMAT 7.9: cells of a strip, that of the longest record in sixteen lanes
-abbrev pub stripMost : ℕ
-stripMost = 448
+abbrev pub strip_most : ℕ
+strip_most = 448
 
 -- FORMAT 9.5: what the strip reader is lent beside, as many bytes as a lane has at the most, one of two
-abbrev pub scratchLeast : ℕ
-scratchLeast = 187
+abbrev pub scratch_least : ℕ
+scratch_least = 187
 
 -- ---- parts
 
 -- bytes of a record, with the cells that fill its last column, of sixteen lanes at the most
-abbrev pub filledMost : ℕ
-filledMost = 379
+abbrev pub filled_most : ℕ
+filled_most = 379

@@ -2,10 +2,10 @@
 use Rattle.std.specs.Prelude.{◌≡◌, ◌≢◌, ◌⊎◌, ℕ, ◌+◌, ◌*◌, ◌-◌, ◌/◌, ◌%◌, ◌≤◌, ◌<◌, List, length, get_or}
 use Rattle.account.specs.Field.{Ops}
 use Rattle.account.specs.Code.{Cells, Clean}
-use Rattle.account.specs.Reach.{count_to, differsAt, repaintedAt, isMarked, Reach, Reachable}
+use Rattle.account.specs.Reach.{count_to, differs_at, repainted_at, is_marked, Reach, Reachable}
 use Rattle.account.specs.Lists.{sum_of}
 use Rattle.account.specs.Lanes.{lane}
-use Rattle.level.specs.Sizes.{recordLeast, recordMost}
+use Rattle.level.specs.Sizes.{record_least, record_most}
 use Rattle.level.specs.Level.{Level, IsLevel}
 use Rattle.level.specs.Record.{IsRecord}
 
@@ -23,8 +23,8 @@ module _ (R : ℕ) where
   -- FORMAT 7.9: R (k + 5) cells, where k is that of the shortest record, of the longest, or between
   pub record Legal (N : ℕ) : Type 0 where
     pub k : ℕ
-    pub from : columns recordLeast ≤ k
-    pub to : k ≤ columns recordMost
+    pub from : columns record_least ≤ k
+    pub to : k ≤ columns record_most
     pub cells : N ≡ R * (k + 5)
 
   -- FORMAT 7.14: t is within reach of s, lane for lane
@@ -33,25 +33,25 @@ module _ (R : ℕ) where
     pub each : (j : ℕ) → j < R → Reach (lane R j marks) (lane R j s) (lane R j t)
 
   -- FORMAT 7.14, 7.19: the unmarked cells of lane j in which t and s differ, and the marked ones
-  abbrev pub wrongIn : List ℕ → List ℕ → List ℕ → ℕ → ℕ
-  wrongIn marks s t j = count_to (differsAt (lane R j marks) (lane R j s) (lane R j t)) (length s / R)
+  abbrev pub wrong_in : List ℕ → List ℕ → List ℕ → ℕ → ℕ
+  wrong_in marks s t j = count_to (differs_at (lane R j marks) (lane R j s) (lane R j t)) (length s / R)
 
-  abbrev pub repaintedIn : List ℕ → List ℕ → List ℕ → ℕ → ℕ
-  repaintedIn marks s t j = count_to (repaintedAt (lane R j marks) (lane R j s) (lane R j t)) (length s / R)
+  abbrev pub repainted_in : List ℕ → List ℕ → List ℕ → ℕ → ℕ
+  repainted_in marks s t j = count_to (repainted_at (lane R j marks) (lane R j s) (lane R j t)) (length s / R)
 
   -- FORMAT 7.14: its marked cells
-  abbrev pub markedIn : List ℕ → ℕ → ℕ
-  markedIn marks j = count_to (isMarked (lane R j marks)) (length marks / R)
+  abbrev pub marked_in : List ℕ → ℕ → ℕ
+  marked_in marks j = count_to (is_marked (lane R j marks)) (length marks / R)
 
   -- FORMAT 7.15: mended, the unmarked cells in which t and s differ, over all lanes
-  unfoldable pub mendedOf : List ℕ → List ℕ → List ℕ → ℕ
+  unfoldable pub mended_of : List ℕ → List ℕ → List ℕ → ℕ
   unfolding sum_of
-  mendedOf marks s t = sum_of R (wrongIn marks s t)
+  mended_of marks s t = sum_of R (wrong_in marks s t)
 
   -- FORMAT 7.19: repainted, the marked cells in which they differ, over all lanes
-  unfoldable pub repaintedOf : List ℕ → List ℕ → List ℕ → ℕ
+  unfoldable pub repainted_of : List ℕ → List ℕ → List ℕ → ℕ
   unfolding sum_of
-  repaintedOf marks s t = sum_of R (repaintedIn marks s t)
+  repainted_of marks s t = sum_of R (repainted_in marks s t)
 
 -- FORMAT 7.16: how far w is from a over b, in parts of one b-th
 unfoldable pub distance : ℕ → ℕ → ℕ → ℕ
@@ -79,14 +79,14 @@ module _ (O : Ops) (R : ℕ) where
   -- FORMAT 7.7: the strip of a level: its record, dealt
   pub record IsStrip (l : Level) (s : List ℕ) : Type 0 where
     pub bs : List ℕ
-    pub is-record : IsRecord l bs
+    pub is_record : IsRecord l bs
     pub dealt : Dealt bs s
 
   -- FORMAT 11.2: a level of a version up to this one, with its strip, of the same length and within reach
   pub record Reached (upto : ℕ) (marks s : List ℕ) (l : Level) (t : List ℕ) : Type 0 where
-    pub is-level : IsLevel l
-    pub not-newer : l.version ≤ upto
-    pub is-strip : IsStrip l t
+    pub is_level : IsLevel l
+    pub not_newer : l.version ≤ upto
+    pub is_strip : IsStrip l t
     pub reach : StripReach R marks s t
 
   -- FORMAT 9.6: lane j can be mended

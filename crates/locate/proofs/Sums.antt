@@ -11,7 +11,7 @@ use lib.Seq.{take-suc, get_or-take, length-take-le}
 use Rattle.account.specs.Field.{power}
 use Rattle.account.specs.Errata.{Outside, filt}
 use Rattle.account.specs.Search.{Zeros}
-use Rattle.account.proofs.Cells.{outside-append}
+use Rattle.account.proofs.Cells.{outside_append}
 use Rattle.account.proofs.Filter as filter
 use Rattle.account.proofs.Locate as locate
 use Rattle.gf256.specs.Gf256.{gf256, times}
@@ -31,18 +31,18 @@ filtered x a b c d s ea eb ec ed = record { sum = go }
     go (suc (suc (suc zero))) l = ed
     go (suc (suc (suc (suc m)))) l = absurd (omega arith)
 
-pub filter-one : (x : ℕ) (s r : List ℕ) → Filtered x s r → (m : ℕ) → m < 4 → at r m ≡ filt gf256 (x ∷ []) (at s) m
-filter-one x s r f m l = f.sum m l
+pub filter_one : (x : ℕ) (s r : List ℕ) → Filtered x s r → (m : ℕ) → m < 4 → at r m ≡ filt gf256 (x ∷ []) (at s) m
+filter_one x s r f m l = f.sum m l
 
 -- a test of what is left, as a test of the filter
-pub zeros-to : (k : ℕ) (f g : ℕ → ℕ) → ((m : ℕ) → m < k → f m ≡ g m) → Zeros k f → Zeros k g
-zeros-to k f g e z m l = sym (e m l) ∙ z m l
+pub zeros_to : (k : ℕ) (f g : ℕ → ℕ) → ((m : ℕ) → m < k → f m ≡ g m) → Zeros k f → Zeros k g
+zeros_to k f g e z m l = sym (e m l) ∙ z m l
 
-pub zeros-from : (k : ℕ) (f g : ℕ → ℕ) → ((m : ℕ) → m < k → f m ≡ g m) → (Zeros k f → ⊥) → Zeros k g → ⊥
-zeros-from k f g e n z = n (λ m l. e m l ∙ z m l)
+pub zeros_from : (k : ℕ) (f g : ℕ → ℕ) → ((m : ℕ) → m < k → f m ≡ g m) → (Zeros k f → ⊥) → Zeros k g → ⊥
+zeros_from k f g e n z = n (λ m l. e m l ∙ z m l)
 
-pub zeros-more : (s : ℕ → ℕ) (i : ℕ) → Zeros i s → s i ≡ 0 → Zeros (i + 1) s
-zeros-more s i z e m l = go (ℕ_discrete m i)
+pub zeros_more : (s : ℕ → ℕ) (i : ℕ) → Zeros i s → s i ≡ 0 → Zeros (i + 1) s
+zeros_more s i z e m l = go (ℕ_discrete m i)
   where
     go : Dec (m ≡ i) → s m ≡ 0
     go (yes q) = ap s q ∙ e
@@ -54,43 +54,43 @@ module _ (s : List ℕ) (i m : ℕ) (b : Bytes5 s) (some : 0 < at s m) (l : m < 
   next : at s (m + 1) ≡ at s (suc m)
   next = ap (at s) (add-one m)
 
-  pub climb-stops : at s (m + 1) ≡ 0 → Climbs s i → ⊥
-  climb-stops e z = locate.no-climb gf256 field256 (at s) i m (b m) (λ q. omega (arith, q)) (sym next ∙ e) (z m l)
+  pub climb_stops : at s (m + 1) ≡ 0 → Climbs s i → ⊥
+  climb_stops e z = locate.no_climb gf256 field256 (at s) i m (b m) (λ q. omega (arith, q)) (sym next ∙ e) (z m l)
 
   module _ (r : ℕ) (small : i < 255) (R : Ratio (at s m) (at s (m + 1)) r) where
-    pub climb-wrong : (r ≡ i → ⊥) → Climbs s i → ⊥
-    climb-wrong ne z =
-        ne (locate.same-ratio gf256 field256 r i (at s m) (at s (suc m)) R.small small (b m) (λ q. omega (arith, q)) (R.is ∙ next)
+    pub climb_wrong : (r ≡ i → ⊥) → Climbs s i → ⊥
+    climb_wrong ne z =
+        ne (locate.same_ratio gf256 field256 r i (at s m) (at s (suc m)) R.small small (b m) (λ q. omega (arith, q)) (R.is ∙ next)
         (locate.climbed gf256 field256 (at s) i m (z m l)))
 
-    pub climb-more : r ≡ i → Zeros m (filt gf256 (power gf256 2 i ∷ []) (at s)) → Zeros (m + 1) (filt gf256 (power gf256 2 i ∷ []) (at s))
-    climb-more e z =
-        zeros-more (filt gf256 (power gf256 2 i ∷ []) (at s)) m z
+    pub climb_more : r ≡ i → Zeros m (filt gf256 (power gf256 2 i ∷ []) (at s)) → Zeros (m + 1) (filt gf256 (power gf256 2 i ∷ []) (at s))
+    climb_more e z =
+        zeros_more (filt gf256 (power gf256 2 i ∷ []) (at s)) m z
         (locate.climbs gf256 field256 (at s) i m (ap (λ (j : ℕ). times (power gf256 2 j) (at s m)) (sym e) ∙ R.is ∙ next))
 
 -- ---- cells, one after the other
 
-pub drain-starts : (n : ℕ) (cells s : List ℕ) → Drained n (take 0 cells) s s
-drain-starts n cells s = record { sum = λ m l. refl }
+pub drain_starts : (n : ℕ) (cells s : List ℕ) → Drained n (take 0 cells) s s
+drain_starts n cells s = record { sum = λ m l. refl }
 
 -- p is none of the first i cells, and not the next
 pub free_more : (cells : List ℕ) (i p : ℕ) → i < length cells → Outside (take i cells) p → (get_or cells i 0 ≡ p → ⊥) → Outside (take (i + 1) cells) p
 free_more cells i p l o ne =
     subst (λ (ps : List ℕ). Outside ps p) (sym (ap (λ (k : ℕ). take k cells) (add-one i) ∙ take-suc cells i 0 l))
-    (outside-append (take i cells) (get_or cells i 0 ∷ []) p o ((λ e. ne (sym e)), tt))
+    (outside_append (take i cells) (get_or cells i 0 ∷ []) p o ((λ e. ne (sym e)), tt))
 
-outside-at : (ps : List ℕ) (i p : ℕ) → i < length ps → Outside ps p → get_or ps i 0 ≡ p → ⊥
-outside-at [] i p l o e = absurd (omega arith)
-outside-at (q ∷ ps) zero p l o e = o.0 (sym e)
-outside-at (q ∷ ps) (suc i) p l o e = outside-at ps i p (omega arith) o.1 e
+outside_at : (ps : List ℕ) (i p : ℕ) → i < length ps → Outside ps p → get_or ps i 0 ≡ p → ⊥
+outside_at [] i p l o e = absurd (omega arith)
+outside_at (q ∷ ps) zero p l o e = o.0 (sym e)
+outside_at (q ∷ ps) (suc i) p l o e = outside_at ps i p (omega arith) o.1 e
 
 -- p is one of the first f cells
 pub not_free : (cells : List ℕ) (f i p : ℕ) → f ≤ length cells → i < f → get_or cells i 0 ≡ p → Outside (take f cells) p → ⊥
-not_free cells f i p h l e o = outside-at (take f cells) i p (omega (arith, length-take-le f cells h)) o (get_or-take f cells i 0 l ∙ e)
+not_free cells f i p h l e o = outside_at (take f cells) i p (omega (arith, length-take-le f cells h)) o (get_or-take f cells i 0 l ∙ e)
 
-pub drain-goes : (n : ℕ) (cells s r u : List ℕ) (i x : ℕ) → i < length cells → Drained n (take i cells) s r → x ≡ place_of n (get_or cells i 0)
+pub drain_goes : (n : ℕ) (cells s r u : List ℕ) (i x : ℕ) → i < length cells → Drained n (take i cells) s r → x ≡ place_of n (get_or cells i 0)
     → Filtered x r u → Drained n (take (i + 1) cells) s u
-drain-goes n cells s r u i x l D ex f = subst (λ (ps : List ℕ). Drained n ps s u) (sym longer) (record { sum = sum })
+drain_goes n cells s r u i x l D ex f = subst (λ (ps : List ℕ). Drained n ps s u) (sym longer) (record { sum = sum })
   where
     ps : List ℕ
     ps = take i cells
@@ -107,5 +107,5 @@ drain-goes n cells s r u i x l D ex f = subst (λ (ps : List ℕ). Drained n ps 
         ∙ ap₂ (λ (a b : ℕ). bit_xor a (times x b)) (D.sum (suc m) (omega (arith, length-append ps (p ∷ []))))
         (D.sum m (omega (arith, length-append ps (p ∷ []))))
         ∙ ap (λ (z : ℕ). bit_xor (filt gf256 (map (place_of n) ps) (at s) (suc m)) (times z (filt gf256 (map (place_of n) ps) (at s) m))) ex
-        ∙ sym (filter.filt-append gf256 (map (place_of n) ps) (place_of n p ∷ []) (at s) m)
-        ∙ ap (λ (l : List ℕ). filt gf256 l (at s) m) (sym (filter.map-append (place_of n) ps (p ∷ [])))
+        ∙ sym (filter.filt_append gf256 (map (place_of n) ps) (place_of n p ∷ []) (at s) m)
+        ∙ ap (λ (l : List ℕ). filt gf256 l (at s) m) (sym (filter.map_append (place_of n) ps (p ∷ [])))

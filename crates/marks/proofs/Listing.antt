@@ -11,10 +11,10 @@ use lib.ListN.{length, get_or, take, length-set, length-append, drop_of_length-l
 use lib.Seq.{take-suc-set, take-set-le, length-take-le}
 use borrow.Author.Tests.{eq-eqb, ne_eqb}
 use Rattle.account.specs.Lanes.{lane}
-use Rattle.account.specs.Reach.{count_to, isMarked}
-use Rattle.account.specs.Search.{addIf, places, erasures}
-use Rattle.account.proofs.Cells.{count-places}
-use Rattle.account.proofs.Lanes.{length-lane, getD-lane, cell_below}
+use Rattle.account.specs.Reach.{count_to, is_marked}
+use Rattle.account.specs.Search.{add_if, places, erasures}
+use Rattle.account.proofs.Cells.{count_places}
+use Rattle.account.proofs.Lanes.{length_lane, get_d_lane, cell_below}
 use Rattle.values.specs.Values.{Gathered}
 use Rattle.marks.specs.Marks.{Pushed, ListedIn}
 
@@ -23,21 +23,21 @@ pub record Listing (marks p : List ℕ) (k i : ℕ) : Type 0 where
   pub room : length p ≡ 6
   pub few : k ≤ 5
   pub within : i ≤ length marks
-  pub list : take k p ++ places (isMarked marks) i ≡ erasures marks
+  pub list : take k p ++ places (is_marked marks) i ≡ erasures marks
 
-pub list-starts : (marks p : List ℕ) (i : ℕ) → length p ≡ 6 → i ≡ length marks → Listing marks p 0 i
-list-starts marks p i e h = record { room = e; few = omega arith; within = omega arith; list = ap (places (isMarked marks)) h }
+pub list_starts : (marks p : List ℕ) (i : ℕ) → length p ≡ 6 → i ≡ length marks → Listing marks p 0 i
+list_starts marks p i e h = record { room = e; few = omega arith; within = omega arith; list = ap (places (is_marked marks)) h }
 
 -- one cell more
 module _ (marks p q : List ℕ) (k r i : ℕ) (L : Listing marks p k (suc i)) (u : Pushed (get_or marks i 0) i p k q r) where
   abbrev more : Bool → List ℕ
-  more b = take k p ++ addIf b i (places (isMarked marks) i)
+  more b = take k p ++ add_if b i (places (is_marked marks) i)
 
-  marked-list : get_or marks i 0 ≢ 0 → take k p ++ i ∷ places (isMarked marks) i ≡ erasures marks
-  marked-list ne = ap more (sym (ap not (ne_eqb (get_or marks i 0) 0 ne))) ∙ L.list
+  marked_list : get_or marks i 0 ≢ 0 → take k p ++ i ∷ places (is_marked marks) i ≡ erasures marks
+  marked_list ne = ap more (sym (ap not (ne_eqb (get_or marks i 0) 0 ne))) ∙ L.list
 
-  list-goes : r ≤ 5 → Listing marks q r i
-  list-goes h = go (ℕ_discrete (get_or marks i 0) 0)
+  list_goes : r ≤ 5 → Listing marks q r i
+  list_goes h = go (ℕ_discrete (get_or marks i 0) 0)
     where
       go : Dec (get_or marks i 0 ≡ 0) → Listing marks q r i
       go (yes z) = record {
@@ -45,8 +45,8 @@ module _ (marks p q : List ℕ) (k r i : ℕ) (L : Listing marks p k (suc i)) (u
         few = h;
         within = omega (arith, L.within);
         list =
-            ap₂ (λ (m : ℕ) (v : List ℕ). take m v ++ places (isMarked marks) i) (u.none z) u.put
-            ∙ ap (λ (v : List ℕ). v ++ places (isMarked marks) i) (take-set-le k p k i (omega arith))
+            ap₂ (λ (m : ℕ) (v : List ℕ). take m v ++ places (is_marked marks) i) (u.none z) u.put
+            ∙ ap (λ (v : List ℕ). v ++ places (is_marked marks) i) (take-set-le k p k i (omega arith))
             ∙ ap more (sym (ap not (eq-eqb (get_or marks i 0) 0 z))) ∙ L.list;
       }
       go (no ne) = record {
@@ -54,28 +54,28 @@ module _ (marks p q : List ℕ) (k r i : ℕ) (L : Listing marks p k (suc i)) (u
         few = h;
         within = omega (arith, L.within);
         list =
-            ap₂ (λ (m : ℕ) (v : List ℕ). take m v ++ places (isMarked marks) i) (u.some ne ∙ add-one k) u.put
-            ∙ ap (λ (v : List ℕ). v ++ places (isMarked marks) i) (take-suc-set p k i (omega (arith, L.room, low)))
-            ∙ append_assoc (take k p) (i ∷ []) (places (isMarked marks) i) ∙ marked-list ne;
+            ap₂ (λ (m : ℕ) (v : List ℕ). take m v ++ places (is_marked marks) i) (u.some ne ∙ add-one k) u.put
+            ∙ ap (λ (v : List ℕ). v ++ places (is_marked marks) i) (take-suc-set p k i (omega (arith, L.room, low)))
+            ∙ append_assoc (take k p) (i ∷ []) (places (is_marked marks) i) ∙ marked_list ne;
       }
         where
           low : k < 5
           low = omega (arith, u.some ne)
 
   -- a sixth
-  list_full : 5 < r → (r ≤ 6) × (5 < count_to (isMarked marks) (length marks))
+  list_full : 5 < r → (r ≤ 6) × (5 < count_to (is_marked marks) (length marks))
   list_full h = go (ℕ_discrete (get_or marks i 0) 0)
     where
-      go : Dec (get_or marks i 0 ≡ 0) → (r ≤ 6) × (5 < count_to (isMarked marks) (length marks))
+      go : Dec (get_or marks i 0 ≡ 0) → (r ≤ 6) × (5 < count_to (is_marked marks) (length marks))
       go (yes z) = absurd (omega (arith, u.none z, L.few))
       go (no ne) = (
         omega (arith, u.some ne, L.few),
         omega (
           arith,
           u.some ne,
-          count-places (isMarked marks) (length marks),
-          ap length (marked-list ne),
-          length-append (take k p) (i ∷ places (isMarked marks) i),
+          count_places (is_marked marks) (length marks),
+          ap length (marked_list ne),
+          length-append (take k p) (i ∷ places (is_marked marks) i),
           length-take-le k p (omega (arith, L.room, L.few)),
         ),
       )
@@ -86,7 +86,7 @@ module _ (R l : ℕ) (inside : l < R) (marks p : List ℕ) (k i : ℕ) (hi : 0 <
   some = omega arith
 
   below : i - 1 < length marks / R
-  below = omega (arith, L.within, length-lane R some l marks)
+  below = omega (arith, L.within, length_lane R some l marks)
 
   pub read_below : R * (i - 1) + l < length marks
   read_below = cell_below R some (length marks) (i - 1) l inside below
@@ -99,13 +99,13 @@ module _ (R l : ℕ) (inside : l < R) (marks p : List ℕ) (k i : ℕ) (hi : 0 <
         back = omega arith
 
     pushed : Pushed (get_or (lane R l marks) (i - 1) 0) (i - 1) p k q r
-    pushed = subst (λ (m : ℕ). Pushed m (i - 1) p k q r) (sym (getD-lane R some l marks (i - 1) below)) u
+    pushed = subst (λ (m : ℕ). Pushed m (i - 1) p k q r) (sym (get_d_lane R some l marks (i - 1) below)) u
 
-    pub lane-goes : r ≤ 5 → Listing (lane R l marks) q r (i - 1)
-    lane-goes = list-goes (lane R l marks) p q k r (i - 1) this pushed
+    pub lane_goes : r ≤ 5 → Listing (lane R l marks) q r (i - 1)
+    lane_goes = list_goes (lane R l marks) p q k r (i - 1) this pushed
 
-    pub lane-many : (cells : List ℕ) → 5 < r → ListedIn R l marks (record { count = r; cells = cells })
-    lane-many cells h = record {
+    pub lane_many : (cells : List ℕ) → 5 < r → ListedIn R l marks (record { count = r; cells = cells })
+    lane_many cells h = record {
       most = (list_full (lane R l marks) p q k r (i - 1) this pushed h).0;
       list = λ g. absurd (omega arith);
       count = λ g. absurd (omega arith);
@@ -116,68 +116,68 @@ module _ (R l : ℕ) (inside : l < R) (marks p : List ℕ) (k i : ℕ) (hi : 0 <
 abbrev five : List ℕ → List ℕ
 five p = get_or p 0 0 ∷ get_or p 1 0 ∷ get_or p 2 0 ∷ get_or p 3 0 ∷ get_or p 4 0 ∷ []
 
-five-front : (p : List ℕ) → length p ≡ 6 → (k : ℕ) → k ≤ 5 → take k (five p) ≡ take k p
-five-front [] n k h = absurd (omega arith)
-five-front (a ∷ []) n k h = absurd (omega arith)
-five-front (a ∷ b ∷ []) n k h = absurd (omega arith)
-five-front (a ∷ b ∷ c ∷ []) n k h = absurd (omega arith)
-five-front (a ∷ b ∷ c ∷ d ∷ []) n k h = absurd (omega arith)
-five-front (a ∷ b ∷ c ∷ d ∷ e ∷ r) n zero h = refl
-five-front (a ∷ b ∷ c ∷ d ∷ e ∷ r) n (suc zero) h = refl
-five-front (a ∷ b ∷ c ∷ d ∷ e ∷ r) n (suc (suc zero)) h = refl
-five-front (a ∷ b ∷ c ∷ d ∷ e ∷ r) n (suc (suc (suc zero))) h = refl
-five-front (a ∷ b ∷ c ∷ d ∷ e ∷ r) n (suc (suc (suc (suc zero)))) h = refl
-five-front (a ∷ b ∷ c ∷ d ∷ e ∷ r) n (suc (suc (suc (suc (suc zero))))) h = refl
-five-front (a ∷ b ∷ c ∷ d ∷ e ∷ r) n (suc (suc (suc (suc (suc (suc k)))))) h = absurd (omega arith)
+five_front : (p : List ℕ) → length p ≡ 6 → (k : ℕ) → k ≤ 5 → take k (five p) ≡ take k p
+five_front [] n k h = absurd (omega arith)
+five_front (a ∷ []) n k h = absurd (omega arith)
+five_front (a ∷ b ∷ []) n k h = absurd (omega arith)
+five_front (a ∷ b ∷ c ∷ []) n k h = absurd (omega arith)
+five_front (a ∷ b ∷ c ∷ d ∷ []) n k h = absurd (omega arith)
+five_front (a ∷ b ∷ c ∷ d ∷ e ∷ r) n zero h = refl
+five_front (a ∷ b ∷ c ∷ d ∷ e ∷ r) n (suc zero) h = refl
+five_front (a ∷ b ∷ c ∷ d ∷ e ∷ r) n (suc (suc zero)) h = refl
+five_front (a ∷ b ∷ c ∷ d ∷ e ∷ r) n (suc (suc (suc zero))) h = refl
+five_front (a ∷ b ∷ c ∷ d ∷ e ∷ r) n (suc (suc (suc (suc zero)))) h = refl
+five_front (a ∷ b ∷ c ∷ d ∷ e ∷ r) n (suc (suc (suc (suc (suc zero))))) h = refl
+five_front (a ∷ b ∷ c ∷ d ∷ e ∷ r) n (suc (suc (suc (suc (suc (suc k)))))) h = absurd (omega arith)
 
 -- all are listed
-pub list-ends : (R l : ℕ) (marks p : List ℕ) (k i : ℕ) → i ≡ 0 → Listing (lane R l marks) p k i → ListedIn R l marks (record { count = k; cells = five p })
-list-ends R l marks p k i z L = record {
+pub list_ends : (R l : ℕ) (marks p : List ℕ) (k i : ℕ) → i ≡ 0 → Listing (lane R l marks) p k i → ListedIn R l marks (record { count = k; cells = five p })
+list_ends R l marks p k i z L = record {
   most = omega (arith, L.few);
-  list = λ h. record { room = refl; list = five-front p L.room k L.few ∙ all };
+  list = λ h. record { room = refl; list = five_front p L.room k L.few ∙ all };
   count = λ h.
-      sym (length-take-le k p (omega (arith, L.room, L.few))) ∙ ap length all ∙ count-places (isMarked (lane R l marks)) (length (lane R l marks));
+      sym (length-take-le k p (omega (arith, L.room, L.few))) ∙ ap length all ∙ count_places (is_marked (lane R l marks)) (length (lane R l marks));
   many = λ h. absurd (omega (arith, L.few));
 }
   where
     all : take k p ≡ erasures (lane R l marks)
     all =
-        sym (append-nil (take k p)) ∙ ap (λ (j : ℕ). take k p ++ places (isMarked (lane R l marks)) j) (sym z) ∙ L.list
+        sym (append-nil (take k p)) ∙ ap (λ (j : ℕ). take k p ++ places (is_marked (lane R l marks)) j) (sym z) ∙ L.list
 
 -- where none is marked, nothing is to be listed
-pub none-listed : (marks p : List ℕ) (f : ℕ) → f ≡ count_to (isMarked marks) (length marks) → f ≡ 0 → length p ≡ 5 → Gathered marks p f
-none-listed marks p f e z h = record {
+pub none_listed : (marks p : List ℕ) (f : ℕ) → f ≡ count_to (is_marked marks) (length marks) → f ≡ 0 → length p ≡ 5 → Gathered marks p f
+none_listed marks p f e z h = record {
   room = h;
-  list = ap (λ (k : ℕ). take k p) z ∙ sym (drop_of_length-le (erasures marks) {i = zero} (omega (arith, count-places (isMarked marks) (length marks), e, z)));
+  list = ap (λ (k : ℕ). take k p) z ∙ sym (drop_of_length-le (erasures marks) {i = zero} (omega (arith, count_places (is_marked marks) (length marks), e, z)));
 }
 
 -- ---- all f of a word
 
-module _ (marks p : List ℕ) (k i f : ℕ) (L : Listing marks p k i) (is : f ≡ count_to (isMarked marks) (length marks)) where
-  counted : k + length (places (isMarked marks) i) ≡ f
+module _ (marks p : List ℕ) (k i f : ℕ) (L : Listing marks p k i) (is : f ≡ count_to (is_marked marks) (length marks)) where
+  counted : k + length (places (is_marked marks) i) ≡ f
   counted =
       omega (
         arith,
         is,
-        count-places (isMarked marks) (length marks),
+        count_places (is_marked marks) (length marks),
         ap length L.list,
-        length-append (take k p) (places (isMarked marks) i),
+        length-append (take k p) (places (is_marked marks) i),
         length-take-le k p (omega (arith, L.room, L.few)),
       )
 
   pub some_left : k < f → 0 < i
   some_left h = go i counted
     where
-      go : (j : ℕ) → k + length (places (isMarked marks) j) ≡ f → 0 < j
+      go : (j : ℕ) → k + length (places (is_marked marks) j) ≡ f → 0 < j
       go zero e = absurd (omega arith)
       go (suc j) e = omega arith
 
-  pub all-gathered : k ≡ f → Gathered marks (five p) f
-  all-gathered e = record { room = refl; list = ap (λ (j : ℕ). take j (five p)) (sym e) ∙ five-front p L.room k L.few ∙ all }
+  pub all_gathered : k ≡ f → Gathered marks (five p) f
+  all_gathered e = record { room = refl; list = ap (λ (j : ℕ). take j (five p)) (sym e) ∙ five_front p L.room k L.few ∙ all }
     where
       all : take k p ≡ erasures marks
       all =
-          sym (append-nil (take k p)) ∙ ap (λ (l : List ℕ). take k p ++ l) (sym (drop_of_length-le (places (isMarked marks) i) {i = zero} (omega (arith, counted, e)))) ∙ L.list
+          sym (append-nil (take k p)) ∙ ap (λ (l : List ℕ). take k p ++ l) (sym (drop_of_length-le (places (is_marked marks) i) {i = zero} (omega (arith, counted, e)))) ∙ L.list
 
   -- one cell more
   module _ (q : List ℕ) (r : ℕ) (h : 0 < i) (u : Pushed (get_or marks (i - 1) 0) (i - 1) p k q r) where
@@ -188,8 +188,8 @@ module _ (marks p : List ℕ) (k i f : ℕ) (L : Listing marks p k i) (is : f �
         go (yes z) = omega (arith, u.none z)
         go (no n) = omega (arith, u.some n)
 
-    pub word-goes : r ≤ 5 → Listing marks q r (i - 1)
-    word-goes = list-goes marks p q k r (i - 1) (subst (Listing marks p k) back L) u
+    pub word_goes : r ≤ 5 → Listing marks q r (i - 1)
+    word_goes = list_goes marks p q k r (i - 1) (subst (Listing marks p k) back L) u
       where
         back : i ≡ suc (i - 1)
         back = omega arith

@@ -1,7 +1,7 @@
 -- FORMAT 3.1, 3.2: marks tallied and listed, and errata counted beside them, for the crates above.
 use Rattle.std.specs.Prelude.{◌≡◌, ◌≢◌, Bool, not, List, [], ◌∷◌, ℕ, ◌+◌, ◌≤◌, ◌<◌, eqb, length, set}
 use Rattle.account.specs.Lanes.{lane}
-use Rattle.account.specs.Reach.{count_to, isMarked, isRead, oneIf, and, GoodMarks}
+use Rattle.account.specs.Reach.{count_to, is_marked, is_read, one_if, and, GoodMarks}
 use Rattle.values.specs.Values.{Gathered}
 use Rattle.marks.specs.declared.Marked.{Marked}
 use Rattle.marks.specs.declared.Listed.{Listed}
@@ -11,14 +11,14 @@ use Rattle.marks.specs.declared.Counts.{Counts}
 pub record Tallied (marks : List ℕ) (t : Marked) : Type 0 where
   pub good : t.any ≤ 1 → GoodMarks marks
   pub bad : (t.any ≤ 1 → ⊥) → GoodMarks marks → ⊥
-  pub count : t.any ≤ 1 → t.sum ≡ count_to (isMarked marks) (length marks)
+  pub count : t.any ≤ 1 → t.sum ≡ count_to (is_marked marks) (length marks)
 
 -- the marked cells of lane l of R: at most five are listed, the last first, and of more it is told that there are more
 pub record ListedIn (R l : ℕ) (marks : List ℕ) (r : Listed) : Type 0 where
   pub most : r.count ≤ 6
   pub list : r.count ≤ 5 → Gathered (lane R l marks) r.cells r.count
-  pub count : r.count ≤ 5 → r.count ≡ count_to (isMarked (lane R l marks)) (length (lane R l marks))
-  pub many : 5 < r.count → 5 < count_to (isMarked (lane R l marks)) (length (lane R l marks))
+  pub count : r.count ≤ 5 → r.count ≡ count_to (is_marked (lane R l marks)) (length (lane R l marks))
+  pub many : 5 < r.count → 5 < count_to (is_marked (lane R l marks)) (length (lane R l marks))
 
 -- ---- parts
 
@@ -26,11 +26,11 @@ pub record ListedIn (R l : ℕ) (marks : List ℕ) (r : Listed) : Type 0 where
 pub record AnyOf (marks : List ℕ) (a : ℕ) : Type 0 where
   pub good : a ≤ 1 → GoodMarks marks
   pub bad : GoodMarks marks → a ≤ 1
-  pub none : a ≡ 0 → count_to (isMarked marks) (length marks) ≡ 0
+  pub none : a ≡ 0 → count_to (is_marked marks) (length marks) ≡ 0
 
 -- their sum counts those that are set, where each is at most 1
 pub record SumOf (marks : List ℕ) (x : ℕ) : Type 0 where
-  pub count : GoodMarks marks → x ≡ count_to (isMarked marks) (length marks)
+  pub count : GoodMarks marks → x ≡ count_to (is_marked marks) (length marks)
 
 -- i is put after the first k of p, and counts if its mark is set
 pub record Pushed (mark i : ℕ) (p : List ℕ) (k : ℕ) (q : List ℕ) (r : ℕ) : Type 0 where
@@ -39,17 +39,17 @@ pub record Pushed (mark i : ℕ) (p : List ℕ) (k : ℕ) (q : List ℕ) (r : �
   pub put : q ≡ set p k i
 
 -- how many of the errata change a cell that f takes
-abbrev pub countedOf : (ℕ → Bool) → List ℕ → List ℕ → ℕ
-countedOf f [] vs = 0
-countedOf f (p ∷ ps) [] = 0
-countedOf f (p ∷ ps) (v ∷ vs) = oneIf (and (f p) (not (eqb v 0))) + countedOf f ps vs
+abbrev pub counted_of : (ℕ → Bool) → List ℕ → List ℕ → ℕ
+counted_of f [] vs = 0
+counted_of f (p ∷ ps) [] = 0
+counted_of f (p ∷ ps) (v ∷ vs) = one_if (and (f p) (not (eqb v 0))) + counted_of f ps vs
 
 -- the counts c with an erratum more, which adds v at cell p
 pub record CountsOne (marks : List ℕ) (p v : ℕ) (c r : Counts) : Type 0 where
-  pub mended : r.mended ≡ c.mended + oneIf (and (isRead marks p) (not (eqb v 0)))
-  pub repainted : r.repainted ≡ c.repainted + oneIf (and (isMarked marks p) (not (eqb v 0)))
+  pub mended : r.mended ≡ c.mended + one_if (and (is_read marks p) (not (eqb v 0)))
+  pub repainted : r.repainted ≡ c.repainted + one_if (and (is_marked marks p) (not (eqb v 0)))
 
 -- the errata counted: those that change an unmarked cell, and those that change a marked one
 pub record CountsAll (marks ps vs : List ℕ) (c : Counts) : Type 0 where
-  pub mended : c.mended ≡ countedOf (isRead marks) ps vs
-  pub repainted : c.repainted ≡ countedOf (isMarked marks) ps vs
+  pub mended : c.mended ≡ counted_of (is_read marks) ps vs
+  pub repainted : c.repainted ≡ counted_of (is_marked marks) ps vs

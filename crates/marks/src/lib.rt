@@ -1,7 +1,7 @@
 // Marks: one byte for each cell, 0 where it is read and 1 where it is unreadable. All of them or-ed, summed and listed, and the cells that errata
 // change, counted by their marks.
 ghost use Rattle.std.specs.Prelude.{◌≡◌, ◌≢◌, ◌/◌, ◌≤◌, ◌<◌, length};
-ghost use Rattle.account.specs.Reach.{count_to, isMarked};
+ghost use Rattle.account.specs.Reach.{count_to, is_marked};
 ghost use Rattle.account.specs.Lanes.{lane};
 ghost use Rattle.values.specs.Values.{Gathered, cells_of, values_of, ErrataFor};
 ghost use Rattle.marks.specs.Marks.{Tallied, AnyOf, SumOf, Pushed, ListedIn, CountsOne, CountsAll};
@@ -108,7 +108,7 @@ pub fn list(marks: &[u8], lanes: usize, l: usize) -> Listed
 
 // The f marked cells of a word, the last first.
 pub fn all(marks: &[u8], f: usize) -> [usize; 5]
-    requires { (f ≡ count_to (isMarked marks.now) (length marks.now)) × (f ≤ 5) }
+    requires { (f ≡ count_to (is_marked marks.now) (length marks.now)) × (f ≤ 5) }
     ensures { Gathered marks.now result f }
 {
     let mut cells = [0usize; 6];

@@ -1,12 +1,12 @@
 // The numbers of an answer, packed in one. docs/C-INTERFACE.md has the layout.
 ghost use Rattle.std.specs.Prelude.{◌≡◌};
-ghost use Rattle.code.specs.Word.{writtenNumbers, testedNumbers};
-ghost use Rattle.code.specs.Repair.{repairedNumbers};
-ghost use Rattle.record.specs.Reading.{recordNumbers};
-ghost use Rattle.strip.specs.Reading.{stripNumbers};
-ghost use Rattle.pool.specs.Pooled.{poolNumbers};
-ghost use Rattle.tiny.specs.Tiny.{nextNumbers};
-ghost use Rattle.packing.specs.Packed.{packedLength, packedRead, packedRepair, packedPool};
+ghost use Rattle.code.specs.Word.{written_numbers, tested_numbers};
+ghost use Rattle.code.specs.Repair.{repaired_numbers};
+ghost use Rattle.record.specs.Reading.{record_numbers};
+ghost use Rattle.strip.specs.Reading.{strip_numbers};
+ghost use Rattle.pool.specs.Pooled.{pool_numbers};
+ghost use Rattle.tiny.specs.Tiny.{next_numbers};
+ghost use Rattle.packing.specs.Packed.{packed_length, packed_read, packed_repair, packed_pool};
 
 use code::repair::Repaired;
 use code::word::{Tested, Written};
@@ -17,13 +17,13 @@ use tiny::Found;
 
 // A code in the lowest five bits, and a value from bit 48 on.
 fn pack_length(code: u8, value: usize) -> u64
-    ensures { result ≡ packedLength record { code = code; value = value } }
+    ensures { result ≡ packed_length record { code = code; value = value } }
 {
     (code % 32) as u64 + ((value % 65536) as u64) * 281474976710656
 }
 
 pub fn pack_written(a: Written) -> u64
-    ensures { result ≡ packedLength (writtenNumbers a) }
+    ensures { result ≡ packed_length (written_numbers a) }
 {
     match a {
         Written::Length(n) => pack_length(0, n),
@@ -32,7 +32,7 @@ pub fn pack_written(a: Written) -> u64
 }
 
 pub fn pack_tested(a: Tested) -> u64
-    ensures { result ≡ packedLength (testedNumbers a) }
+    ensures { result ≡ packed_length (tested_numbers a) }
 {
     match a {
         Tested::Clean => pack_length(0, 1),
@@ -42,7 +42,7 @@ pub fn pack_tested(a: Tested) -> u64
 }
 
 pub fn pack_found(a: Found) -> u64
-    ensures { result ≡ packedLength (nextNumbers a) }
+    ensures { result ≡ packed_length (next_numbers a) }
 {
     match a {
         Found::Board(n) => pack_length(0, n),
@@ -64,7 +64,7 @@ fn pack_numbers(
     wear: usize,
     lanes: usize,
 ) -> u64
-    ensures { result ≡ packedRead record { code = code; lane = lane; version = version; width = width; height = height; par = par; mended = mended; repainted = repainted; wear = wear; lanes = lanes } }
+    ensures { result ≡ packed_read record { code = code; lane = lane; version = version; width = width; height = height; par = par; mended = mended; repainted = repainted; wear = wear; lanes = lanes } }
 {
     (code % 32) as u64
         + ((lane % 16) as u64) * 32
@@ -79,7 +79,7 @@ fn pack_numbers(
 }
 
 pub fn pack_repaired(a: Repaired) -> u64
-    ensures { result ≡ packedRepair (repairedNumbers a) }
+    ensures { result ≡ packed_repair (repaired_numbers a) }
 {
     match a {
         Repaired::Mended { mended, repainted } => pack_numbers(
@@ -90,7 +90,7 @@ pub fn pack_repaired(a: Repaired) -> u64
 }
 
 pub fn pack_level(a: RecordRead) -> u64
-    ensures { result ≡ packedRead (recordNumbers a) }
+    ensures { result ≡ packed_read (record_numbers a) }
 {
     match a {
         RecordRead::Level {
@@ -104,7 +104,7 @@ pub fn pack_level(a: RecordRead) -> u64
 }
 
 pub fn pack_reading(a: Reading) -> u64
-    ensures { result ≡ packedRead (stripNumbers a) }
+    ensures { result ≡ packed_read (strip_numbers a) }
 {
     match a {
         Reading::Read {
@@ -125,7 +125,7 @@ pub fn pack_reading(a: Reading) -> u64
 
 // The numbers of pooling, nine bits for each count.
 fn pack_counts(code: u8, agreed: usize, taken: usize, conflict: usize, both: usize) -> u64
-    ensures { result ≡ packedPool record { code = code; agreed = agreed; taken = taken; conflict = conflict; both = both } }
+    ensures { result ≡ packed_pool record { code = code; agreed = agreed; taken = taken; conflict = conflict; both = both } }
 {
     (code % 32) as u64
         + ((agreed % 512) as u64) * 32
@@ -135,7 +135,7 @@ fn pack_counts(code: u8, agreed: usize, taken: usize, conflict: usize, both: usi
 }
 
 pub fn pack_pooling(a: Pooling) -> u64
-    ensures { result ≡ packedPool (poolNumbers a) }
+    ensures { result ≡ packed_pool (pool_numbers a) }
 {
     match a {
         Pooling::Pooled {

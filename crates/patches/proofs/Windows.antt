@@ -10,15 +10,15 @@ use borrow.Author.Tests.{lt-ltb, le-ltb}
 use lib.Dec.{ltb}
 use lib.ListN.{length, get_or, take, drop, set, length-set, length-drop, get_or-append}
 use lib.Seq.{get_or-set_same, get_or-set_other, set-get_or, get_or-take, get_or-drop, length-take-le}
-use Rattle.rules.proofs.Numbers.{lt-or-ge}
+use Rattle.rules.proofs.Numbers.{lt_or_ge}
 use Rattle.patches.specs.Patched.{patched}
-use Rattle.patches.proofs.Patching.{patched-0, patched-more, length-patched}
+use Rattle.patches.proofs.Patching.{patched_0, patched_more, length_patched}
 use Rattle.patches.specs.Window.{Behind, PatchedAt, Shows, WindowPatched, Shown}
 
 -- ---- one cell
 
 -- r is how far cell p is behind cell a, and o its place, or some place
-module _ (a p b r o v : ℕ) (w : List ℕ) (room : 186 ≤ length w) (B : Behind a p r) (o-small : o < 186) (place : r < 186 → o ≡ r) where
+module _ (a p b r o v : ℕ) (w : List ℕ) (room : 186 ≤ length w) (B : Behind a p r) (o_small : o < 186) (place : r < 186 → o ≡ r) where
   in_window : r < 186 → v ≡ b → PatchedAt a p b w (set w o v)
   in_window i e = record {
     long = length-set w o v;
@@ -34,21 +34,21 @@ module _ (a p b r o v : ℕ) (w : List ℕ) (room : 186 ≤ length w) (B : Behin
     other = λ q h k. ap (λ (x : ℕ). get_or (set w o x) q 0) e ∙ ap (λ (x : List ℕ). get_or x q 0) (set-get_or w o 0);
   }
 
-  pub patched-one : (ltb r 186 ≡ true → v ≡ b) → (ltb r 186 ≡ false → v ≡ get_or w o 0) → PatchedAt a p b w (set w o v)
-  patched-one t f = ⊎_elim (λ h. in_window h (t (lt-ltb r 186 h))) (λ h. elsewhere (λ k. omega arith) (f (le-ltb r 186 h))) (lt-or-ge r 186)
+  pub patched_one : (ltb r 186 ≡ true → v ≡ b) → (ltb r 186 ≡ false → v ≡ get_or w o 0) → PatchedAt a p b w (set w o v)
+  patched_one t f = ⊎_elim (λ h. in_window h (t (lt-ltb r 186 h))) (λ h. elsewhere (λ k. omega arith) (f (le-ltb r 186 h))) (lt_or_ge r 186)
 
 -- ---- all cells
 
 module _ (cells bytes : List ℕ) (a : ℕ) (w : List ℕ) where
-  pub window-0 : WindowPatched cells bytes 0 a w w
-  window-0 = record { long = refl; shows = λ s n h k f. rw (patched-0 cells bytes s) f }
+  pub window_0 : WindowPatched cells bytes 0 a w w
+  window_0 = record { long = refl; shows = λ s n h k f. rw (patched_0 cells bytes s) f }
 
   pub window_more : (i p : ℕ) (w' w'' : List ℕ) → p ≡ get_or cells i 0 → WindowPatched cells bytes i a w w' → PatchedAt a p (get_or bytes i 0) w' w''
       → WindowPatched cells bytes (i + 1) a w w''
   window_more i p w' w'' e W P = record {
     long = P.long ∙ W.long;
     shows = λ s n h k f q l. at s q (omega arith) (omega arith) (W.shows s n h k f q l) (ℕ_discrete (a + q) (get_or cells i 0))
-        ∙ ap (λ (t : List ℕ). get_or t (a + q) 0) (sym (patched-more cells bytes s i));
+        ∙ ap (λ (t : List ℕ). get_or t (a + q) 0) (sym (patched_more cells bytes s i));
   }
     where
       at : (s : List ℕ) (q : ℕ) → q < 186 → a + q < length s → get_or w' q 0 ≡ get_or (patched cells bytes i s) (a + q) 0 → Dec (a + q ≡ get_or cells i 0)
@@ -56,7 +56,7 @@ module _ (cells bytes : List ℕ) (a : ℕ) (w : List ℕ) where
       at s q h k f (yes z) =
           P.here q h (z ∙ sym e)
           ∙ sym (ap (λ (n : ℕ). get_or (set (patched cells bytes i s) (get_or cells i 0) (get_or bytes i 0)) n 0) z
-          ∙ get_or-set_same (patched cells bytes i s) (get_or cells i 0) (get_or bytes i 0) 0 (omega (arith, length-patched cells bytes s i, z)))
+          ∙ get_or-set_same (patched cells bytes i s) (get_or cells i 0) (get_or bytes i 0) 0 (omega (arith, length_patched cells bytes s i, z)))
       at s q h k f (no n) = P.other q h (λ z. n (z ∙ e)) ∙ f ∙ sym (get_or-set_other (patched cells bytes i s) (get_or cells i 0) (a + q) (get_or bytes i 0) 0 n)
 
 -- ---- a window filled
@@ -71,10 +71,10 @@ shown s old w a n h e q l =
     long : length (take (a + n - a) (drop a s)) ≡ n
     long = length-take-le (a + n - a) (drop a s) (omega (arith, length-drop a s)) ∙ omega arith
 
-pub window-shown : (s cells bytes old w w' : List ℕ) (count a b n : ℕ) → n ≤ 186 → a + n ≤ b → (a + n < b → n ≡ 186) → b ≤ length s
+pub window_shown : (s cells bytes old w w' : List ℕ) (count a b n : ℕ) → n ≤ 186 → a + n ≤ b → (a + n < b → n ≡ 186) → b ≤ length s
     → w ≡ take (a + n - a) (drop a s) ++ drop (length (take (a + n - a) (drop a s))) old → WindowPatched cells bytes count a w w'
     → Shown s cells bytes count a b w' n
-window-shown s cells bytes old w w' count a b n most before full inside e P = record {
+window_shown s cells bytes old w w' count a b n most before full inside e P = record {
   most = most;
   before = before;
   full = full;

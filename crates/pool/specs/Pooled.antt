@@ -4,7 +4,7 @@ use Rattle.account.specs.Lists.{list_of}
 use Rattle.account.specs.Reach.{count_to, GoodMarks, SameRead}
 use Rattle.rules.specs.Refusal.{Rule, unless, First}
 use Rattle.level.specs.Strip.{Legal}
-use Rattle.strip.specs.Reading.{WeRead, stripNumbers}
+use Rattle.strip.specs.Reading.{WeRead, strip_numbers}
 use Rattle.pool.specs.declared.Pooling.{Pooling}
 use Rattle.pool.specs.declared.Pooling.TheVariants as answer
 use Rattle.pool.specs.declared.Counts.{Counts}
@@ -98,9 +98,9 @@ pub record PoolNumbers : Type 0 where
   pub both : ℕ
 
 -- FORMAT 9.43: with a refusal all are zero but the code
-abbrev pub poolNumbers : Pooling → PoolNumbers
-poolNumbers (answer.Pooled a t c m) = record { code = 0; agreed = a; taken = t; conflict = c; both = m }
-poolNumbers (answer.Refused c) = record { code = c; agreed = 0; taken = 0; conflict = 0; both = 0 }
+abbrev pub pool_numbers : Pooling → PoolNumbers
+pool_numbers (answer.Pooled a t c m) = record { code = 0; agreed = a; taken = t; conflict = c; both = m }
+pool_numbers (answer.Refused c) = record { code = c; agreed = 0; taken = 0; conflict = 0; both = 0 }
 
 -- the count that is told of a kind
 abbrev pub told : PoolNumbers → Kind → ℕ
@@ -121,10 +121,10 @@ pooling R a b room room' =
 
 -- FORMAT 8.27, 10.2: the promise. The pooled cells and marks are written over the two buffers, or these are as they were.
 pub record PoolsAs (R : ℕ) (a b out out' : Picture) (r : Pooling) : Type 0 where
-  pub code : First (pooling R a b (length out.cells) (length out.marks)) (poolNumbers r).code
-  pub counts : (poolNumbers r).code ≡ 0 → (k : Kind) → told (poolNumbers r) k ≡ count_of a b k
-  pub picture : (poolNumbers r).code ≡ 0 → out' ≡ pooled a b
-  pub kept : ((poolNumbers r).code ≡ 0 → ⊥) → out' ≡ out
+  pub code : First (pooling R a b (length out.cells) (length out.marks)) (pool_numbers r).code
+  pub counts : (pool_numbers r).code ≡ 0 → (k : Kind) → told (pool_numbers r) k ≡ count_of a b k
+  pub picture : (pool_numbers r).code ≡ 0 → out' ≡ pooled a b
+  pub kept : ((pool_numbers r).code ≡ 0 → ⊥) → out' ≡ out
 
 -- ---- for the theorems
 
@@ -133,7 +133,7 @@ pub record WePooled (R : ℕ) (a b c : Picture) : Type 0 where
   pub out : Picture
   pub answer : Pooling
   pub promise : PoolsAs R a b out c answer
-  pub done : (poolNumbers answer).code ≡ 0
+  pub done : (pool_numbers answer).code ≡ 0
 
 -- FORMAT 15.5: the unmarked cells of the picture are those of the strip t
 abbrev pub Shows : List ℕ → Picture → Type 0
@@ -142,7 +142,7 @@ Shows t a = SameRead a.marks a.cells t
 -- FORMAT 15.6: the picture, read by itself, gave a level of a version up to this one
 pub record GaveLevel (upto R : ℕ) (a : Picture) : Type 0 where
   pub reading : WeRead upto R a.cells a.marks
-  pub done : (stripNumbers reading.answer).code ≡ 0
+  pub done : (strip_numbers reading.answer).code ≡ 0
 
 -- ---- parts
 
@@ -150,7 +150,7 @@ pub record GaveLevel (upto R : ℕ) (a : Picture) : Type 0 where
 pub record AsLong (a b out : Picture) : Type 0 where
   pub marks : length a.marks ≡ length a.cells
   pub second : length b.cells ≡ length a.cells
-  pub second-marks : length b.marks ≡ length a.cells
+  pub second_marks : length b.marks ≡ length a.cells
   pub room : length out.cells ≡ length a.cells
   pub room' : length out.marks ≡ length a.cells
 
@@ -158,5 +158,5 @@ pub record AsLong (a b out : Picture) : Type 0 where
 pub record PoursAs (a b out' : Picture) (r : Counts) : Type 0 where
   pub picture : out' ≡ pooled a b
   pub taken_is : r.taken ≡ count_of a b taken
-  pub conflict-is : r.conflict ≡ count_of a b conflict
+  pub conflict_is : r.conflict ≡ count_of a b conflict
   pub both_is : r.both ≡ count_of a b both

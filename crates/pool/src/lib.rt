@@ -1,9 +1,9 @@
 // Pooling: two pictures of one strip make one, cell by cell.
 ghost use Rattle.std.specs.Prelude.{◌≡◌, ℕ, ◌≤◌, length};
-ghost use Rattle.account.specs.Reach.{oneIf, GoodMarks};
+ghost use Rattle.account.specs.Reach.{one_if, GoodMarks};
 ghost use Rattle.rules.specs.Says.{Says};
 ghost use Rattle.rules.specs.Refusal.{First};
-ghost use Rattle.level.specs.Sizes.{stripMost};
+ghost use Rattle.level.specs.Sizes.{strip_most};
 ghost use Rattle.level.specs.Strip.{Legal};
 ghost use Rattle.pool.specs.Pooled.{photo, kind, byte, is, taken, conflict, both, pooling, PoolsAs, AsLong, PoursAs};
 
@@ -115,7 +115,7 @@ fn byte_of(x: u8, m: u8, y: u8, n: u8) -> u8
 
 // 1 where it is taken from one, whatever its bytes.
 fn one_taken(m: u8, n: u8) -> u16
-    ensures { (x y : ℕ) → result ≡ oneIf (is taken (kind x m y n)) }
+    ensures { (x y : ℕ) → result ≡ one_if (is taken (kind x m y n)) }
 {
     if m != 0 {
         if n != 0 {
@@ -131,7 +131,7 @@ fn one_taken(m: u8, n: u8) -> u16
 
 // 1 where it is in conflict.
 fn one_conflict(x: u8, m: u8, y: u8, n: u8) -> u16
-    ensures { result ≡ oneIf (is conflict (kind x m y n)) }
+    ensures { result ≡ one_if (is conflict (kind x m y n)) }
 {
     if m != 0 {
         return 0;
@@ -147,7 +147,7 @@ fn one_conflict(x: u8, m: u8, y: u8, n: u8) -> u16
 
 // 1 where it is marked in both.
 fn one_both(m: u8, n: u8) -> u16
-    ensures { (x y : ℕ) → result ≡ oneIf (is both (kind x m y n)) }
+    ensures { (x y : ℕ) → result ≡ one_if (is both (kind x m y n)) }
 {
     if m == 0 {
         return 0;
@@ -175,7 +175,7 @@ fn pour(
     cells: &mut [u8],
     marks: &mut [u8],
 ) -> Counts
-    requires { AsLong (photo first.now first_marks.now) (photo second.now second_marks.now) (photo cells.old marks.old) × (length first.now ≤ stripMost) }
+    requires { AsLong (photo first.now first_marks.now) (photo second.now second_marks.now) (photo cells.old marks.old) × (length first.now ≤ strip_most) }
     ensures { PoursAs (photo first.now first_marks.now) (photo second.now second_marks.now) (photo cells.new marks.new) result }
 {
     let mut taken: u16 = 0;

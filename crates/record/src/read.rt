@@ -4,14 +4,14 @@ ghost use Rattle.rules.specs.Refusal.{Within};
 ghost use Rattle.fields.specs.Judged.{JudgedAs, AcceptedAs};
 ghost use Rattle.record.specs.Reading.{RecordReadsAs};
 ghost use Rattle.level.specs.Level.{newest};
-ghost use Rattle.level.specs.Sizes.{tilesMost, recordLeast, filledMost};
+ghost use Rattle.level.specs.Sizes.{tiles_most, record_least, filled_most};
 
 use fields::judged::Judged;
 use level::{NEWEST, RECORD_LEAST, RECORD_MOST, TILES_MOST};
 
 // Refusals 7 to 10 of a record, or of the data cells of a strip of that many lanes, by a reader of versions up to one of them.
 fn judge(upto: usize, bs: &[u8], lanes: usize) -> Judged
-    requires { Within recordLeast filledMost (length bs.now) × Within 1 16 lanes }
+    requires { Within record_least filled_most (length bs.now) × Within 1 16 lanes }
     ensures { JudgedAs upto lanes bs.now result }
 {
     let f = fields::head::head_of(bs);
@@ -41,7 +41,7 @@ pub enum RecordRead {
 
 // The record judged, or the data cells of a strip of that many lanes; its tiles are written only where nothing is refused.
 pub fn accept(upto: usize, bs: &[u8], lanes: usize, tiles: &mut [u8]) -> Judged
-    requires { Within recordLeast filledMost (length bs.now) × Within 1 16 lanes × (tilesMost ≤ length tiles.old) }
+    requires { Within record_least filled_most (length bs.now) × Within 1 16 lanes × (tiles_most ≤ length tiles.old) }
     ensures { AcceptedAs upto lanes bs.now tiles.old tiles.new result }
 {
     let j = judge(upto, bs, lanes);

@@ -7,11 +7,11 @@ use native.Mathlib.Omega.{arith}
 use lib.ListN.{length}
 use lib.Bits.{bit_xor, xor_shr, xor_mod, xor_lt}
 use Rattle.account.specs.Field.{power}
-use Rattle.account.specs.Code.{alphaTo}
+use Rattle.account.specs.Code.{alpha_to}
 use Rattle.account.proofs.Laws as laws
 use Rattle.gf256.specs.Gf256.{gf256, times}
 use Rattle.gf256.proofs.Field256.{field256}
-use Rattle.remainder.specs.Remainder.{packedEnd, unpacked, horn, hornAll, at5, Reduced, Moved}
+use Rattle.remainder.specs.Remainder.{packed_end, unpacked, horn, horn_all, at5, Reduced, Moved}
 
 -- all are bytes
 abbrev pub AllBytes : List ℕ → Type 0
@@ -25,50 +25,50 @@ xors [] cs = []
 xors (b ∷ bs) [] = []
 xors (b ∷ bs) (c ∷ cs) = bit_xor b c ∷ xors bs cs
 
-byte-xor : (k a b : ℕ) → bit_xor a b / 2 ^ k % 256 ≡ bit_xor (a / 2 ^ k % 256) (b / 2 ^ k % 256)
-byte-xor k a b = ap (λ (z : ℕ). z % 256) (xor_shr a b k) ∙ xor_mod (a / 2 ^ k) (b / 2 ^ k) 8
+byte_xor : (k a b : ℕ) → bit_xor a b / 2 ^ k % 256 ≡ bit_xor (a / 2 ^ k % 256) (b / 2 ^ k % 256)
+byte_xor k a b = ap (λ (z : ℕ). z % 256) (xor_shr a b k) ∙ xor_mod (a / 2 ^ k) (b / 2 ^ k) 8
 
-pub unpacked-xor : (a b : ℕ) → unpacked (bit_xor a b) ≡ xors (unpacked a) (unpacked b)
-unpacked-xor a b = rw (byte-xor 32 a b, byte-xor 24 a b, byte-xor 16 a b, byte-xor 8 a b, xor_mod a b 8)
+pub unpacked_xor : (a b : ℕ) → unpacked (bit_xor a b) ≡ xors (unpacked a) (unpacked b)
+unpacked_xor a b = rw (byte_xor 32 a b, byte_xor 24 a b, byte_xor 16 a b, byte_xor 8 a b, xor_mod a b 8)
 
 -- ---- Horner's rule
 
 module _ (y : ℕ) where
-  pub horn-zero : (b : ℕ) → horn y 0 b ≡ b
-  horn-zero b = ap (λ (z : ℕ). bit_xor z b) (laws.zero-mul gf256 field256 y) ∙ laws.zero-add gf256 field256 b
+  pub horn_zero : (b : ℕ) → horn y 0 b ≡ b
+  horn_zero b = ap (λ (z : ℕ). bit_xor z b) (laws.zero_mul gf256 field256 y) ∙ laws.zero_add gf256 field256 b
 
   -- what stands in front, times the power of what follows
-  pub start : (u : ℕ) (bs : List ℕ) → u < 256 → AllBytes bs → hornAll y u bs ≡ bit_xor (times u (power gf256 y (length bs))) (hornAll y 0 bs)
+  pub start : (u : ℕ) (bs : List ℕ) → u < 256 → AllBytes bs → horn_all y u bs ≡ bit_xor (times u (power gf256 y (length bs))) (horn_all y 0 bs)
   unfolding power
-  start u [] hu h = sym (field256.add-zero (times u 1) ∙ field256.mul-one u hu)
+  start u [] hu h = sym (field256.add_zero (times u 1) ∙ field256.mul_one u hu)
   start u (b ∷ bs) hu h =
-      start (horn y u b) bs (field256.in-add (times u y) b (field256.in-mul u y) h.0) h.1
-      ∙ ap (λ (z : ℕ). bit_xor z (hornAll y 0 bs)) (laws.add-mul gf256 field256 (times u y) b p)
-      ∙ field256.add_assoc (times (times u y) p) (times b p) (hornAll y 0 bs)
+      start (horn y u b) bs (field256.in_add (times u y) b (field256.in_mul u y) h.0) h.1
+      ∙ ap (λ (z : ℕ). bit_xor z (horn_all y 0 bs)) (laws.add_mul gf256 field256 (times u y) b p)
+      ∙ field256.add_assoc (times (times u y) p) (times b p) (horn_all y 0 bs)
       ∙ ap₂ bit_xor (field256.mul_assoc u y p ∙ ap (times u) (field256.mul_comm y p))
-      (sym (start (horn y 0 b) bs (subst (λ (z : ℕ). z < 256) (sym (horn-zero b)) h.0) h.1
-      ∙ ap (λ (z : ℕ). bit_xor (times z p) (hornAll y 0 bs)) (horn-zero b)))
+      (sym (start (horn y 0 b) bs (subst (λ (z : ℕ). z < 256) (sym (horn_zero b)) h.0) h.1
+      ∙ ap (λ (z : ℕ). bit_xor (times z p) (horn_all y 0 bs)) (horn_zero b)))
     where
       p : ℕ
       p = power gf256 y (length bs)
 
-  pub peel : (a : ℕ) (bs : List ℕ) → a < 256 → AllBytes bs → hornAll y 0 (a ∷ bs) ≡ bit_xor (times a (power gf256 y (length bs))) (hornAll y 0 bs)
+  pub peel : (a : ℕ) (bs : List ℕ) → a < 256 → AllBytes bs → horn_all y 0 (a ∷ bs) ≡ bit_xor (times a (power gf256 y (length bs))) (horn_all y 0 bs)
   peel a bs ha h =
-      start (horn y 0 a) bs (subst (λ (z : ℕ). z < 256) (sym (horn-zero a)) ha) h
-      ∙ ap (λ (z : ℕ). bit_xor (times z (power gf256 y (length bs))) (hornAll y 0 bs)) (horn-zero a)
+      start (horn y 0 a) bs (subst (λ (z : ℕ). z < 256) (sym (horn_zero a)) ha) h
+      ∙ ap (λ (z : ℕ). bit_xor (times z (power gf256 y (length bs))) (horn_all y 0 bs)) (horn_zero a)
 
-  horn-xor : (u v : ℕ) (bs cs : List ℕ) → length bs ≡ length cs → hornAll y (bit_xor u v) (xors bs cs) ≡ bit_xor (hornAll y u bs) (hornAll y v cs)
-  horn-xor u v [] [] e = refl
-  horn-xor u v [] (c ∷ cs) e = absurd (omega arith)
-  horn-xor u v (b ∷ bs) [] e = absurd (omega arith)
-  horn-xor u v (b ∷ bs) (c ∷ cs) e =
-      ap (λ (z : ℕ). hornAll y z (xors bs cs))
-      (ap (λ (z : ℕ). bit_xor z (bit_xor b c)) (laws.add-mul gf256 field256 u v y) ∙ laws.add-swap gf256 field256 (times u y) (times v y) b c)
-      ∙ horn-xor (horn y u b) (horn y v c) bs cs (omega arith)
+  horn_xor : (u v : ℕ) (bs cs : List ℕ) → length bs ≡ length cs → horn_all y (bit_xor u v) (xors bs cs) ≡ bit_xor (horn_all y u bs) (horn_all y v cs)
+  horn_xor u v [] [] e = refl
+  horn_xor u v [] (c ∷ cs) e = absurd (omega arith)
+  horn_xor u v (b ∷ bs) [] e = absurd (omega arith)
+  horn_xor u v (b ∷ bs) (c ∷ cs) e =
+      ap (λ (z : ℕ). horn_all y z (xors bs cs))
+      (ap (λ (z : ℕ). bit_xor z (bit_xor b c)) (laws.add_mul gf256 field256 u v y) ∙ laws.add_swap gf256 field256 (times u y) (times v y) b c)
+      ∙ horn_xor (horn y u b) (horn y v c) bs cs (omega arith)
 
-  pub at5-xor : (a b : ℕ) → at5 y (bit_xor a b) ≡ bit_xor (at5 y a) (at5 y b)
+  pub at5_xor : (a b : ℕ) → at5 y (bit_xor a b) ≡ bit_xor (at5 y a) (at5 y b)
   unfolding at5
-  at5-xor a b = ap (hornAll y 0) (unpacked-xor a b) ∙ horn-xor 0 0 (unpacked a) (unpacked b) refl
+  at5_xor a b = ap (horn_all y 0) (unpacked_xor a b) ∙ horn_xor 0 0 (unpacked a) (unpacked b) refl
 
 -- ---- the steps
 
@@ -77,20 +77,20 @@ pub joined : (k a b x z : ℕ) → Reduced k a x → Reduced k b z → Reduced k
 joined k a b x z X Z = record {
   small = xor_lt 40 x z X.small Z.small;
   roots = λ j l u.
-      at5-xor (alphaTo gf256 j) x z ∙ ap₂ bit_xor (X.roots j l u) (Z.roots j l u)
-      ∙ sym (laws.add-mul gf256 field256 a b (power gf256 (alphaTo gf256 j) (5 + k)));
+      at5_xor (alpha_to gf256 j) x z ∙ ap₂ bit_xor (X.roots j l u) (Z.roots j l u)
+      ∙ sym (laws.add_mul gf256 field256 a b (power gf256 (alpha_to gf256 j) (5 + k)));
 }
 
 pub low : (x : ℕ) → x % 256 < 256
 low x = mod-lt x (zero-lt-suc 255)
 
-pub top_byte : (r : ℕ) → r < packedEnd → r / 4294967296 < 256
+pub top_byte : (r : ℕ) → r < packed_end → r / 4294967296 < 256
 top_byte r h = omega arith
 
 pub bytes5 : (r : ℕ) → AllBytes (unpacked r)
 bytes5 r = (low _, (low _, (low _, (low _, (low _, tt)))))
 
-module _ (r : ℕ) (hr : r < packedEnd) where
+module _ (r : ℕ) (hr : r < packed_end) where
   abbrev a4 : ℕ
   a4 = r / 4294967296 % 256
 
@@ -112,7 +112,7 @@ module _ (r : ℕ) (hr : r < packedEnd) where
   -- a byte after a number whose top byte is nothing
   pub moved1 : (b : ℕ) → b < 256 → r < 4294967296 → Moved r (b ∷ []) (r * 256 + b)
   unfolding at5
-  moved1 b hb h = record { small = omega arith; roots = λ j l u. at (alphaTo gf256 j) }
+  moved1 b hb h = record { small = omega arith; roots = λ j l u. at (alpha_to gf256 j) }
     where
       shifted : unpacked (r * 256 + b) ≡ a3 ∷ a2 ∷ a1 ∷ a0 ∷ b ∷ []
       shifted = rw (d4, d3, d2, d1, d0)
@@ -135,13 +135,13 @@ module _ (r : ℕ) (hr : r < packedEnd) where
       none : a4 ≡ 0
       none = omega arith
 
-      at : (y : ℕ) → at5 y (r * 256 + b) ≡ hornAll y (at5 y r) (b ∷ [])
+      at : (y : ℕ) → at5 y (r * 256 + b) ≡ horn_all y (at5 y r) (b ∷ [])
       at y =
-          ap (hornAll y 0) shifted
+          ap (horn_all y 0) shifted
           ∙ sym (peel y a4 (a3 ∷ a2 ∷ a1 ∷ a0 ∷ b ∷ []) (low _) (low _, (low _, (low _, (low _, (hb, tt)))))
-          ∙ ap (λ (z : ℕ). bit_xor (times z (power gf256 y 5)) (hornAll y 0 (a3 ∷ a2 ∷ a1 ∷ a0 ∷ b ∷ []))) none
-          ∙ ap (λ (z : ℕ). bit_xor z (hornAll y 0 (a3 ∷ a2 ∷ a1 ∷ a0 ∷ b ∷ []))) (laws.zero-mul gf256 field256 (power gf256 y 5))
-          ∙ laws.zero-add gf256 field256 (hornAll y 0 (a3 ∷ a2 ∷ a1 ∷ a0 ∷ b ∷ [])))
+          ∙ ap (λ (z : ℕ). bit_xor (times z (power gf256 y 5)) (horn_all y 0 (a3 ∷ a2 ∷ a1 ∷ a0 ∷ b ∷ []))) none
+          ∙ ap (λ (z : ℕ). bit_xor z (horn_all y 0 (a3 ∷ a2 ∷ a1 ∷ a0 ∷ b ∷ []))) (laws.zero_mul gf256 field256 (power gf256 y 5))
+          ∙ laws.zero_add gf256 field256 (horn_all y 0 (a3 ∷ a2 ∷ a1 ∷ a0 ∷ b ∷ [])))
 
   -- five bytes as one number
   joined5 : (b c d e f : ℕ) → b < 256 → c < 256 → d < 256 → e < 256 → f < 256
@@ -177,16 +177,16 @@ module _ (r : ℕ) (hr : r < packedEnd) where
 
     at_y : (y : ℕ) → at5 y x0 ≡ times a0 (power gf256 y 5) → at5 y x1 ≡ times a1 (power gf256 y 6) → at5 y x2 ≡ times a2 (power gf256 y 7)
         → at5 y x3 ≡ times a3 (power gf256 y 8) → at5 y x4 ≡ times (r / 4294967296) (power gf256 y 9)
-        → at5 y (bit_xor s5 (bit_xor (bit_xor (bit_xor x0 x1) (bit_xor x2 x3)) x4)) ≡ hornAll y (at5 y r) (b ∷ c ∷ d ∷ e ∷ f ∷ [])
+        → at5 y (bit_xor s5 (bit_xor (bit_xor (bit_xor x0 x1) (bit_xor x2 x3)) x4)) ≡ horn_all y (at5 y r) (b ∷ c ∷ d ∷ e ∷ f ∷ [])
     unfolding at5
     at_y y e0 e1 e2 e3 e4 =
-        at5-xor y s5 (bit_xor (bit_xor (bit_xor x0 x1) (bit_xor x2 x3)) x4)
-        ∙ ap₂ bit_xor (ap (hornAll y 0) (joined5 b c d e f hb hc hd he hf))
-        (at5-xor y (bit_xor (bit_xor x0 x1) (bit_xor x2 x3)) x4
+        at5_xor y s5 (bit_xor (bit_xor (bit_xor x0 x1) (bit_xor x2 x3)) x4)
+        ∙ ap₂ bit_xor (ap (horn_all y 0) (joined5 b c d e f hb hc hd he hf))
+        (at5_xor y (bit_xor (bit_xor x0 x1) (bit_xor x2 x3)) x4
         ∙ ap₂ bit_xor
-        (at5-xor y (bit_xor x0 x1) (bit_xor x2 x3) ∙ ap₂ bit_xor (at5-xor y x0 x1 ∙ ap₂ bit_xor e0 e1) (at5-xor y x2 x3 ∙ ap₂ bit_xor e2 e3))
+        (at5_xor y (bit_xor x0 x1) (bit_xor x2 x3) ∙ ap₂ bit_xor (at5_xor y x0 x1 ∙ ap₂ bit_xor e0 e1) (at5_xor y x2 x3 ∙ ap₂ bit_xor e2 e3))
         (e4 ∙ ap (λ (a : ℕ). times a (power gf256 y 9)) top))
-        ∙ turned (hornAll y 0 (b ∷ c ∷ d ∷ e ∷ f ∷ [])) (times a0 (power gf256 y 5)) (times a1 (power gf256 y 6)) (times a2 (power gf256 y 7))
+        ∙ turned (horn_all y 0 (b ∷ c ∷ d ∷ e ∷ f ∷ [])) (times a0 (power gf256 y 5)) (times a1 (power gf256 y 6)) (times a2 (power gf256 y 7))
         (times a3 (power gf256 y 8)) (times a4 (power gf256 y 9))
         ∙ sym
         (peel y a4 (a3 ∷ a2 ∷ a1 ∷ a0 ∷ b ∷ c ∷ d ∷ e ∷ f ∷ []) (low _) (low _, (low _, (low _, (low _, rest))))
@@ -207,5 +207,5 @@ module _ (r : ℕ) (hr : r < packedEnd) where
           xor_lt 40 s5 (bit_xor (bit_xor (bit_xor x0 x1) (bit_xor x2 x3)) x4) (omega arith)
           (xor_lt 40 (bit_xor (bit_xor x0 x1) (bit_xor x2 x3)) x4
           (xor_lt 40 (bit_xor x0 x1) (bit_xor x2 x3) (xor_lt 40 x0 x1 X0.small X1.small) (xor_lt 40 x2 x3 X2.small X3.small)) X4.small);
-      roots = λ j l u. at_y (alphaTo gf256 j) (X0.roots j l u) (X1.roots j l u) (X2.roots j l u) (X3.roots j l u) (X4.roots j l u);
+      roots = λ j l u. at_y (alpha_to gf256 j) (X0.roots j l u) (X1.roots j l u) (X2.roots j l u) (X3.roots j l u) (X4.roots j l u);
     }

@@ -12,51 +12,51 @@ use lib.Bits.{bit_xor}
 use lib.Dec.{T, eqb, eqb→eq}
 use lib.ListN.{length, get_or, take, drop, set, take-append-drop, length-drop, length-set}
 use lib.Seq.{ext_get_or, get_or-take, get_or-drop, get_or-set_same, get_or-set_other, length-take-le, take-suc, take_all}
-use Rattle.rules.proofs.Numbers.{lt-or-ge}
+use Rattle.rules.proofs.Numbers.{lt_or_ge}
 use Rattle.account.specs.Lanes.{lane}
 use Rattle.account.proofs.Test.{both, both_left, both_right}
-use Rattle.account.proofs.Lanes.{length-lane, getD-lane, get_d_past, cell_below, columns_of}
-use Rattle.remainder.specs.Remainder.{packedEnd, Reduced, Moved, Remains, LanesTo, LanesRemain, LanesCheck, Room, fiveAt, RowTo, RowMoved, RowsMoved}
+use Rattle.account.proofs.Lanes.{length_lane, get_d_lane, get_d_past, cell_below, columns_of}
+use Rattle.remainder.specs.Remainder.{packed_end, Reduced, Moved, Remains, LanesTo, LanesRemain, LanesCheck, Room, five_at, RowTo, RowMoved, RowsMoved}
 use Rattle.reductions.specs.Tables.{fifth, sixth, seventh, eighth, ninth}
 use Rattle.remainder.proofs.Kernel.{AllBytes, moved1, moved5, low, top_byte}
-use Rattle.remainder.proofs.Rules.{at_5, at-6, at_7, at_8, at_9}
+use Rattle.remainder.proofs.Rules.{at_5, at_6, at_7, at_8, at_9}
 use Rattle.remainder.proofs.Whole.{begins, goes_on, moved_none, moved_more, checked}
 
 -- one element more, and five
-take-one : (w : List ℕ) (k : ℕ) → k < length w → take (k + 1) w ≡ take k w ++ get_or w k 0 ∷ []
-take-one w k l = ap (λ (i : ℕ). take i w) (add-one k) ∙ take-suc w k 0 l
+take_one : (w : List ℕ) (k : ℕ) → k < length w → take (k + 1) w ≡ take k w ++ get_or w k 0 ∷ []
+take_one w k l = ap (λ (i : ℕ). take i w) (add-one k) ∙ take-suc w k 0 l
 
-take-five : (w : List ℕ) (k : ℕ) → k + 4 < length w
+take_five : (w : List ℕ) (k : ℕ) → k + 4 < length w
     → take (k + 5) w ≡ take k w ++ get_or w k 0 ∷ get_or w (k + 1) 0 ∷ get_or w (k + 2) 0 ∷ get_or w (k + 3) 0 ∷ get_or w (k + 4) 0 ∷ []
-take-five w k l =
-    on 4 ∙ take-one w (k + 4) (omega arith)
-    ∙ ap (λ (v : List ℕ). v ++ get_or w (k + 4) 0 ∷ []) (on 3 ∙ take-one w (k + 3) (omega arith)
-    ∙ ap (λ (v : List ℕ). v ++ get_or w (k + 3) 0 ∷ []) (on 2 ∙ take-one w (k + 2) (omega arith)
-    ∙ ap (λ (v : List ℕ). v ++ get_or w (k + 2) 0 ∷ []) (on 1 ∙ take-one w (k + 1) (omega arith)
-    ∙ ap (λ (v : List ℕ). v ++ get_or w (k + 1) 0 ∷ []) (take-one w k (omega arith)))))
+take_five w k l =
+    on 4 ∙ take_one w (k + 4) (omega arith)
+    ∙ ap (λ (v : List ℕ). v ++ get_or w (k + 4) 0 ∷ []) (on 3 ∙ take_one w (k + 3) (omega arith)
+    ∙ ap (λ (v : List ℕ). v ++ get_or w (k + 3) 0 ∷ []) (on 2 ∙ take_one w (k + 2) (omega arith)
+    ∙ ap (λ (v : List ℕ). v ++ get_or w (k + 2) 0 ∷ []) (on 1 ∙ take_one w (k + 1) (omega arith)
+    ∙ ap (λ (v : List ℕ). v ++ get_or w (k + 1) 0 ∷ []) (take_one w k (omega arith)))))
     ∙ simp append_assoc
   where
     on : (i : ℕ) → take (k + suc i) w ≡ take (k + i + 1) w
     on i = let z : k + suc i ≡ k + i + 1 = omega arith in ap (λ (n : ℕ). take n w) z
 
 -- five bytes that were read
-five-same : (R : ℕ) (s : List ℕ) (p a b c d e : ℕ) → a ≡ get_or s p 0 → b ≡ get_or s (p + R) 0 → c ≡ get_or s (p + 2 * R) 0 → d ≡ get_or s (p + 3 * R) 0
+five_same : (R : ℕ) (s : List ℕ) (p a b c d e : ℕ) → a ≡ get_or s p 0 → b ≡ get_or s (p + R) 0 → c ≡ get_or s (p + 2 * R) 0 → d ≡ get_or s (p + 3 * R) 0
     → e ≡ get_or s (p + 4 * R) 0
-    → a ∷ b ∷ c ∷ d ∷ e ∷ [] ≡ fiveAt R s p
-five-same R s p a b c d e ea eb ec ed ee = rw (ea, eb, ec, ed, ee)
+    → a ∷ b ∷ c ∷ d ∷ e ∷ [] ≡ five_at R s p
+five_same R s p a b c d e ea eb ec ed ee = rw (ea, eb, ec, ed, ee)
 
 -- a step, from the bytes read and the entries looked up
-pub stepped : (R : ℕ) (s : List ℕ) (p r : ℕ) → r < packedEnd → (a b c d e x0 x1 x2 x3 x4 : ℕ) → (a ≡ get_or s p 0) × (a < 256)
+pub stepped : (R : ℕ) (s : List ℕ) (p r : ℕ) → r < packed_end → (a b c d e x0 x1 x2 x3 x4 : ℕ) → (a ≡ get_or s p 0) × (a < 256)
     → (b ≡ get_or s (p + R) 0) × (b < 256)
     → (c ≡ get_or s (p + 2 * R) 0) × (c < 256) → (d ≡ get_or s (p + 3 * R) 0) × (d < 256) → (e ≡ get_or s (p + 4 * R) 0) × (e < 256)
     → x0 ≡ get_or fifth (r % 256) 0 → x1 ≡ get_or sixth (r / 256 % 256) 0 → x2 ≡ get_or seventh (r / 65536 % 256) 0
     → x3 ≡ get_or eighth (r / 16777216 % 256) 0 → x4 ≡ get_or ninth (r / 4294967296) 0
-    → Moved r (fiveAt R s p) (bit_xor (a * 4294967296 + b * 16777216 + c * 65536 + d * 256 + e) (bit_xor (bit_xor (bit_xor x0 x1) (bit_xor x2 x3)) x4))
+    → Moved r (five_at R s p) (bit_xor (a * 4294967296 + b * 16777216 + c * 65536 + d * 256 + e) (bit_xor (bit_xor (bit_xor x0 x1) (bit_xor x2 x3)) x4))
 stepped R s p r h a b c d e x0 x1 x2 x3 x4 A B C D E e0 e1 e2 e3 e4 =
     subst (λ (v : List ℕ). Moved r v (bit_xor (a * 4294967296 + b * 16777216 + c * 65536 + d * 256 + e) (bit_xor (bit_xor (bit_xor x0 x1) (bit_xor x2 x3)) x4)))
-    (five-same R s p a b c d e A.0 B.0 C.0 D.0 E.0)
+    (five_same R s p a b c d e A.0 B.0 C.0 D.0 E.0)
     (moved5 r h a b c d e x0 x1 x2 x3 x4 A.1 B.1 C.1 D.1 E.1
-    (subst (Reduced 0 (r % 256)) (sym e0) (at_5 (r % 256) (low r))) (subst (Reduced 1 (r / 256 % 256)) (sym e1) (at-6 (r / 256 % 256) (low (r / 256))))
+    (subst (Reduced 0 (r % 256)) (sym e0) (at_5 (r % 256) (low r))) (subst (Reduced 1 (r / 256 % 256)) (sym e1) (at_6 (r / 256 % 256) (low (r / 256))))
     (subst (Reduced 2 (r / 65536 % 256)) (sym e2) (at_7 (r / 65536 % 256) (low (r / 65536))))
     (subst (Reduced 3 (r / 16777216 % 256)) (sym e3) (at_8 (r / 16777216 % 256) (low (r / 16777216))))
     (subst (Reduced 4 (r / 4294967296)) (sym e4) (at_9 (r / 4294967296) (top_byte r h))))
@@ -92,60 +92,60 @@ module _ (R : ℕ) (some : 0 < R) where
   on i j k = omega (arith, mul-add R i k, mul_comm R k)
 
   -- five cells of a lane, by their places
-  five-cells : (s : List ℕ) (i j : ℕ) → j < R → i + 4 < length s / R
-      → fiveAt R s (R * i + j) ≡ get_or (lane R j s) i 0 ∷ get_or (lane R j s) (i + 1) 0 ∷ get_or (lane R j s) (i + 2) 0 ∷ get_or (lane R j s) (i + 3) 0 ∷ get_or
+  five_cells : (s : List ℕ) (i j : ℕ) → j < R → i + 4 < length s / R
+      → five_at R s (R * i + j) ≡ get_or (lane R j s) i 0 ∷ get_or (lane R j s) (i + 1) 0 ∷ get_or (lane R j s) (i + 2) 0 ∷ get_or (lane R j s) (i + 3) 0 ∷ get_or
       (lane R j s) (i + 4) 0 ∷ []
-  five-cells s i j hj h = rw (at0, at1, at 2 (omega arith), at 3 (omega arith), at 4 (omega arith)) refl
+  five_cells s i j hj h = rw (at0, at1, at 2 (omega arith), at 3 (omega arith), at 4 (omega arith)) refl
     where
       at : (k : ℕ) → i + k < length s / R → get_or s (R * i + j + k * R) 0 ≡ get_or (lane R j s) (i + k) 0
-      at k l = ap (λ (p : ℕ). get_or s p 0) (on i j k) ∙ sym (getD-lane R some j s (i + k) l)
+      at k l = ap (λ (p : ℕ). get_or s p 0) (on i j k) ∙ sym (get_d_lane R some j s (i + k) l)
 
       at0 : get_or s (R * i + j) 0 ≡ get_or (lane R j s) i 0
-      at0 = sym (getD-lane R some j s i (omega arith))
+      at0 = sym (get_d_lane R some j s i (omega arith))
 
       at1 : get_or s (R * i + j + R) 0 ≡ get_or (lane R j s) (i + 1) 0
       at1 = let z : R * i + j + R ≡ R * i + j + 1 * R = omega arith in ap (λ (p : ℕ). get_or s p 0) z ∙ at 1 (omega arith)
 
   -- ---- a row
 
-  pub row-0 : (s : List ℕ) (q a : ℕ) (o : List ℕ) → a ≤ R → RowTo R s q a o o a
-  row-0 s q a o w =
+  pub row_0 : (s : List ℕ) (q a : ℕ) (o : List ℕ) → a ≤ R → RowTo R s q a o o a
+  row_0 s q a o w =
       record { from = omega arith; within = w; long = refl; done = λ i h l. absurd (omega arith); front = λ i h. refl; rest = λ i h. refl }
 
-  pub row_more : (s : List ℕ) (q a : ℕ) (o x : List ℕ) (j v : ℕ) → j < R → j < length o → RowTo R s q a o x j → Moved (get_or x j 0) (fiveAt R s (q + j)) v
+  pub row_more : (s : List ℕ) (q a : ℕ) (o x : List ℕ) (j v : ℕ) → j < R → j < length o → RowTo R s q a o x j → Moved (get_or x j 0) (five_at R s (q + j)) v
       → RowTo R s q a o (set x j v) (j + 1)
   row_more s q a o x j v hj room W N = record {
     from = omega (arith, W.from);
     within = omega arith;
     long = simp length-set W.long;
-    done = λ i h l. below_more (λ i. a ≤ i → Moved (get_or o i 0) (fiveAt R s (q + i)) (get_or (set x j v) i 0)) j
-        (λ i l h. subst (Moved (get_or o i 0) (fiveAt R s (q + i))) (sym (get_or-set_other x j i v 0 (λ e. omega (arith, e)))) (W.done i h l))
-        (λ h. subst (Moved (get_or o j 0) (fiveAt R s (q + j))) (sym (get_or-set_same x j v 0 (omega (arith, W.long))))
-        (subst (λ (r : ℕ). Moved r (fiveAt R s (q + j)) v) (W.rest j (omega arith)) N)) i l h;
+    done = λ i h l. below_more (λ i. a ≤ i → Moved (get_or o i 0) (five_at R s (q + i)) (get_or (set x j v) i 0)) j
+        (λ i l h. subst (Moved (get_or o i 0) (five_at R s (q + i))) (sym (get_or-set_other x j i v 0 (λ e. omega (arith, e)))) (W.done i h l))
+        (λ h. subst (Moved (get_or o j 0) (five_at R s (q + j))) (sym (get_or-set_same x j v 0 (omega (arith, W.long))))
+        (subst (λ (r : ℕ). Moved r (five_at R s (q + j)) v) (W.rest j (omega arith)) N)) i l h;
     front = λ i h. get_or-set_other x j i v 0 (λ e. omega (arith, e, W.from)) ∙ W.front i h;
     rest = λ i h. get_or-set_other x j i v 0 (λ e. omega (arith, e)) ∙ W.rest i (omega arith);
   }
 
   -- group after group
-  pub row-after : (s : List ℕ) (q j k : ℕ) (o x y : List ℕ) → RowTo R s q 0 o x j → RowTo R s q j x y k → RowTo R s q 0 o y k
-  row-after s q j k o x y W X = record {
+  pub row_after : (s : List ℕ) (q j k : ℕ) (o x y : List ℕ) → RowTo R s q 0 o x j → RowTo R s q j x y k → RowTo R s q 0 o y k
+  row_after s q j k o x y W X = record {
     from = omega arith;
     within = X.within;
     long = X.long ∙ W.long;
-    done = λ i h l. go i l (lt-or-ge i j);
+    done = λ i h l. go i l (lt_or_ge i j);
     front = λ i h. absurd (omega arith);
     rest = λ i h. X.rest i h ∙ W.rest i (omega (arith, X.from));
   }
     where
-      go : (i : ℕ) → i < k → (i < j) ⊎ (j ≤ i) → Moved (get_or o i 0) (fiveAt R s (q + i)) (get_or y i 0)
-      go i l (inl b) = subst (Moved (get_or o i 0) (fiveAt R s (q + i))) (sym (X.front i b)) (W.done i (omega arith) b)
-      go i l (inr g) = subst (λ (r : ℕ). Moved r (fiveAt R s (q + i)) (get_or y i 0)) (W.rest i g) (X.done i g l)
+      go : (i : ℕ) → i < k → (i < j) ⊎ (j ≤ i) → Moved (get_or o i 0) (five_at R s (q + i)) (get_or y i 0)
+      go i l (inl b) = subst (Moved (get_or o i 0) (five_at R s (q + i))) (sym (X.front i b)) (W.done i (omega arith) b)
+      go i l (inr g) = subst (λ (r : ℕ). Moved r (five_at R s (q + i)) (get_or y i 0)) (W.rest i g) (X.done i g l)
 
   -- and the numbers stay small
-  pub row_small : (s : List ℕ) (q a : ℕ) (o x : List ℕ) (j : ℕ) → Room R o → RowTo R s q a o x j → (i : ℕ) → i < R → get_or x i 0 < packedEnd
-  row_small s q a o x j room W i h = go (lt-or-ge i a) (lt-or-ge i j)
+  pub row_small : (s : List ℕ) (q a : ℕ) (o x : List ℕ) (j : ℕ) → Room R o → RowTo R s q a o x j → (i : ℕ) → i < R → get_or x i 0 < packed_end
+  row_small s q a o x j room W i h = go (lt_or_ge i a) (lt_or_ge i j)
     where
-      go : (i < a) ⊎ (a ≤ i) → (i < j) ⊎ (j ≤ i) → get_or x i 0 < packedEnd
+      go : (i < a) ⊎ (a ≤ i) → (i < j) ⊎ (j ≤ i) → get_or x i 0 < packed_end
       go (inl b) _ = rw (W.front i b) (room.small i h)
       go (inr g) (inl b) = (W.done i g b).small
       go (inr g) (inr k) = rw (W.rest i k) (room.small i h)
@@ -173,11 +173,11 @@ module _ (R : ℕ) (some : 0 < R) where
     five : (k : ℕ) → 5 * R * k ≡ R * (5 * k)
     five k = ap (λ (x : ℕ). x * k) (mul_comm 5 R) ∙ mul_assoc R 5 k
 
-    lane-long : (j : ℕ) → length (lane R j s) ≡ 5 * (length s / (5 * R))
-    lane-long j = length-lane R some j s ∙ columns_of R some s (5 * (length s / (5 * R))) (all ∙ five (length s / (5 * R)))
+    lane_long : (j : ℕ) → length (lane R j s) ≡ 5 * (length s / (5 * R))
+    lane_long j = length_lane R some j s ∙ columns_of R some s (5 * (length s / (5 * R))) (all ∙ five (length s / (5 * R)))
 
-    pub rows-0 : Rows R s o o 0
-    rows-0 = record {
+    pub rows_0 : Rows R s o o 0
+    rows_0 = record {
       m = 0;
       at = sym (mul-zero (5 * R));
       inside = omega arith;
@@ -188,7 +188,7 @@ module _ (R : ℕ) (some : 0 < R) where
     module _ (x : List ℕ) (q : ℕ) (W : Rows R s o x q) where
       below : q < length s → W.m < length s / (5 * R)
       below h =
-          ⊎_elim (λ l. l) (λ l. absurd (omega (arith, W.at, all, mul-le-mul_left (5 * R) l))) (lt-or-ge W.m (length s / (5 * R)))
+          ⊎_elim (λ l. l) (λ l. absurd (omega (arith, W.at, all, mul-le-mul_left (5 * R) l))) (lt_or_ge W.m (length s / (5 * R)))
 
       pub row_fits : q < length s → q + 5 * R ≤ length s
       row_fits h = omega (arith, W.at, all, mul-le-mul_left (5 * R) (below h), mul-suc (5 * R) W.m)
@@ -207,25 +207,25 @@ module _ (R : ℕ) (some : 0 < R) where
             let l : 5 * W.m + 4 < length s / R = omega (arith, below h, columns_of R some s (5 * (length s / (5 * R))) (all ∙ five (length s / (5 * R)))) in
             let z : 5 * (W.m + 1) ≡ 5 * W.m + 5 = omega arith in
             subst (λ (v : List ℕ). Moved (get_or o j 0) v (get_or x' j 0))
-            (sym (ap (λ (n : ℕ). take n (lane R j s)) z ∙ take-five (lane R j s) (5 * W.m) (omega (arith, length-lane R some j s))))
+            (sym (ap (λ (n : ℕ). take n (lane R j s)) z ∙ take_five (lane R j s) (5 * W.m) (omega (arith, length_lane R some j s))))
             (moved_more (get_or o j 0) (get_or x j 0) (get_or x' j 0) (take (5 * W.m) (lane R j s)) _ (W.moved j hj)
             (subst (λ (v : List ℕ). Moved (get_or x j 0) v (get_or x' j 0))
-            (ap (λ (p : ℕ). fiveAt R s (p + j)) (W.at ∙ five W.m) ∙ five-cells s (5 * W.m) j hj l) (N j hj)));
+            (ap (λ (p : ℕ). five_at R s (p + j)) (W.at ∙ five W.m) ∙ five_cells s (5 * W.m) j hj l) (N j hj)));
       }
 
       pub rows_all : length s ≤ q → RowsMoved R s o x
       rows_all h j hj =
-          subst (λ (v : List ℕ). Moved (get_or o j 0) v (get_or x j 0)) (take_all (5 * W.m) (lane R j s) (omega (arith, lane-long j, done))) (W.moved j hj)
+          subst (λ (v : List ℕ). Moved (get_or o j 0) v (get_or x j 0)) (take_all (5 * W.m) (lane R j s) (omega (arith, lane_long j, done))) (W.moved j hj)
         where
           done : length s / (5 * R) ≤ W.m
           done =
               ⊎_elim (λ l. absurd (omega (arith, W.at, W.inside, h, all, mul-le-mul_left (5 * R) l, mul-suc (5 * R) W.m, some))) (λ l. l)
-              (lt-or-ge W.m (length s / (5 * R)))
+              (lt_or_ge W.m (length s / (5 * R)))
 
   -- ---- the first cells
 
-  pub few-0 : (s : List ℕ) (j : ℕ) → Few R s j 0 j 0
-  few-0 s j = record {
+  pub few_0 : (s : List ℕ) (j : ℕ) → Few R s j 0 j 0
+  few_0 s j = record {
     at = omega (arith, mul-zero R);
     small = λ _. omega arith;
     smaller = λ _. omega arith;
@@ -235,12 +235,12 @@ module _ (R : ℕ) (some : 0 < R) where
     remains = begins;
   }
 
-  pub few-cell : (s : List ℕ) (j x p i : ℕ) → j < R → i < length s / R → Few R s j x p i → p < length s
-  few-cell s j x p i hj hi W = omega (arith, W.at, cell_below R some (length s) i j hj hi)
+  pub few_cell : (s : List ℕ) (j x p i : ℕ) → j < R → i < length s / R → Few R s j x p i → p < length s
+  few_cell s j x p i hj hi W = omega (arith, W.at, cell_below R some (length s) i j hj hi)
 
-  pub few-more : (s : List ℕ) (j x p i b : ℕ) → j < R → i < length s / R → i < 4 → b < 256 → b ≡ get_or s p 0 → Few R s j x p i
+  pub few_more : (s : List ℕ) (j x p i b : ℕ) → j < R → i < length s / R → i < 4 → b < 256 → b ≡ get_or s p 0 → Few R s j x p i
       → Few R s j (x * 256 + b) (p + R) (i + 1)
-  few-more s j x p i b hj hi h4 hb e W = record {
+  few_more s j x p i b hj hi h4 hb e W = record {
     at = omega (arith, W.at, mul-add R i 1, mul-one R);
     small = λ l. omega (arith, W.smaller (omega arith), hb);
     smaller = λ l. omega (arith, W.smallest (omega arith), hb);
@@ -248,25 +248,25 @@ module _ (R : ℕ) (some : 0 < R) where
     one = λ l. omega (arith, W.none (omega arith), hb);
     none = λ l. absurd (omega arith);
     remains =
-        subst (λ (v : List ℕ). Remains v (x * 256 + b)) (sym (take-one (lane R j s) i (omega (arith, length-lane R some j s))))
+        subst (λ (v : List ℕ). Remains v (x * 256 + b)) (sym (take_one (lane R j s) i (omega (arith, length_lane R some j s))))
         (goes_on (take i (lane R j s)) (get_or (lane R j s) i 0 ∷ []) x (x * 256 + b) (omega (arith, byte), tt) W.remains
         (subst (λ (c : ℕ). Moved x (c ∷ []) (x * 256 + b)) (sym byte) (moved1 x W.remains.small b hb (W.small (omega arith)))));
   }
     where
       byte : get_or (lane R j s) i 0 ≡ b
-      byte = getD-lane R some j s i hi ∙ ap (λ (n : ℕ). get_or s n 0) (sym W.at) ∙ sym e
+      byte = get_d_lane R some j s i hi ∙ ap (λ (n : ℕ). get_or s n 0) (sym W.at) ∙ sym e
 
   -- ---- a lane, its first cells and the others
 
-  lane-rest : (s : List ℕ) (h j : ℕ) → j < R → h ≤ length s / R
+  lane_rest : (s : List ℕ) (h j : ℕ) → j < R → h ≤ length s / R
       → lane R j (take (R * (length s / R) - R * h) (drop (R * h) s)) ≡ drop h (lane R j s)
-  lane-rest s h j hj l =
-      ext_get_or 0 (lane R j part) (drop h (lane R j s)) (wide ∙ sym (length-drop h (lane R j s) ∙ ap (λ (n : ℕ). n - h) (length-lane R some j s))) (λ i k.
+  lane_rest s h j hj l =
+      ext_get_or 0 (lane R j part) (drop h (lane R j s)) (wide ∙ sym (length-drop h (lane R j s) ∙ ap (λ (n : ℕ). n - h) (length_lane R some j s))) (λ i k.
       let a : i < length s / R - h = omega (arith, wide) in
-      getD-lane R some j part i (omega (arith, part-wide))
+      get_d_lane R some j part i (omega (arith, part_wide))
       ∙ get_or-take (R * (length s / R) - R * h) (drop (R * h) s) (R * i + j) 0 (inside i a)
       ∙ get_or-drop (R * h) s (R * i + j) 0 ∙ ap (λ (n : ℕ). get_or s n 0) (moved i)
-      ∙ sym (get_or-drop h (lane R j s) i 0 ∙ getD-lane R some j s (h + i) (omega arith)))
+      ∙ sym (get_or-drop h (lane R j s) i 0 ∙ get_d_lane R some j s (h + i) (omega arith)))
     where
       part : List ℕ
       part = take (R * (length s / R) - R * h) (drop (R * h) s)
@@ -274,15 +274,15 @@ module _ (R : ℕ) (some : 0 < R) where
       cut : R * (length s / R) ≡ R * h + R * (length s / R - h)
       cut = let z : length s / R ≡ h + (length s / R - h) = omega arith in ap (λ (n : ℕ). R * n) z ∙ mul-add R h (length s / R - h)
 
-      part-long : length (take (R * (length s / R) - R * h) (drop (R * h) s)) ≡ R * (length s / R - h)
-      part-long =
+      part_long : length (take (R * (length s / R) - R * h) (drop (R * h) s)) ≡ R * (length s / R - h)
+      part_long =
           length-take-le (R * (length s / R) - R * h) (drop (R * h) s) (omega (arith, length-drop (R * h) s, mul-div-le (length s) R)) ∙ omega (arith, cut)
 
-      part-wide : length (take (R * (length s / R) - R * h) (drop (R * h) s)) / R ≡ length s / R - h
-      part-wide = columns_of R some (take (R * (length s / R) - R * h) (drop (R * h) s)) (length s / R - h) part-long
+      part_wide : length (take (R * (length s / R) - R * h) (drop (R * h) s)) / R ≡ length s / R - h
+      part_wide = columns_of R some (take (R * (length s / R) - R * h) (drop (R * h) s)) (length s / R - h) part_long
 
       wide : length (lane R j (take (R * (length s / R) - R * h) (drop (R * h) s))) ≡ length s / R - h
-      wide = length-lane R some j (take (R * (length s / R) - R * h) (drop (R * h) s)) ∙ part-wide
+      wide = length_lane R some j (take (R * (length s / R) - R * h) (drop (R * h) s)) ∙ part_wide
 
       inside : (i : ℕ) → i < length s / R - h → R * i + j < R * (length s / R) - R * h
       inside i a = omega (arith, cut, mul-le-mul_left R a, mul-suc R i)
@@ -290,16 +290,16 @@ module _ (R : ℕ) (some : 0 < R) where
       moved : (i : ℕ) → R * h + (R * i + j) ≡ R * (h + i) + j
       moved i = omega (arith, mul-add R h i)
 
-  pub lanes-remain : (s o x : List ℕ) (h : ℕ) → ((p : ℕ) → get_or s p 0 < 256) → h ≤ length s / R → LanesTo R h s o
+  pub lanes_remain : (s o x : List ℕ) (h : ℕ) → ((p : ℕ) → get_or s p 0 < 256) → h ≤ length s / R → LanesTo R h s o
       → RowsMoved R (take (R * (length s / R) - R * h) (drop (R * h) s)) o x → LanesRemain R s x
-  lanes-remain s o x h by l H M j hj =
+  lanes_remain s o x h by l H M j hj =
       subst (λ (v : List ℕ). Remains v (get_or x j 0)) (take-append-drop h (lane R j s))
       (goes_on (take h (lane R j s)) (drop h (lane R j s)) (get_or o j 0) (get_or x j 0) (bytes (drop h (lane R j s)) in_lane) (H j hj)
-      (subst (λ (v : List ℕ). Moved (get_or o j 0) v (get_or x j 0)) (lane-rest s h j hj l) (M j hj)))
+      (subst (λ (v : List ℕ). Moved (get_or o j 0) v (get_or x j 0)) (lane_rest s h j hj l) (M j hj)))
     where
       in_lane : (p : ℕ) → get_or (drop h (lane R j s)) p 0 < 256
-      in_lane p = rw (get_or-drop h (lane R j s) p 0) (⊎_elim (λ k. rw (getD-lane R some j s (h + p) k) (by (R * (h + p) + j)))
-          (λ k. rw (get_d_past (lane R j s) (h + p) (omega (arith, length-lane R some j s))) (omega arith)) (lt-or-ge (h + p) (length s / R)))
+      in_lane p = rw (get_or-drop h (lane R j s) p 0) (⊎_elim (λ k. rw (get_d_lane R some j s (h + p) k) (by (R * (h + p) + j)))
+          (λ k. rw (get_d_past (lane R j s) (h + p) (omega (arith, length_lane R some j s))) (omega arith)) (lt_or_ge (h + p) (length s / R)))
 
       bytes : (v : List ℕ) → ((p : ℕ) → get_or v p 0 < 256) → AllBytes v
       bytes [] f = tt
@@ -307,17 +307,17 @@ module _ (R : ℕ) (some : 0 < R) where
 
   -- ---- zeros after the data
 
-  pub lanes-check : (d z o x : List ℕ) → length z ≡ 5 * R → ((p : ℕ) → get_or z p 0 ≡ 0) → LanesRemain R d o → RowsMoved R z o x → LanesCheck R d x
-  lanes-check d z o x long none H M j hj =
-      checked (lane R j d) (get_or o j 0) (get_or x j 0) (H j hj) (subst (λ (v : List ℕ). Moved (get_or o j 0) v (get_or x j 0)) zero-lane (M j hj))
+  pub lanes_check : (d z o x : List ℕ) → length z ≡ 5 * R → ((p : ℕ) → get_or z p 0 ≡ 0) → LanesRemain R d o → RowsMoved R z o x → LanesCheck R d x
+  lanes_check d z o x long none H M j hj =
+      checked (lane R j d) (get_or o j 0) (get_or x j 0) (H j hj) (subst (λ (v : List ℕ). Moved (get_or o j 0) v (get_or x j 0)) zero_lane (M j hj))
     where
-      five-long : length (lane R j z) ≡ 5
-      five-long = length-lane R some j z ∙ columns_of R some z 5 (long ∙ mul_comm 5 R)
+      five_long : length (lane R j z) ≡ 5
+      five_long = length_lane R some j z ∙ columns_of R some z 5 (long ∙ mul_comm 5 R)
 
-      zero-lane : lane R j z ≡ 0 ∷ 0 ∷ 0 ∷ 0 ∷ 0 ∷ []
-      zero-lane =
-          ext_get_or 0 (lane R j z) (0 ∷ 0 ∷ 0 ∷ 0 ∷ 0 ∷ []) five-long (λ i h.
-          getD-lane R some j z i (omega (arith, five-long, length-lane R some j z)) ∙ none (R * i + j) ∙ sym (zeros i))
+      zero_lane : lane R j z ≡ 0 ∷ 0 ∷ 0 ∷ 0 ∷ 0 ∷ []
+      zero_lane =
+          ext_get_or 0 (lane R j z) (0 ∷ 0 ∷ 0 ∷ 0 ∷ 0 ∷ []) five_long (λ i h.
+          get_d_lane R some j z i (omega (arith, five_long, length_lane R some j z)) ∙ none (R * i + j) ∙ sym (zeros i))
         where
           zeros : (i : ℕ) → ◌≡◌ {A = ℕ} (get_or (0 ∷ 0 ∷ 0 ∷ 0 ∷ 0 ∷ []) i 0) 0
           zeros zero = refl
@@ -329,31 +329,31 @@ module _ (R : ℕ) (some : 0 < R) where
 
 -- ---- zeros
 
-abbrev pub allZero : List ℕ → Bool
-allZero [] = true
-allZero (b ∷ l) = both (eqb b 0) (allZero l)
+abbrev pub all_zero : List ℕ → Bool
+all_zero [] = true
+all_zero (b ∷ l) = both (eqb b 0) (all_zero l)
 
-pub zero-at : (l : List ℕ) → T (allZero l) → (i : ℕ) → get_or l i 0 ≡ 0
-zero-at [] t i = refl
-zero-at (b ∷ l) t zero = eqb→eq b 0 (both_left (eqb b 0) (allZero l) t)
-zero-at (b ∷ l) t (suc i) = zero-at l (both_right (eqb b 0) (allZero l) t) i
+pub zero_at : (l : List ℕ) → T (all_zero l) → (i : ℕ) → get_or l i 0 ≡ 0
+zero_at [] t i = refl
+zero_at (b ∷ l) t zero = eqb→eq b 0 (both_left (eqb b 0) (all_zero l) t)
+zero_at (b ∷ l) t (suc i) = zero_at l (both_right (eqb b 0) (all_zero l) t) i
 
-pub zero_room : (R : ℕ) (l : List ℕ) → 1 ≤ R → R ≤ 16 → length l ≡ 16 → T (allZero l) → Room R l
-zero_room R l a b e t = record { some = a; few = b; long = e; small = λ j h. omega (arith, zero-at l t j) }
+pub zero_room : (R : ℕ) (l : List ℕ) → 1 ≤ R → R ≤ 16 → length l ≡ 16 → T (all_zero l) → Room R l
+zero_room R l a b e t = record { some = a; few = b; long = e; small = λ j h. omega (arith, zero_at l t j) }
 
 -- ---- what the whole asks
 
 module _ (R : ℕ) (some : 0 < R) (s : List ℕ) where
-  pub head-inside : R * (length s / R % 5) ≤ R * (length s / R)
-  head-inside = mul-le-mul_left R (omega arith)
+  pub head_inside : R * (length s / R % 5) ≤ R * (length s / R)
+  head_inside = mul-le-mul_left R (omega arith)
 
-  pub all-inside : R * (length s / R) ≤ length s
-  all-inside = mul-div-le (length s) R
+  pub all_inside : R * (length s / R) ≤ length s
+  all_inside = mul-div-le (length s) R
 
-  pub rest-whole : length (take (R * (length s / R) - R * (length s / R % 5)) (drop (R * (length s / R % 5)) s)) % (5 * R) ≡ 0
-  rest-whole =
+  pub rest_whole : length (take (R * (length s / R) - R * (length s / R % 5)) (drop (R * (length s / R % 5)) s)) % (5 * R) ≡ 0
+  rest_whole =
       ap (λ (k : ℕ). k % (5 * R)) (length-take-le (R * (length s / R) - R * (length s / R % 5)) (drop (R * (length s / R % 5)) s)
-      (omega (arith, length-drop (R * (length s / R % 5)) s, all-inside)) ∙ cut)
+      (omega (arith, length-drop (R * (length s / R % 5)) s, all_inside)) ∙ cut)
       ∙ mul-mod_right (5 * R) (length s / R / 5)
     where
       fives : length s / R ≡ length s / R % 5 + 5 * (length s / R / 5)
@@ -371,25 +371,25 @@ module _ (R : ℕ) (some : 0 < R) (s : List ℕ) where
           )
 
 -- the first cells of eighty zeros
-pub zero-part : (R : ℕ) (l : List ℕ) → R ≤ 16 → length l ≡ 80 → T (allZero l)
+pub zero_part : (R : ℕ) (l : List ℕ) → R ≤ 16 → length l ≡ 80 → T (all_zero l)
     → (length (take (5 * R - 0) l) ≡ 5 * R) × ((p : ℕ) → get_or (take (5 * R - 0) l) p 0 ≡ 0)
-zero-part R l h e t = (
+zero_part R l h e t = (
   long,
-  λ p. ⊎_elim (λ k. get_or-take (5 * R - 0) l p 0 k ∙ zero-at l t p) (λ k. get_d_past (take (5 * R - 0) l) p (omega (arith, long)))
-      (lt-or-ge p (5 * R - 0)),
+  λ p. ⊎_elim (λ k. get_or-take (5 * R - 0) l p 0 k ∙ zero_at l t p) (λ k. get_d_past (take (5 * R - 0) l) p (omega (arith, long)))
+      (lt_or_ge p (5 * R - 0)),
 )
   where
     long : length (take (5 * R - 0) l) ≡ 5 * R
     long = length-take-le (5 * R - 0) l (omega arith) ∙ omega arith
 
-pub fives-whole : (R k : ℕ) → k ≡ 5 * R → k % (5 * R) ≡ 0
-fives-whole R k e = ap (λ (x : ℕ). x % (5 * R)) e ∙ mod_self (5 * R)
+pub fives_whole : (R k : ℕ) → k ≡ 5 * R → k % (5 * R) ≡ 0
+fives_whole R k e = ap (λ (x : ℕ). x % (5 * R)) e ∙ mod_self (5 * R)
 
 -- one lane is the word
 pub lane_word : (w : List ℕ) → lane 1 0 w ≡ w
 lane_word w =
-    ext_get_or 0 (lane 1 0 w) w (length-lane 1 (omega arith) 0 w ∙ omega arith) (λ i h.
-    getD-lane 1 (omega arith) 0 w i (omega (arith, length-lane 1 (omega arith) 0 w)) ∙ ap (λ (n : ℕ). get_or w n 0) (same i))
+    ext_get_or 0 (lane 1 0 w) w (length_lane 1 (omega arith) 0 w ∙ omega arith) (λ i h.
+    get_d_lane 1 (omega arith) 0 w i (omega (arith, length_lane 1 (omega arith) 0 w)) ∙ ap (λ (n : ℕ). get_or w n 0) (same i))
   where
     same : (i : ℕ) → 1 * i + 0 ≡ i
     same i = omega arith

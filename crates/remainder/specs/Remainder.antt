@@ -2,13 +2,13 @@
 use Rattle.std.specs.Prelude.{◌≡◌, List, [], ◌∷◌, ◌++◌, ℕ, ◌+◌, ◌*◌, ◌-◌, ◌/◌, ◌%◌, ◌≤◌, ◌<◌, ℤ, pos, negsuc, ◌≤ℤ◌, length, get_or, take}
 use Rattle.std.specs.Int.Bits.{bit_xor}
 use Rattle.account.specs.Field.{power}
-use Rattle.account.specs.Code.{alphaTo, Clean, S}
+use Rattle.account.specs.Code.{alpha_to, Clean, S}
 use Rattle.account.specs.Lanes.{lane}
 use Rattle.gf256.specs.Gf256.{gf256, times}
 
 -- 2^40: five packed bytes are below it
-abbrev pub packedEnd : ℕ
-packedEnd = 1099511627776
+abbrev pub packed_end : ℕ
+packed_end = 1099511627776
 
 -- the five bytes, the highest power first
 abbrev pub unpacked : ℕ → List ℕ
@@ -16,39 +16,39 @@ unpacked r = r / 4294967296 % 256 ∷ r / 16777216 % 256 ∷ r / 65536 % 256 ∷
 
 -- P holds at the five roots of the generator
 abbrev pub AtRoots : (ℕ → Type 0) → Type 0
-AtRoots P = (j : ℤ) → negsuc 1 ≤ℤ j → j ≤ℤ pos 2 → P (alphaTo gf256 j)
+AtRoots P = (j : ℤ) → negsuc 1 ≤ℤ j → j ≤ℤ pos 2 → P (alpha_to gf256 j)
 
 -- one step of Horner's rule at y
 abbrev pub horn : ℕ → ℕ → ℕ → ℕ
 horn y u b = bit_xor (times u y) b
 
 -- and as many as there are bytes
-abbrev pub hornAll : ℕ → ℕ → List ℕ → ℕ
-hornAll y u [] = u
-hornAll y u (b ∷ bs) = hornAll y (horn y u b) bs
+abbrev pub horn_all : ℕ → ℕ → List ℕ → ℕ
+horn_all y u [] = u
+horn_all y u (b ∷ bs) = horn_all y (horn y u b) bs
 
 -- the polynomial of the five bytes at y
 unfoldable pub at5 : ℕ → ℕ → ℕ
-at5 y r = hornAll y 0 (unpacked r)
+at5 y r = horn_all y 0 (unpacked r)
 
 -- x is a at the power 5 + k, modulo the generator
 pub record Reduced (k a x : ℕ) : Type 0 where
-  pub small : x < packedEnd
+  pub small : x < packed_end
   pub roots : AtRoots (λ y. at5 y x ≡ times a (power gf256 y (5 + k)))
 
 -- x is r with the bytes bs after it, modulo the generator
 pub record Moved (r : ℕ) (bs : List ℕ) (x : ℕ) : Type 0 where
-  pub small : x < packedEnd
-  pub roots : AtRoots (λ y. at5 y x ≡ hornAll y (at5 y r) bs)
+  pub small : x < packed_end
+  pub roots : AtRoots (λ y. at5 y x ≡ horn_all y (at5 y r) bs)
 
 -- the five sums of r are those of w
 pub record Remains (w : List ℕ) (r : ℕ) : Type 0 where
-  pub small : r < packedEnd
+  pub small : r < packed_end
   pub sums : (j : ℤ) → negsuc 1 ≤ℤ j → j ≤ℤ pos 2 → S gf256 j (unpacked r) ≡ S gf256 j w
 
 -- the five packed bytes x complete the data d to a clean word
 pub record Checks (d : List ℕ) (x : ℕ) : Type 0 where
-  pub small : x < packedEnd
+  pub small : x < packed_end
   pub clean : Clean gf256 (d ++ unpacked x)
 
 -- the lower of two numbers
@@ -71,8 +71,8 @@ module _ (R : ℕ) where
   LanesCheck s x = (j : ℕ) → j < R → Checks (lane R j s) (get_or x j 0)
 
   -- five cells of a lane, from cell p on
-  abbrev pub fiveAt : List ℕ → ℕ → List ℕ
-  fiveAt s p = get_or s p 0 ∷ get_or s (p + R) 0 ∷ get_or s (p + 2 * R) 0 ∷ get_or s (p + 3 * R) 0 ∷ get_or s (p + 4 * R) 0 ∷ []
+  abbrev pub five_at : List ℕ → ℕ → List ℕ
+  five_at s p = get_or s p 0 ∷ get_or s (p + R) 0 ∷ get_or s (p + 2 * R) 0 ∷ get_or s (p + 3 * R) 0 ∷ get_or s (p + 4 * R) 0 ∷ []
 
   -- the first h cells of lane j, packed
   pub record FewOf (j h : ℕ) (s : List ℕ) (x : ℕ) : Type 0 where
@@ -84,20 +84,20 @@ module _ (R : ℕ) where
     pub some : 1 ≤ R
     pub few : R ≤ 16
     pub long : length o ≡ 16
-    pub small : (j : ℕ) → j < R → get_or o j 0 < packedEnd
+    pub small : (j : ℕ) → j < R → get_or o j 0 < packed_end
 
   -- the numbers of the lanes from a on, up to lane j, five cells more, from cell q on; the others are as they were
   pub record RowTo (s : List ℕ) (q a : ℕ) (o x : List ℕ) (j : ℕ) : Type 0 where
     pub from : a ≤ j
     pub within : j ≤ R
     pub long : length x ≡ length o
-    pub done : (i : ℕ) → a ≤ i → i < j → Moved (get_or o i 0) (fiveAt s (q + i)) (get_or x i 0)
+    pub done : (i : ℕ) → a ≤ i → i < j → Moved (get_or o i 0) (five_at s (q + i)) (get_or x i 0)
     pub front : (i : ℕ) → i < a → get_or x i 0 ≡ get_or o i 0
     pub rest : (i : ℕ) → j ≤ i → get_or x i 0 ≡ get_or o i 0
 
   -- each lane's number, five cells more, from cell q on
   abbrev pub RowMoved : List ℕ → ℕ → List ℕ → List ℕ → Type 0
-  RowMoved s q o o' = (j : ℕ) → j < R → Moved (get_or o j 0) (fiveAt s (q + j)) (get_or o' j 0)
+  RowMoved s q o o' = (j : ℕ) → j < R → Moved (get_or o j 0) (five_at s (q + j)) (get_or o' j 0)
 
   -- each lane's number, all of its cells more
   abbrev pub RowsMoved : List ℕ → List ℕ → List ℕ → Type 0

@@ -4,7 +4,7 @@
 ghost use Rattle.std.specs.Prelude.{◌≡◌, ◌+◌, ◌*◌, ◌/◌, ◌%◌, ◌<◌, ◌≤◌, length};
 ghost use Rattle.account.specs.Code.{syndrome};
 ghost use Rattle.gf256.specs.Gf256.{gf256};
-ghost use Rattle.remainder.specs.Remainder.{packedEnd, Remains, Checks, LanesTo, LanesRemain, LanesCheck, fiveAt, FewOf, Room, Moved, lower, RowTo, RowMoved, RowsMoved, unpacked};
+ghost use Rattle.remainder.specs.Remainder.{packed_end, Remains, Checks, LanesTo, LanesRemain, LanesCheck, five_at, FewOf, Room, Moved, lower, RowTo, RowMoved, RowsMoved, unpacked};
 
 // Room for the numbers of sixteen lanes.
 const LANES: usize = 16;
@@ -24,8 +24,8 @@ pub fn low(x: u64) -> u8
 
 // Five cells more of a lane: those at p, p + lanes and so on. Each table is used in this one place, so that it stays one load.
 fn step(s: &[u8], lanes: usize, p: usize, r: u64) -> u64
-    requires { (r < packedEnd) × (lanes ≤ 16) × (p + 4 * lanes < length s.now) }
-    ensures { Moved r (fiveAt lanes s.now p) result }
+    requires { (r < packed_end) × (lanes ≤ 16) × (p + 4 * lanes < length s.now) }
+    ensures { Moved r (five_at lanes s.now p) result }
 {
     let high = wide(s[p]) * 4294967296 + wide(s[p + lanes]) * 16777216;
     let five = high

@@ -35,5 +35,5 @@ no_other P n a o h = absurd (omega (arith, past n (a % n + n) n o (omega (arith,
 pub plain : (t : List ℕ) (k a : ℕ) → a ≡ k → get_or t k 0 ≡ get_or t a 0
 plain t k a e = ap (λ (i : ℕ). get_or t i 0) (sym e)
 
-pub no-other-plain : (P : Type 0) (n a : ℕ) → Others 0 a n → a < n → P
-no-other-plain P n a o h = absurd (omega (arith, past 0 a n o (omega arith), h))
+pub no_other_plain : (P : Type 0) (n a : ℕ) → Others 0 a n → a < n → P
+no_other_plain P n a o h = absurd (omega (arith, past 0 a n o (omega arith), h))

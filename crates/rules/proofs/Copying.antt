@@ -14,11 +14,11 @@ copy_goes d w i l h =
     from_zero : (j : ℕ) → 0 + j ≡ j
     from_zero j = omega arith
 
-pub copy-long : (d w : List ℕ) (i : ℕ) → i ≤ length d → length d ≤ length w → length (paste w 0 d i) ≡ length w
-copy-long d w i l h = length-paste w 0 d i (omega arith) l
+pub copy_long : (d w : List ℕ) (i : ℕ) → i ≤ length d → length d ≤ length w → length (paste w 0 d i) ≡ length w
+copy_long d w i l h = length-paste w 0 d i (omega arith) l
 
-pub copy-ends : (d w : List ℕ) (i : ℕ) → i ≡ length d → paste w 0 d i ≡ d ++ drop (length d) w
-copy-ends d w i e =
+pub copy_ends : (d w : List ℕ) (i : ℕ) → i ≡ length d → paste w 0 d i ≡ d ++ drop (length d) w
+copy_ends d w i e =
     ap (paste w 0 d) e ∙ ap₂ (λ (a : List ℕ) (j : ℕ). a ++ drop j w) (take-length d) (from_zero (length d))
   where
     from_zero : (j : ℕ) → 0 + j ≡ j

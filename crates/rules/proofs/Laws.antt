@@ -12,21 +12,21 @@ use Rattle.rules.specs.Refusal.{Rule, First, Hold, Question, asked, Numbers}
 -- ---- one number
 
 -- a list fixes its number
-pub first-fixes : (rs : List Rule) (c d : ℕ) → First rs c → First rs d → c ≡ d
-first-fixes [] c d p q = p ∙ sym q
-first-fixes (r ∷ rs) c d (inl p) (inl q) = p.1 ∙ sym q.1
-first-fixes (r ∷ rs) c d (inl p) (inr q) = absurd (p.0 q.0)
-first-fixes (r ∷ rs) c d (inr p) (inl q) = absurd (q.0 p.0)
-first-fixes (r ∷ rs) c d (inr p) (inr q) = first-fixes rs c d p.1 q.1
+pub first_fixes : (rs : List Rule) (c d : ℕ) → First rs c → First rs d → c ≡ d
+first_fixes [] c d p q = p ∙ sym q
+first_fixes (r ∷ rs) c d (inl p) (inl q) = p.1 ∙ sym q.1
+first_fixes (r ∷ rs) c d (inl p) (inr q) = absurd (p.0 q.0)
+first_fixes (r ∷ rs) c d (inr p) (inl q) = absurd (q.0 p.0)
+first_fixes (r ∷ rs) c d (inr p) (inr q) = first_fixes rs c d p.1 q.1
 
 -- ---- all hold
 
-pub hold-first : (rs : List Rule) → Hold rs → First rs 0
-hold-first [] h = refl
-hold-first (r ∷ rs) h = inr (h.0, hold-first rs h.1)
+pub hold_first : (rs : List Rule) → Hold rs → First rs 0
+hold_first [] h = refl
+hold_first (r ∷ rs) h = inr (h.0, hold_first rs h.1)
 
 pub none_first : (rs : List Rule) (c : ℕ) → Hold rs → First rs c → c ≡ 0
-none_first rs c h f = first-fixes rs c 0 f (hold-first rs h)
+none_first rs c h f = first_fixes rs c 0 f (hold_first rs h)
 
 abbrev and : Bool → Bool → Bool
 and true b = b
@@ -104,9 +104,9 @@ parts (r ∷ rs) qs c (inr p) = go (parts rs qs c p.1)
     go (inr q) = inr ((p.0, q.0), q.1)
 
 -- where no refusal is told, both hold
-pub hold-both : (rs qs : List Rule) → Hold (rs ++ qs) → Hold rs × Hold qs
-hold-both [] qs h = (tt, h)
-hold-both (r ∷ rs) qs h = let x = hold-both rs qs h.1 in ((h.0, x.0), x.1)
+pub hold_both : (rs qs : List Rule) → Hold (rs ++ qs) → Hold rs × Hold qs
+hold_both [] qs h = (tt, h)
+hold_both (r ∷ rs) qs h = let x = hold_both rs qs h.1 in ((h.0, x.0), x.1)
 
 -- ---- one rule at its place
 
@@ -138,10 +138,10 @@ first_alike (r ∷ rs) (q ∷ qs) c a (inl p) = inl ((λ h. p.0 (a.2 h)), p.1 �
 first_alike (r ∷ rs) (q ∷ qs) c a (inr p) = inr (a.1 p.0, first_alike rs qs c (a.3 p.0) p.1)
 
 -- the same questions, told in two ways
-pub asked-alike : {A : Type 0} (t u : (A → Type 0) → Type 0) (qs : List (Question A)) → ((P : A → Type 0) → t P → u P) → ((P : A → Type 0) → u P → t P)
+pub asked_alike : {A : Type 0} (t u : (A → Type 0) → Type 0) (qs : List (Question A)) → ((P : A → Type 0) → t P → u P) → ((P : A → Type 0) → u P → t P)
     → Alike (asked t qs) (asked u qs)
-asked-alike t u [] to from = tt
-asked-alike t u (q ∷ qs) to from = (refl, to q.asks, from q.asks, λ _. asked-alike t u qs to from)
+asked_alike t u [] to from = tt
+asked_alike t u (q ∷ qs) to from = (refl, to q.asks, from q.asks, λ _. asked_alike t u qs to from)
 
 -- ---- answers
 

@@ -8,22 +8,22 @@ use native.Mathlib.Omega.{arith}
 use lib.ListN.{length, get_or, set, take, drop, length-set, length-append, length-drop, drop_of_length-le, get_or-append}
 use lib.Seq.{get_or-set_same, get_or-set_other, get_or-take, get_or-drop, get_or-append-add, take-length, length-take-le, drop-drop}
 use Rattle.rules.specs.Placed.{Placed, Laid}
-use Rattle.rules.proofs.Numbers.{lt-or-ge}
+use Rattle.rules.proofs.Numbers.{lt_or_ge}
 
 module _ (a : ℕ) (v : ℕ → ℕ) (o : List ℕ) where
-  pub placed-0 : Placed a a v o o
-  placed-0 = record { long = refl; inside = λ p h k. absurd (omega arith); outside = λ p h. refl }
+  pub placed_0 : Placed a a v o o
+  placed_0 = record { long = refl; inside = λ p h k. absurd (omega arith); outside = λ p h. refl }
 
   -- and then those up to a later one
-  pub placed-after : (b c : ℕ) (x y : List ℕ) → a ≤ b → b ≤ c → Placed a b v o x → Placed b c v x y → Placed a c v o y
-  placed-after b c x y ab bc P Q = record {
+  pub placed_after : (b c : ℕ) (x y : List ℕ) → a ≤ b → b ≤ c → Placed a b v o x → Placed b c v x y → Placed a c v o y
+  placed_after b c x y ab bc P Q = record {
     long = Q.long ∙ P.long;
-    inside = λ p h k. ⊎_elim (λ l. Q.outside p (inl l) ∙ P.inside p h l) (λ g. Q.inside p g k) (lt-or-ge p b);
+    inside = λ p h k. ⊎_elim (λ l. Q.outside p (inl l) ∙ P.inside p h l) (λ g. Q.inside p g k) (lt_or_ge p b);
     outside = λ p h. ⊎_elim (λ l. Q.outside p (inl (omega arith)) ∙ P.outside p (inl l)) (λ g. Q.outside p (inr g) ∙ P.outside p (inr (omega arith))) h;
   }
 
-  pub placed-more : (x : List ℕ) (b w : ℕ) → a ≤ b → b < length o → w ≡ v b → Placed a b v o x → Placed a (b + 1) v o (set x b w)
-  placed-more x b w ab h e P = record {
+  pub placed_more : (x : List ℕ) (b w : ℕ) → a ≤ b → b < length o → w ≡ v b → Placed a b v o x → Placed a (b + 1) v o (set x b w)
+  placed_more x b w ab h e P = record {
     long = simp length-set P.long;
     inside = λ p g k.
         ⊎_elim (λ q. subst (λ (i : ℕ). get_or (set x b w) i 0 ≡ v i) (sym q) (get_or-set_same x b w 0 (omega (arith, P.long)) ∙ e))
@@ -46,8 +46,8 @@ module _ (a : ℕ) (t o : List ℕ) (room : a + length t ≤ length o) where
   behind : (i : ℕ) → get_or over (a + i) 0 ≡ get_or (t ++ drop (a + length t) o) i 0
   behind i = ap (λ (k : ℕ). get_or over (k + i) 0) (sym front) ∙ get_or-append-add (take a o) (t ++ drop (a + length t) o) i 0
 
-  over-laid : Laid a t o over
-  over-laid = record {
+  over_laid : Laid a t o over
+  over_laid = record {
     long =
         length-append (take a o) (t ++ drop (a + length t) o)
         ∙ omega (arith, front, length-append t (drop (a + length t) o), length-drop (a + length t) o);
@@ -69,9 +69,9 @@ module _ (a : ℕ) (t o : List ℕ) (room : a + length t ≤ length o) where
           ∙ ap (λ (i : ℕ). get_or o i 0) f
 
   -- what a copy to the cells from a on leaves
-  pub laid-copy : (x : List ℕ) → x ≡ t ++ drop (length t) (take (length o - a) (drop a o))
+  pub laid_copy : (x : List ℕ) → x ≡ t ++ drop (length t) (take (length o - a) (drop a o))
       → Laid a t o (take a o ++ (x ++ drop (length o - a) (drop a o)))
-  laid-copy x e = subst (Laid a t o) (sym same) over-laid
+  laid_copy x e = subst (Laid a t o) (sym same) over_laid
     where
       all : take (length o - a) (drop a o) ≡ drop a o
       all = ap (λ (n : ℕ). take n (drop a o)) (sym (length-drop a o)) ∙ take-length (drop a o)

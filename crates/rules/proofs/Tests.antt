@@ -10,6 +10,6 @@ pub denied : (P : Type 0) (b : Bool) → b ≡ false → Says b P → P → ⊥
 denied P b e s = subst (λ (x : Bool). Says x P) e s
 
 -- one statement for another that says the same
-pub says-as : (P Q : Type 0) (b : Bool) → (P → Q) → (Q → P) → Says b P → Says b Q
-says-as P Q true f g s = f s
-says-as P Q false f g s = λ q. s (g q)
+pub says_as : (P Q : Type 0) (b : Bool) → (P → Q) → (Q → P) → Says b P → Says b Q
+says_as P Q true f g s = f s
+says_as P Q false f g s = λ q. s (g q)

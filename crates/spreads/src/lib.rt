@@ -1,7 +1,7 @@
 // Tables for tiles: what each of three bytes has of their eight tiles, a byte each. A `match` is static data, so nothing is copied. Counted from
 // its length on, so that the compiler makes one load of it.
 ghost use Rattle.std.specs.Prelude.{◌≡◌, ◌<◌};
-ghost use Rattle.spreads.specs.Spread.{first_of, second_of, thirdOf};
+ghost use Rattle.spreads.specs.Spread.{first_of, second_of, third_of};
 
 // The bits of the first of three bytes, each at its tile.
 pub fn first(a: usize) -> u64
@@ -538,7 +538,7 @@ pub fn second(a: usize) -> u64
 // Of the third.
 pub fn third(a: usize) -> u64
     requires { a < 256 }
-    ensures { result ≡ thirdOf a }
+    ensures { result ≡ third_of a }
 {
     match a % 256 + 256 {
         256 => 0,

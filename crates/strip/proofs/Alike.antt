@@ -7,26 +7,26 @@ use native.Mathlib.Decide.{ℕ_discrete}
 use native.Mathlib.Omega.{arith}
 use lib.ListN.{length, take, drop, take-append-drop}
 use Rattle.account.specs.Reach.{SameRead}
-use Rattle.account.proofs.Theorems.{read-itself, read-turned}
+use Rattle.account.proofs.Theorems.{read_itself, read_turned}
 use Rattle.gf256.specs.Gf256.{gf256}
 use Rattle.gf256.proofs.Field256.{field256}
 use Rattle.rules.specs.Refusal.{Rule, First, Hold}
-use Rattle.rules.proofs.Laws.{first-fixes, all_hold, parts, rest, before, after, first_alike, Alike, either}
+use Rattle.rules.proofs.Laws.{first_fixes, all_hold, parts, rest, before, after, first_alike, Alike, either}
 use Rattle.level.specs.Level.{Level}
 use Rattle.level.specs.Record.{field_at}
-use Rattle.level.specs.Strip.{columns, Legal, Reached, Mends, Lowest, Mendable, mendedOf, repaintedOf, IsWear}
-use Rattle.level.specs.Reading.{ReadNumbers, refusedAt, butRepainted, returned, levelOf, data_of, enteringWith, naming, mending, OfMended}
-use Rattle.rules.proofs.Numbers.{lt-or-ge}
-use Rattle.level.proofs.Versions.{TakeAlike, taken-alike, judging-alike}
-use Rattle.level.proofs.Dealing.{lanes-short}
-use Rattle.level.proofs.Strips.{same-strip, reached-mends}
-use Rattle.level.proofs.Mended.{reached-spells}
-use Rattle.level.proofs.Counts.{legal-some}
-use Rattle.level.proofs.Theorems.{wear-one}
-use Rattle.level.proofs.Unread.{same-reached, same-mends, same-mendable, same-mended}
+use Rattle.level.specs.Strip.{columns, Legal, Reached, Mends, Lowest, Mendable, mended_of, repainted_of, IsWear}
+use Rattle.level.specs.Reading.{ReadNumbers, refused_at, but_repainted, returned, level_of, data_of, entering_with, naming, mending, OfMended}
+use Rattle.rules.proofs.Numbers.{lt_or_ge}
+use Rattle.level.proofs.Versions.{TakeAlike, taken_alike, judging_alike}
+use Rattle.level.proofs.Dealing.{lanes_short}
+use Rattle.level.proofs.Strips.{same_strip, reached_mends}
+use Rattle.level.proofs.Mended.{reached_spells}
+use Rattle.level.proofs.Counts.{legal_some}
+use Rattle.level.proofs.Theorems.{wear_one}
+use Rattle.level.proofs.Unread.{same_reached, same_mends, same_mendable, same_mended}
 use Rattle.strip.specs.declared.read.Reading.{Reading}
-use Rattle.strip.specs.Reading.{stripNumbers, LevelRead, ReadsWith}
-use Rattle.strip.proofs.Reader.{zeros, not-six}
+use Rattle.strip.specs.Reading.{strip_numbers, LevelRead, ReadsWith}
+use Rattle.strip.proofs.Reader.{zeros, not_six}
 
 -- ---- the numbers of an answer
 
@@ -46,7 +46,7 @@ numbers c l n w h p m d v r = record {
 
 -- all but repainted
 same_numbers : (x y : ReadNumbers) → x.code ≡ y.code → x.lane ≡ y.lane → x.version ≡ y.version → x.width ≡ y.width → x.height ≡ y.height
-    → x.par ≡ y.par → x.mended ≡ y.mended → x.wear ≡ y.wear → x.lanes ≡ y.lanes → butRepainted x ≡ butRepainted y
+    → x.par ≡ y.par → x.mended ≡ y.mended → x.wear ≡ y.wear → x.lanes ≡ y.lanes → but_repainted x ≡ but_repainted y
 same_numbers x y c l n w h p m v r =
     ap₂ (λ (i j : ℕ). numbers i j x.version x.width x.height x.par x.mended 0 x.wear x.lanes) c l
     ∙ ap₂ (λ (i j : ℕ). numbers y.code y.lane i j x.height x.par x.mended 0 x.wear x.lanes) n w
@@ -55,8 +55,8 @@ same_numbers x y c l n w h p m v r =
     ∙ ap (numbers y.code y.lane y.version y.width y.height y.par y.mended 0 y.wear) r
 
 -- and repainted too
-all-numbers : (x y : ReadNumbers) → butRepainted x ≡ butRepainted y → x.repainted ≡ y.repainted → x ≡ y
-all-numbers x y e d = ap₂ (λ (n : ReadNumbers) (i : ℕ). numbers n.code n.lane n.version n.width n.height n.par n.mended i n.wear n.lanes) e d
+all_numbers : (x y : ReadNumbers) → but_repainted x ≡ but_repainted y → x.repainted ≡ y.repainted → x ≡ y
+all_numbers x y e d = ap₂ (λ (n : ReadNumbers) (i : ℕ). numbers n.code n.lane n.version n.width n.height n.par n.mended i n.wear n.lanes) e d
 
 -- ---- two readings
 
@@ -65,13 +65,13 @@ abbrev pub VersionAlike : ℕ → ℕ → ℕ → List ℕ → List ℕ → Type
 VersionAlike m n R marks s = (t : List ℕ) → Mends gf256 R marks s t → TakeAlike m n (field_at (data_of R t) 0 4)
 
 -- what is asked before each picture is looked at: it is the same of both, it asks for a strip of legal length with its marks, and gives no 6
-pub record EntersAlike (R : ℕ) (r marks : List ℕ) (early-r early-s : List Rule) : Type 1 where
-  pub asks-alike : Alike early-r early-s
-  pub asks_back : Hold early-r → Hold early-s
-  pub legal : Hold early-r → Legal R (length r)
-  pub matched : Hold early-r → length marks ≡ length r
-  pub passed : First early-r 0 → Hold early-r
-  pub before-six : (c : ℕ) → First early-r c → c ≢ 6
+pub record EntersAlike (R : ℕ) (r marks : List ℕ) (early_r early_s : List Rule) : Type 1 where
+  pub asks_alike : Alike early_r early_s
+  pub asks_back : Hold early_r → Hold early_s
+  pub legal : Hold early_r → Legal R (length r)
+  pub matched : Hold early_r → length marks ≡ length r
+  pub passed : First early_r 0 → Hold early_r
+  pub before_six : (c : ℕ) → First early_r c → c ≢ 6
 
 -- two readers ask for at least x and y bytes of scratch: each is lent enough, or neither is
 abbrev pub EnoughAlike : ℕ → ℕ → List ℕ → List ℕ → Type 0
@@ -79,14 +79,14 @@ EnoughAlike x y u v = (x ≤ length u → y ≤ length v) × (y ≤ length v →
 
 -- and then they ask the same
 module _ (R x y : ℕ) (r s marks tiles u v : List ℕ) (same : SameRead marks r s) (room : EnoughAlike x y u v) where
-  abbrev asked-r : List Rule
-  asked-r = enteringWith x R r marks (length tiles) (length u)
+  abbrev asked_r : List Rule
+  asked_r = entering_with x R r marks (length tiles) (length u)
 
-  abbrev asked-s : List Rule
-  asked-s = enteringWith y R s marks (length tiles) (length v)
+  abbrev asked_s : List Rule
+  asked_s = entering_with y R s marks (length tiles) (length v)
 
-  enter-alike : Alike asked-r asked-s
-  enter-alike = (
+  enter_alike : Alike asked_r asked_s
+  enter_alike = (
     refl,
     subst (Legal R) same.same_length,
     subst (Legal R) (sym same.same_length),
@@ -103,30 +103,30 @@ module _ (R x y : ℕ) (r s marks tiles u v : List ℕ) (same : SameRead marks r
     ),
   )
 
-  pub enters-alike : EntersAlike R r marks (naming R ∷ asked-r) (naming R ∷ asked-s)
-  enters-alike = record {
-    asks-alike = (refl, (λ g. g), (λ g. g), λ _. enter-alike);
+  pub enters_alike : EntersAlike R r marks (naming R ∷ asked_r) (naming R ∷ asked_s)
+  enters_alike = record {
+    asks_alike = (refl, (λ g. g), (λ g. g), λ _. enter_alike);
     asks_back = λ h. (
       h.0,
       (subst (Legal R) same.same_length h.1.0, (h.1.1.0 ∙ same.same_length, (h.1.1.1.0, (h.1.1.1.1.0, (room.0 h.1.1.1.1.1.0, tt))))),
     );
     legal = λ h. h.1.0;
     matched = λ h. h.1.1.0;
-    passed = λ f. all_hold 15 (naming R ∷ asked-r) 0 tt f refl;
-    before-six = not-six x R r marks (length tiles) (length u);
+    passed = λ f. all_hold 15 (naming R ∷ asked_r) 0 tt f refl;
+    before_six = not_six x R r marks (length tiles) (length u);
   }
 
-module _ (m n R : ℕ) (two : 2 ≤ R) (early-r early-s : List Rule) (r s marks tiles t1 t2 u u' v v' : List ℕ) (same : SameRead marks r s)
-    (E : EntersAlike R r marks early-r early-s) (takes : VersionAlike m n R marks r) (a b : Reading) (A : ReadsWith m R early-r r marks tiles t1 u u' a)
-    (B : ReadsWith n R early-s s marks tiles t2 v v' b) where
+module _ (m n R : ℕ) (two : 2 ≤ R) (early_r early_s : List Rule) (r s marks tiles t1 t2 u u' v v' : List ℕ) (same : SameRead marks r s)
+    (E : EntersAlike R r marks early_r early_s) (takes : VersionAlike m n R marks r) (a b : Reading) (A : ReadsWith m R early_r r marks tiles t1 u u' a)
+    (B : ReadsWith n R early_s s marks tiles t2 v v' b) where
   some : 0 < R
   some = omega (arith, two)
 
   short : columns R 364 + 5 ≤ 255
-  short = omega (arith, lanes-short R two)
+  short = omega (arith, lanes_short R two)
 
   -- and of the pictures
-  module _ (h : Hold early-r) where
+  module _ (h : Hold early_r) where
     legal : Legal R (length r)
     legal = E.legal h
 
@@ -143,170 +143,170 @@ module _ (m n R : ℕ) (two : 2 ≤ R) (early-r early-s : List Rule) (r s marks 
     matched' = E.matched h ∙ same.same_length
 
     back : SameRead marks s r
-    back = read-turned marks r s same
+    back = read_turned marks r s same
 
     -- the other strip is mended to the same
-    mends-r : (t : List ℕ) → Mends gf256 R marks s t → Mends gf256 R marks r t
-    mends-r = same-mends R some marks s r (legal.k + 5) full' matched' back gf256
+    mends_r : (t : List ℕ) → Mends gf256 R marks s t → Mends gf256 R marks r t
+    mends_r = same_mends R some marks s r (legal.k + 5) full' matched' back gf256
 
-    mends-s : (t : List ℕ) → Mends gf256 R marks r t → Mends gf256 R marks s t
-    mends-s = same-mends R some marks r s (legal.k + 5) full matched same gf256
+    mends_s : (t : List ℕ) → Mends gf256 R marks r t → Mends gf256 R marks s t
+    mends_s = same_mends R some marks r s (legal.k + 5) full matched same gf256
 
-    mend-alike : Alike (mending gf256 R m r marks) (mending gf256 R n s marks)
-    mend-alike = (
+    mend_alike : Alike (mending gf256 R m r marks) (mending gf256 R n s marks)
+    mend_alike = (
       refl,
-      (λ f j l. same-mendable R some marks r s (legal.k + 5) full matched same gf256 j (f j l)),
-      (λ f j l. same-mendable R some marks s r (legal.k + 5) full' matched' back gf256 j (f j l)),
-      λ _. judging-alike m n R (OfMended gf256 R marks r) (OfMended gf256 R marks s) (λ ask f t M. f t (mends-r t M)) (λ ask f t M. f t (mends-s t M))
-          (λ f t M. taken-alike m n (levelOf (data_of R t)) (takes t (mends-r t M)) (f t (mends-r t M)))
-          (λ f t M. let q = takes t M in taken-alike n m (levelOf (data_of R t)) (q.1, q.0) (f t (mends-s t M))),
+      (λ f j l. same_mendable R some marks r s (legal.k + 5) full matched same gf256 j (f j l)),
+      (λ f j l. same_mendable R some marks s r (legal.k + 5) full' matched' back gf256 j (f j l)),
+      λ _. judging_alike m n R (OfMended gf256 R marks r) (OfMended gf256 R marks s) (λ ask f t M. f t (mends_r t M)) (λ ask f t M. f t (mends_s t M))
+          (λ f t M. taken_alike m n (level_of (data_of R t)) (takes t (mends_r t M)) (f t (mends_r t M)))
+          (λ f t M. let q = takes t M in taken_alike n m (level_of (data_of R t)) (q.1, q.0) (f t (mends_s t M))),
     )
 
-  entered : (stripNumbers a).code ≡ 0 → Hold early-r
+  entered : (strip_numbers a).code ≡ 0 → Hold early_r
   entered z =
-      ⊎_elim (λ q. E.passed (subst (First early-r) z q.1)) (λ q. q.0) (parts early-r (mending gf256 R m r marks) (stripNumbers a).code A.code)
+      ⊎_elim (λ q. E.passed (subst (First early_r) z q.1)) (λ q. q.0) (parts early_r (mending gf256 R m r marks) (strip_numbers a).code A.code)
 
-  moved : First (early-s ++ mending gf256 R n s marks) (stripNumbers a).code
-  moved = go (parts early-r (mending gf256 R m r marks) (stripNumbers a).code A.code)
+  moved : First (early_s ++ mending gf256 R n s marks) (strip_numbers a).code
+  moved = go (parts early_r (mending gf256 R m r marks) (strip_numbers a).code A.code)
     where
-      go : ((Hold early-r → ⊥) × First early-r (stripNumbers a).code)
-          ⊎ (Hold early-r × First (mending gf256 R m r marks) (stripNumbers a).code)
-          → First (early-s ++ mending gf256 R n s marks) (stripNumbers a).code
+      go : ((Hold early_r → ⊥) × First early_r (strip_numbers a).code)
+          ⊎ (Hold early_r × First (mending gf256 R m r marks) (strip_numbers a).code)
+          → First (early_s ++ mending gf256 R n s marks) (strip_numbers a).code
       go (inl q) =
-          before early-s (mending gf256 R n s marks) (stripNumbers a).code (λ z. q.0 (entered z))
-          (first_alike early-r early-s (stripNumbers a).code E.asks-alike q.1)
+          before early_s (mending gf256 R n s marks) (strip_numbers a).code (λ z. q.0 (entered z))
+          (first_alike early_r early_s (strip_numbers a).code E.asks_alike q.1)
       go (inr q) =
-          after early-s (mending gf256 R n s marks) (stripNumbers a).code (E.asks_back q.0)
-          (first_alike (mending gf256 R m r marks) (mending gf256 R n s marks) (stripNumbers a).code (mend-alike q.0) q.1)
+          after early_s (mending gf256 R n s marks) (strip_numbers a).code (E.asks_back q.0)
+          (first_alike (mending gf256 R m r marks) (mending gf256 R n s marks) (strip_numbers a).code (mend_alike q.0) q.1)
 
-  codes : (stripNumbers a).code ≡ (stripNumbers b).code
-  codes = first-fixes (early-s ++ mending gf256 R n s marks) (stripNumbers a).code (stripNumbers b).code moved B.code
+  codes : (strip_numbers a).code ≡ (strip_numbers b).code
+  codes = first_fixes (early_s ++ mending gf256 R n s marks) (strip_numbers a).code (strip_numbers b).code moved B.code
 
   -- the lowest lane is one
-  lowest : Hold early-r → (i j : ℕ) → Lowest gf256 R marks r i → Lowest gf256 R marks s j → i ≡ j
+  lowest : Hold early_r → (i j : ℕ) → Lowest gf256 R marks r i → Lowest gf256 R marks s j → i ≡ j
   lowest h i j p q =
-      ⊎_elim (λ l. absurd (p.beyond (to-r i (q.below i l))))
-      (λ g. ⊎_elim (λ l. absurd (q.beyond (to-s j (p.below j l)))) (λ k. omega arith) (lt-or-ge j i)) (lt-or-ge i j)
+      ⊎_elim (λ l. absurd (p.beyond (to_r i (q.below i l))))
+      (λ g. ⊎_elim (λ l. absurd (q.beyond (to_s j (p.below j l)))) (λ k. omega arith) (lt_or_ge j i)) (lt_or_ge i j)
     where
-      to-r : (n : ℕ) → Mendable gf256 R marks s n → Mendable gf256 R marks r n
-      to-r n = same-mendable R some marks s r ((legal h).k + 5) (full' h) (matched' h) (back h) gf256 n
+      to_r : (n : ℕ) → Mendable gf256 R marks s n → Mendable gf256 R marks r n
+      to_r n = same_mendable R some marks s r ((legal h).k + 5) (full' h) (matched' h) (back h) gf256 n
 
-      to-s : (n : ℕ) → Mendable gf256 R marks r n → Mendable gf256 R marks s n
-      to-s n = same-mendable R some marks r s ((legal h).k + 5) (full h) (matched h) same gf256 n
+      to_s : (n : ℕ) → Mendable gf256 R marks r n → Mendable gf256 R marks s n
+      to_s n = same_mendable R some marks r s ((legal h).k + 5) (full h) (matched h) same gf256 n
 
   -- 6 is told of a picture, not before
-  looked-at : (stripNumbers a).code ≡ 6 → Hold early-r
-  looked-at e = go (parts early-r (mending gf256 R m r marks) (stripNumbers a).code A.code)
+  looked_at : (strip_numbers a).code ≡ 6 → Hold early_r
+  looked_at e = go (parts early_r (mending gf256 R m r marks) (strip_numbers a).code A.code)
     where
-      go : ((Hold early-r → ⊥) × First early-r (stripNumbers a).code)
-          ⊎ (Hold early-r × First (mending gf256 R m r marks) (stripNumbers a).code)
-          → Hold early-r
-      go (inl q) = absurd (E.before-six (stripNumbers a).code q.1 e)
+      go : ((Hold early_r → ⊥) × First early_r (strip_numbers a).code)
+          ⊎ (Hold early_r × First (mending gf256 R m r marks) (strip_numbers a).code)
+          → Hold early_r
+      go (inl q) = absurd (E.before_six (strip_numbers a).code q.1 e)
       go (inr q) = q.0
 
-  lanes : (stripNumbers a).lane ≡ (stripNumbers b).lane
-  lanes = go (ℕ_discrete (stripNumbers a).code 6)
+  lanes : (strip_numbers a).lane ≡ (strip_numbers b).lane
+  lanes = go (ℕ_discrete (strip_numbers a).code 6)
     where
-      go : Dec ((stripNumbers a).code ≡ 6) → (stripNumbers a).lane ≡ (stripNumbers b).lane
-      go (yes z) = lowest (looked-at z) (stripNumbers a).lane (stripNumbers b).lane (A.lane z) (B.lane (sym codes ∙ z))
-      go (no n) = A.other-lane n ∙ sym (B.other-lane (λ z. n (codes ∙ z)))
+      go : Dec ((strip_numbers a).code ≡ 6) → (strip_numbers a).lane ≡ (strip_numbers b).lane
+      go (yes z) = lowest (looked_at z) (strip_numbers a).lane (strip_numbers b).lane (A.lane z) (B.lane (sym codes ∙ z))
+      go (no n) = A.other_lane n ∙ sym (B.other_lane (λ z. n (codes ∙ z)))
 
-  module _ (z : (stripNumbers a).code ≡ 0) where
-    za : LevelRead gf256 m R r marks tiles t1 (stripNumbers a)
+  module _ (z : (strip_numbers a).code ≡ 0) where
+    za : LevelRead gf256 m R r marks tiles t1 (strip_numbers a)
     za = A.level z
 
-    zb : LevelRead gf256 n R s marks tiles t2 (stripNumbers b)
+    zb : LevelRead gf256 n R s marks tiles t2 (strip_numbers b)
     zb = B.level (sym codes ∙ z)
 
-    h : Hold early-r
+    h : Hold early_r
     h = entered z
 
     -- its version is that of the mended strip, which the other takes too
-    spells : levelOf (data_of R za.strip) ≡ returned (stripNumbers a) t1
+    spells : level_of (data_of R za.strip) ≡ returned (strip_numbers a) t1
     spells =
-        reached-spells gf256 field256 (omega arith) R some marks r za.strip (legal h).k (full h) (omega (arith, (legal h).to, short))
-        (reached-mends gf256 field256 R some marks r (returned (stripNumbers a) t1) za.strip za.reached) (returned (stripNumbers a) t1) za.strip
+        reached_spells gf256 field256 (omega arith) R some marks r za.strip (legal h).k (full h) (omega (arith, (legal h).to, short))
+        (reached_mends gf256 field256 R some marks r (returned (strip_numbers a) t1) za.strip za.reached) (returned (strip_numbers a) t1) za.strip
         za.reached
 
-    early : (returned (stripNumbers a) t1).version ≤ n
+    early : (returned (strip_numbers a) t1).version ≤ n
     early =
         (subst (λ (l : Level). TakeAlike m n l.version) spells
-        (takes za.strip (reached-mends gf256 field256 R some marks r (returned (stripNumbers a) t1) za.strip za.reached))).0 za.reached.not-newer
+        (takes za.strip (reached_mends gf256 field256 R some marks r (returned (strip_numbers a) t1) za.strip za.reached))).0 za.reached.not_newer
 
-    reached : Reached gf256 R n marks s (returned (stripNumbers a) t1) za.strip
+    reached : Reached gf256 R n marks s (returned (strip_numbers a) t1) za.strip
     reached =
-        same-reached R some marks r s ((legal h).k + 5) (full h) (matched h) same gf256 (returned (stripNumbers a) t1) za.strip
-        (record { is-level = za.reached.is-level; not-newer = early; is-strip = za.reached.is-strip; reach = za.reached.reach })
+        same_reached R some marks r s ((legal h).k + 5) (full h) (matched h) same gf256 (returned (strip_numbers a) t1) za.strip
+        (record { is_level = za.reached.is_level; not_newer = early; is_strip = za.reached.is_strip; reach = za.reached.reach })
 
-    level : returned (stripNumbers a) t1 ≡ returned (stripNumbers b) t2
-    level = zb.only (returned (stripNumbers a) t1) za.strip reached
+    level : returned (strip_numbers a) t1 ≡ returned (strip_numbers b) t2
+    level = zb.only (returned (strip_numbers a) t1) za.strip reached
 
     strips : za.strip ≡ zb.strip
     strips =
-        same-strip gf256 field256 R some marks s ((legal h).k + 5) (full' h) (omega (arith, (legal h).to, short)) (returned (stripNumbers a) t1)
-        (returned (stripNumbers b) t2) za.strip zb.strip
+        same_strip gf256 field256 R some marks s ((legal h).k + 5) (full' h) (omega (arith, (legal h).to, short)) (returned (strip_numbers a) t1)
+        (returned (strip_numbers b) t2) za.strip zb.strip
         reached zb.reached
 
-    mendeds : (stripNumbers a).mended ≡ (stripNumbers b).mended
+    mendeds : (strip_numbers a).mended ≡ (strip_numbers b).mended
     mendeds =
-        za.mended-is ∙ same-mended R some marks r s ((legal h).k + 5) (full h) (matched h) same za.strip ∙ ap (mendedOf R marks s) strips ∙ sym zb.mended-is
+        za.mended_is ∙ same_mended R some marks r s ((legal h).k + 5) (full h) (matched h) same za.strip ∙ ap (mended_of R marks s) strips ∙ sym zb.mended_is
 
-    wides : (stripNumbers a).width ≡ (stripNumbers b).width
+    wides : (strip_numbers a).width ≡ (strip_numbers b).width
     wides = ap (λ (l : Level). l.width) level
 
-    highs : (stripNumbers a).height ≡ (stripNumbers b).height
+    highs : (strip_numbers a).height ≡ (strip_numbers b).height
     highs = ap (λ (l : Level). l.height) level
 
-    wears : (stripNumbers a).wear ≡ (stripNumbers b).wear
+    wears : (strip_numbers a).wear ≡ (strip_numbers b).wear
     wears =
-        wear-one (stripNumbers b).mended (length r) (stripNumbers a).wear (stripNumbers b).wear (legal-some R some (legal h))
-        (subst (λ (m : ℕ). IsWear m (length r) (stripNumbers a).wear) mendeds za.wear-is)
-        (subst (λ (n : ℕ). IsWear (stripNumbers b).mended n (stripNumbers b).wear) (sym same.same_length) zb.wear-is)
+        wear_one (strip_numbers b).mended (length r) (strip_numbers a).wear (strip_numbers b).wear (legal_some R some (legal h))
+        (subst (λ (m : ℕ). IsWear m (length r) (strip_numbers a).wear) mendeds za.wear_is)
+        (subst (λ (n : ℕ). IsWear (strip_numbers b).mended n (strip_numbers b).wear) (sym same.same_length) zb.wear_is)
 
-    read-numbers : butRepainted (stripNumbers a) ≡ butRepainted (stripNumbers b)
-    read-numbers =
-        same_numbers (stripNumbers a) (stripNumbers b) codes lanes (ap (λ (l : Level). l.version) level) wides highs (ap (λ (l : Level). l.par) level)
-        mendeds wears (za.lanes-is ∙ sym zb.lanes-is)
+    read_numbers : but_repainted (strip_numbers a) ≡ but_repainted (strip_numbers b)
+    read_numbers =
+        same_numbers (strip_numbers a) (strip_numbers b) codes lanes (ap (λ (l : Level). l.version) level) wides highs (ap (λ (l : Level). l.par) level)
+        mendeds wears (za.lanes_is ∙ sym zb.lanes_is)
 
-    read-tiles : t1 ≡ t2
-    read-tiles =
-        sym (take-append-drop ((stripNumbers a).width * (stripNumbers a).height) t1)
+    read_tiles : t1 ≡ t2
+    read_tiles =
+        sym (take-append-drop ((strip_numbers a).width * (strip_numbers a).height) t1)
         ∙ ap₂ (λ (x y : List ℕ). x ++ y) (ap (λ (l : Level). l.tiles) level)
         (za.rest ∙ ap (λ (n : ℕ). drop n tiles) area ∙ sym zb.rest)
-        ∙ take-append-drop ((stripNumbers b).width * (stripNumbers b).height) t2
+        ∙ take-append-drop ((strip_numbers b).width * (strip_numbers b).height) t2
       where
-        area : (stripNumbers a).width * (stripNumbers a).height ≡ (stripNumbers b).width * (stripNumbers b).height
+        area : (strip_numbers a).width * (strip_numbers a).height ≡ (strip_numbers b).width * (strip_numbers b).height
         area = ap₂ (λ (x y : ℕ). x * y) wides highs
 
-  pub read_alike : (t1 ≡ t2) × (butRepainted (stripNumbers a) ≡ butRepainted (stripNumbers b))
+  pub read_alike : (t1 ≡ t2) × (but_repainted (strip_numbers a) ≡ but_repainted (strip_numbers b))
   read_alike = (
-    either (t1 ≡ t2) (stripNumbers a).code read-tiles (λ n. A.tiles-kept n ∙ sym (B.tiles-kept (λ z. n (codes ∙ z)))),
-    either (butRepainted (stripNumbers a) ≡ butRepainted (stripNumbers b)) (stripNumbers a).code read-numbers (λ n.
-        ap butRepainted (zeros a n ∙ ap₂ (λ (c l : ℕ). refusedAt c l) codes lanes ∙ sym (zeros b (λ z. n (codes ∙ z))))),
+    either (t1 ≡ t2) (strip_numbers a).code read_tiles (λ n. A.tiles_kept n ∙ sym (B.tiles_kept (λ z. n (codes ∙ z)))),
+    either (but_repainted (strip_numbers a) ≡ but_repainted (strip_numbers b)) (strip_numbers a).code read_numbers (λ n.
+        ap but_repainted (zeros a n ∙ ap₂ (λ (c l : ℕ). refused_at c l) codes lanes ∙ sym (zeros b (λ z. n (codes ∙ z))))),
   )
 
 -- two readings of one strip
-module _ (m n R : ℕ) (two : 2 ≤ R) (early-r early-s : List Rule) (s marks tiles t1 t2 u u' v v' : List ℕ)
-    (E : EntersAlike R s marks early-r early-s) (takes : VersionAlike m n R marks s) (a b : Reading) (A : ReadsWith m R early-r s marks tiles t1 u u' a)
-    (B : ReadsWith n R early-s s marks tiles t2 v v' b) where
+module _ (m n R : ℕ) (two : 2 ≤ R) (early_r early_s : List Rule) (s marks tiles t1 t2 u u' v v' : List ℕ)
+    (E : EntersAlike R s marks early_r early_s) (takes : VersionAlike m n R marks s) (a b : Reading) (A : ReadsWith m R early_r s marks tiles t1 u u' a)
+    (B : ReadsWith n R early_s s marks tiles t2 v v' b) where
   itself : SameRead marks s s
-  itself = read-itself marks s
+  itself = read_itself marks s
 
-  one_code : (stripNumbers a).code ≡ (stripNumbers b).code
-  one_code = codes m n R two early-r early-s s s marks tiles t1 t2 u u' v v' itself E takes a b A B
+  one_code : (strip_numbers a).code ≡ (strip_numbers b).code
+  one_code = codes m n R two early_r early_s s s marks tiles t1 t2 u u' v v' itself E takes a b A B
 
   -- what is repainted is counted against one strip
-  one-repainted : (stripNumbers a).repainted ≡ (stripNumbers b).repainted
-  one-repainted =
-      either ((stripNumbers a).repainted ≡ (stripNumbers b).repainted) (stripNumbers a).code
-      (λ z. (za m n R two early-r early-s s s marks tiles t1 t2 u u' v v' itself E takes a b A B z).repainted-is ∙ ap (repaintedOf R marks s) (strips m n R two early-r early-s s s marks tiles t1 t2 u u' v v' itself E takes a b A B z)
-      ∙ sym (zb m n R two early-r early-s s s marks tiles t1 t2 u u' v v' itself E takes a b A B z).repainted-is)
+  one_repainted : (strip_numbers a).repainted ≡ (strip_numbers b).repainted
+  one_repainted =
+      either ((strip_numbers a).repainted ≡ (strip_numbers b).repainted) (strip_numbers a).code
+      (λ z. (za m n R two early_r early_s s s marks tiles t1 t2 u u' v v' itself E takes a b A B z).repainted_is ∙ ap (repainted_of R marks s) (strips m n R two early_r early_s s s marks tiles t1 t2 u u' v v' itself E takes a b A B z)
+      ∙ sym (zb m n R two early_r early_s s s marks tiles t1 t2 u u' v v' itself E takes a b A B z).repainted_is)
       (λ n. ap (λ (x : ReadNumbers). x.repainted) (zeros a n) ∙ sym (ap (λ (x : ReadNumbers). x.repainted) (zeros b (λ z. n (one_code ∙ z)))))
 
-  pub read-once : (t1 ≡ t2) × (stripNumbers a ≡ stripNumbers b)
-  read-once =
-      let q = read_alike m n R two early-r early-s s s marks tiles t1 t2 u u' v v' itself E takes a b A B in
-      (q.0, all-numbers (stripNumbers a) (stripNumbers b) q.1 one-repainted)
+  pub read_once : (t1 ≡ t2) × (strip_numbers a ≡ strip_numbers b)
+  read_once =
+      let q = read_alike m n R two early_r early_s s s marks tiles t1 t2 u u' v v' itself E takes a b A B in
+      (q.0, all_numbers (strip_numbers a) (strip_numbers b) q.1 one_repainted)
 
 -- ---- a rule that holds
 
@@ -314,22 +314,22 @@ module _ (m n R : ℕ) (two : 2 ≤ R) (early-r early-s : List Rule) (s marks ti
 module _ (upto R : ℕ) (rule : Rule) (early : List Rule) (s marks tiles tiles' scratch scratch' : List ℕ) (a : Reading) (holds : rule.holds) where
   pub rule_dropped : ReadsWith upto R (rule ∷ early) s marks tiles tiles' scratch scratch' a → ReadsWith upto R early s marks tiles tiles' scratch scratch' a
   rule_dropped A = record {
-    code = rest (rule ∷ []) (early ++ mending gf256 R upto s marks) (stripNumbers a).code (holds, tt) A.code;
+    code = rest (rule ∷ []) (early ++ mending gf256 R upto s marks) (strip_numbers a).code (holds, tt) A.code;
     lane = A.lane;
-    other-lane = A.other-lane;
+    other_lane = A.other_lane;
     level = A.level;
-    no-level = λ h. A.no-level (holds, h);
-    tiles-kept = A.tiles-kept;
-    scratch-kept = λ n. A.scratch-kept (λ h. n h.1);
+    no_level = λ h. A.no_level (holds, h);
+    tiles_kept = A.tiles_kept;
+    scratch_kept = λ n. A.scratch_kept (λ h. n h.1);
   }
 
-  pub rule-added : ReadsWith upto R early s marks tiles tiles' scratch scratch' a → ReadsWith upto R (rule ∷ early) s marks tiles tiles' scratch scratch' a
-  rule-added A = record {
+  pub rule_added : ReadsWith upto R early s marks tiles tiles' scratch scratch' a → ReadsWith upto R (rule ∷ early) s marks tiles tiles' scratch scratch' a
+  rule_added A = record {
     code = inr (holds, A.code);
     lane = A.lane;
-    other-lane = A.other-lane;
+    other_lane = A.other_lane;
     level = A.level;
-    no-level = λ h. A.no-level h.1;
-    tiles-kept = A.tiles-kept;
-    scratch-kept = λ n. A.scratch-kept (λ h. n (holds, h));
+    no_level = λ h. A.no_level h.1;
+    tiles_kept = A.tiles_kept;
+    scratch_kept = λ n. A.scratch_kept (λ h. n (holds, h));
   }

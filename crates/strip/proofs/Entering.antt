@@ -6,8 +6,8 @@ use native.Mathlib.Omega.{arith}
 use Rattle.rules.specs.Refusal.{First, Hold, Within}
 use Rattle.rules.proofs.Laws.{all_hold}
 use Rattle.level.specs.Reading.{entering}
-use Rattle.level.proofs.Dealing.{lanes-short}
-use Rattle.level.proofs.Lengths.{lanes-within}
+use Rattle.level.proofs.Dealing.{lanes_short}
+use Rattle.level.proofs.Lengths.{lanes_within}
 use Rattle.lanes.specs.Lanes.{Entered}
 
 module _ (R : ℕ) (s marks : List ℕ) (room scratch : ℕ) where
@@ -17,11 +17,11 @@ module _ (R : ℕ) (s marks : List ℕ) (room scratch : ℕ) where
   pub ready : Hold (entering R s marks room scratch) → Entered R s marks
   ready h = record {
     lanes = record { from = omega (arith, within.from); to = within.to };
-    short = lanes-short R within.from;
+    short = lanes_short R within.from;
     legal = h.1.0;
     matched = h.1.1.0;
     good = h.1.1.1.0;
   }
     where
       within : Within 2 16 R
-      within = lanes-within R h.0
+      within = lanes_within R h.0

@@ -3,19 +3,19 @@ use Rattle.std.specs.Prelude.{◌≡◌, List, ◌++◌, ℕ, ◌*◌, ◌≤◌
 use Rattle.account.specs.Field.{Ops}
 use Rattle.gf256.specs.Gf256.{gf256}
 use Rattle.rules.specs.Refusal.{Rule, First, Hold, asked}
-use Rattle.level.specs.Sizes.{tilesMost, scratchLeast}
+use Rattle.level.specs.Sizes.{tiles_most, scratch_least}
 use Rattle.level.specs.Level.{Level}
 use Rattle.level.specs.Record.{field_at}
-use Rattle.level.specs.Strip.{Reached, Lowest, mendedOf, repaintedOf, IsWear}
-use Rattle.level.specs.Reading.{ReadNumbers, refusedAt, returned, entering, mending, judging, tilesOf}
+use Rattle.level.specs.Strip.{Reached, Lowest, mended_of, repainted_of, IsWear}
+use Rattle.level.specs.Reading.{ReadNumbers, refused_at, returned, entering, mending, judging, tiles_of}
 use Rattle.strip.specs.declared.read.Reading.{Reading}
 use Rattle.strip.specs.declared.read.Reading.TheVariants as reading
 use Rattle.fields.specs.Judged.{AcceptedAs}
 use Rattle.fields.specs.declared.judged.Judged.{Judged}
 
 -- the numbers of an answer
-abbrev pub stripNumbers : Reading → ReadNumbers
-stripNumbers (reading.Read n w h p e d v r) = record {
+abbrev pub strip_numbers : Reading → ReadNumbers
+strip_numbers (reading.Read n w h p e d v r) = record {
   code = 0;
   lane = 0;
   version = n;
@@ -27,7 +27,7 @@ stripNumbers (reading.Read n w h p e d v r) = record {
   wear = v;
   lanes = r;
 }
-stripNumbers (reading.Refused c j) = refusedAt c j
+strip_numbers (reading.Refused c j) = refused_at c j
 
 -- FORMAT 11.4 to 11.7, 11.13, 10.6: the level returned has a strip within reach, and no other level has, of the versions up to this one. Mended and
 -- repainted count against that strip; tiles past the level keep their value.
@@ -35,23 +35,23 @@ pub record LevelRead (O : Ops) (upto R : ℕ) (s marks tiles tiles' : List ℕ) 
   pub strip : List ℕ
   pub reached : Reached O R upto marks s (returned n tiles') strip
   pub only : (l : Level) (t : List ℕ) → Reached O R upto marks s l t → l ≡ returned n tiles'
-  pub mended-is : n.mended ≡ mendedOf R marks s strip
-  pub repainted-is : n.repainted ≡ repaintedOf R marks s strip
-  pub lanes-is : n.lanes ≡ R
-  pub wear-is : IsWear n.mended (length s) n.wear
+  pub mended_is : n.mended ≡ mended_of R marks s strip
+  pub repainted_is : n.repainted ≡ repainted_of R marks s strip
+  pub lanes_is : n.lanes ≡ R
+  pub wear_is : IsWear n.mended (length s) n.wear
   pub rest : drop (n.width * n.height) tiles' ≡ drop (n.width * n.height) tiles
 
 -- FORMAT 8.13, 9.44, 9.45, 10.2 to 10.4: refused before the picture was looked at, the scratch is kept; refused by the picture, no level is
 -- within reach. Only then, and with a level, is the scratch free. Versions up to `upto` are taken; the rules `early` are asked before the picture is.
 pub record ReadsWith (upto R : ℕ) (early : List Rule) (s marks tiles tiles' scratch scratch' : List ℕ) (a : Reading) : Type 0 where
-  pub code : First (early ++ mending gf256 R upto s marks) (stripNumbers a).code
-  pub lane : (stripNumbers a).code ≡ 6 → Lowest gf256 R marks s (stripNumbers a).lane
-  pub other-lane : ((stripNumbers a).code ≡ 6 → ⊥) → (stripNumbers a).lane ≡ 0
-  pub level : (stripNumbers a).code ≡ 0 → LevelRead gf256 upto R s marks tiles tiles' (stripNumbers a)
-  pub no-level : Hold early → ((stripNumbers a).code ≡ 0 → ⊥) → (l : Level) (t : List ℕ)
+  pub code : First (early ++ mending gf256 R upto s marks) (strip_numbers a).code
+  pub lane : (strip_numbers a).code ≡ 6 → Lowest gf256 R marks s (strip_numbers a).lane
+  pub other_lane : ((strip_numbers a).code ≡ 6 → ⊥) → (strip_numbers a).lane ≡ 0
+  pub level : (strip_numbers a).code ≡ 0 → LevelRead gf256 upto R s marks tiles tiles' (strip_numbers a)
+  pub no_level : Hold early → ((strip_numbers a).code ≡ 0 → ⊥) → (l : Level) (t : List ℕ)
       → Reached gf256 R upto marks s l t → ⊥
-  pub tiles-kept : ((stripNumbers a).code ≡ 0 → ⊥) → tiles' ≡ tiles
-  pub scratch-kept : (Hold early → ⊥) → scratch' ≡ scratch
+  pub tiles_kept : ((strip_numbers a).code ≡ 0 → ⊥) → tiles' ≡ tiles
+  pub scratch_kept : (Hold early → ⊥) → scratch' ≡ scratch
 
 -- the promise of the strip reader of versions up to this one
 abbrev pub StripReadsAs : ℕ → ℕ → List ℕ → List ℕ → List ℕ → List ℕ → List ℕ → List ℕ → Reading → Type 0
@@ -66,12 +66,12 @@ pub record WeRead (upto R : ℕ) (s marks : List ℕ) : Type 0 where
   pub scratch' : List ℕ
   pub answer : Reading
   pub promise : StripReadsAs upto R s marks tiles tiles' scratch scratch' answer
-  pub room : tilesMost ≤ length tiles
-  pub room' : scratchLeast ≤ length scratch
+  pub room : tiles_most ≤ length tiles
+  pub room' : scratch_least ≤ length scratch
 
 -- whatever the reader then answers is as P says of the numbers and the tiles
 abbrev pub Answers : ℕ → ℕ → List ℕ → List ℕ → (ReadNumbers → List ℕ → Type 0) → Type 0
-Answers upto R s marks P = (r : WeRead upto R s marks) → P (stripNumbers r.answer) r.tiles'
+Answers upto R s marks P = (r : WeRead upto R s marks) → P (strip_numbers r.answer) r.tiles'
 
 -- FORMAT 8.15: the level l is returned
 pub record Gives (l : Level) (n : ReadNumbers) (tiles' : List ℕ) : Type 0 where
@@ -92,7 +92,7 @@ pub record FinishedAs (upto R : ℕ) (bs : List ℕ) (N e d : ℕ) (tiles tiles'
   pub repainted : n.code ≡ 0 → n.repainted ≡ d
   pub wear : n.code ≡ 0 → IsWear e N n.wear
   pub lanes : n.code ≡ 0 → n.lanes ≡ R
-  pub tiles-are : n.code ≡ 0 → tiles' ≡ tilesOf bs ++ drop (n.width * n.height) tiles
+  pub tiles_are : n.code ≡ 0 → tiles' ≡ tiles_of bs ++ drop (n.width * n.height) tiles
   pub kept : (n.code ≡ 0 → ⊥) → tiles' ≡ tiles
 
 -- the answer n for a record that was judged as j is the one for every such record

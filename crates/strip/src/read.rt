@@ -6,8 +6,8 @@ ghost use Rattle.level.specs.Strip.{LaneCount, Legal, IsWear};
 ghost use Rattle.level.specs.Reading.{data_of};
 ghost use Rattle.patches.specs.Patched.{patched};
 ghost use Rattle.fields.specs.Judged.{AcceptedAs};
-ghost use Rattle.strip.specs.Reading.{stripNumbers, FinishesAs, StripReadsAs};
-ghost use Rattle.level.specs.Sizes.{tilesMost, scratchLeast, stripMost};
+ghost use Rattle.strip.specs.Reading.{strip_numbers, FinishesAs, StripReadsAs};
+ghost use Rattle.level.specs.Sizes.{tiles_most, scratch_least, strip_most};
 
 use fields::judged::Judged;
 use level::NEWEST;
@@ -35,7 +35,7 @@ pub enum Reading {
 // Percent of the cells that were mended, to the nearest whole number. The quotient is too low where more than half a percent is left; an exact
 // half goes to the even number, so an odd quotient gives way to it.
 fn wear(mended: usize, n: usize) -> usize
-    requires { (mended ≤ 32) × Within 1 stripMost n }
+    requires { (mended ≤ 32) × Within 1 strip_most n }
     ensures { IsWear mended n result }
 {
     let percents = 100 * mended;
@@ -57,7 +57,7 @@ fn accept(
     tiles: &mut [u8],
     scratch: &mut [u8],
 ) -> Judged
-    requires { LaneCount lanes × Legal lanes (length strip.now) × (count ≤ 80) × (tilesMost ≤ length tiles.old) × (scratchLeast ≤ length scratch.old) }
+    requires { LaneCount lanes × Legal lanes (length strip.now) × (count ≤ 80) × (tiles_most ≤ length tiles.old) × (scratch_least ≤ length scratch.old) }
     ensures { AcceptedAs upto lanes (data_of lanes (patched cells.now bytes.now count strip.now)) tiles.old tiles.new result }
 {
     let to = strip.len() - lanes * 5;
@@ -69,8 +69,8 @@ fn accept(
 
 // The answer for a record that was judged, of a strip of n cells of which so many were mended and repainted.
 fn finish(j: Judged, lanes: usize, n: usize, mended: usize, repainted: usize) -> Reading
-    requires { (mended ≤ 32) × Within 1 stripMost n }
-    ensures { FinishesAs lanes j n mended repainted (stripNumbers result) }
+    requires { (mended ≤ 32) × Within 1 strip_most n }
+    ensures { FinishesAs lanes j n mended repainted (strip_numbers result) }
 {
     let code = j.code;
     if code != 0 {

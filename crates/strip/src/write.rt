@@ -1,7 +1,7 @@
 // Writing a strip: the record, its filling, and the check cells of each lane.
 ghost use Rattle.std.specs.Prelude.{◌≤◌, length};
 ghost use Rattle.rules.specs.Placed.{Placed};
-ghost use Rattle.level.specs.Sizes.{stripMost};
+ghost use Rattle.level.specs.Sizes.{strip_most};
 ghost use Rattle.level.specs.Level.{IsLevel};
 ghost use Rattle.level.specs.Strip.{LaneCount};
 ghost use Rattle.level.specs.Writing.{lent};
@@ -32,7 +32,7 @@ fn lay(
     tiles: &[u8],
     out: &mut [u8],
 ) -> usize
-    requires { LaneCount lanes × IsLevel (lent version w h par tiles.now) × (stripMost ≤ length out.old) }
+    requires { LaneCount lanes × IsLevel (lent version w h par tiles.now) × (strip_most ≤ length out.old) }
     ensures { LaidAs lanes (lent version w h par tiles.now) out.old out.new result }
 {
     let b = lending::put_record(version, w, h, par, tiles, out);

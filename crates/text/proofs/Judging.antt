@@ -8,24 +8,24 @@ use lib.ListN.{length, get_or, take, drop, replicate, length-append, length-repl
 use lib.Seq.{get_or-append-add, take_at, drop_at}
 use Rattle.rules.specs.Refusal.{First, asked}
 use Rattle.rules.proofs.Laws.{stops}
-use Rattle.rules.proofs.Numbers.{lt-or-ge}
+use Rattle.rules.proofs.Numbers.{lt_or_ge}
 use Rattle.level.specs.Level.{Level, Sized, AllTiles, lending}
 use Rattle.level.specs.Writing.{lent}
-use Rattle.level.proofs.Versions.{first-known}
+use Rattle.level.proofs.Versions.{first_known}
 use Rattle.fields.proofs.Tiles.{area_small}
 use Rattle.lending.proofs.Lent.{lent_level}
 use Rattle.record.specs.declared.read.RecordRead.TheVariants as read
-use Rattle.typed.specs.Letters.{tileOf}
-use Rattle.typed.specs.Text.{Letters, Rows, longest, filled, board, levelTyped}
+use Rattle.typed.specs.Letters.{tile_of}
+use Rattle.typed.specs.Text.{Letters, Rows, longest, filled, board, level_typed}
 use Rattle.typed.specs.Parts.{Shown, Layable, LaidOut}
 use Rattle.text.specs.Reading.{typing}
 use Rattle.text.specs.Parts.{RowsReadAs}
-use Rattle.typed.proofs.Unrolling.{board-long}
+use Rattle.typed.proofs.Unrolling.{board_long}
 
 -- ---- the tiles of letters are tile codes
 
-coded-both : (xs ys : List ℕ) → AllTiles 1 xs → AllTiles 1 ys → AllTiles 1 (xs ++ ys)
-coded-both xs ys a b i h = ⊎_elim inside behind (lt-or-ge i (length xs))
+coded_both : (xs ys : List ℕ) → AllTiles 1 xs → AllTiles 1 ys → AllTiles 1 (xs ++ ys)
+coded_both xs ys a b i h = ⊎_elim inside behind (lt_or_ge i (length xs))
   where
     inside : i < length xs → get_or (xs ++ ys) i 0 ≤ 6
     inside k = omega (arith, get_or-append xs ys 0 i k, a i k)
@@ -35,24 +35,24 @@ coded-both xs ys a b i h = ⊎_elim inside behind (lt-or-ge i (length xs))
         let e : i ≡ length xs + (i - length xs) = omega arith in
         omega (arith, ap (λ (j : ℕ). get_or (xs ++ ys) j 0) e, get_or-append-add xs ys (i - length xs) 0, b (i - length xs) (omega (arith, h, length-append xs ys)))
 
-coded-row : (r : List ℕ) → Letters r → AllTiles 1 (map tileOf r)
-coded-row [] h i k = absurd (omega (arith, k))
-coded-row (c ∷ r) (t, h) zero k = t
-coded-row (c ∷ r) (t, h) (suc i) k = coded-row r h i (omega (arith, k))
+coded_row : (r : List ℕ) → Letters r → AllTiles 1 (map tile_of r)
+coded_row [] h i k = absurd (omega (arith, k))
+coded_row (c ∷ r) (t, h) zero k = t
+coded_row (c ∷ r) (t, h) (suc i) k = coded_row r h i (omega (arith, k))
 
 coded : (w : ℕ) (rows : List (List ℕ)) → Rows rows → AllTiles 1 (board w rows)
 coded w [] h = λ i k. absurd (omega (arith, k))
 coded w (r ∷ rs) (a, h) =
-    coded-both (filled w r) (board w rs)
-    (coded-both (map tileOf r) (replicate (w - length r) 0) (coded-row r a)
+    coded_both (filled w r) (board w rs)
+    (coded_both (map tile_of r) (replicate (w - length r) 0) (coded_row r a)
     (λ i k. omega (arith, get_or-replicate {A = ℕ} (w - length r) i 0 0 (omega (arith, k, length-replicate {A = ℕ} (w - length r) 0)))))
     (coded w rs h)
 
 -- ---- floor
 
-all-floor : (n p : ℕ) → get_or (replicate {A = ℕ} n 0) p 0 ≡ 0
-all-floor n p =
-    ⊎_elim (λ h. get_or-replicate {A = ℕ} n p 0 0 h) (λ h. get_or-eq_default (replicate {A = ℕ} n 0) 0 (omega (arith, h, length-replicate {A = ℕ} n 0))) (lt-or-ge p n)
+all_floor : (n p : ℕ) → get_or (replicate {A = ℕ} n 0) p 0 ≡ 0
+all_floor n p =
+    ⊎_elim (λ h. get_or-replicate {A = ℕ} n p 0 0 h) (λ h. get_or-eq_default (replicate {A = ℕ} n 0) 0 (omega (arith, h, length-replicate {A = ℕ} n 0))) (lt_or_ge p n)
 
 -- ---- judged
 
@@ -60,11 +60,11 @@ module _ (body : List ℕ) (w h par : ℕ) (S : Shown body w h) where
   abbrev rows : List (List ℕ)
   rows = S.has.rows
 
-  pub rows-12 : (old : List ℕ) → (Sized w h → ⊥) → RowsReadAs par body old old (read.Refused 12)
-  rows-12 old n = record {
+  pub rows_12 : (old : List ℕ) → (Sized w h → ⊥) → RowsReadAs par body old old (read.Refused 12)
+  rows_12 old n = record {
     has = S.has;
-    code = stops 0 (asked (λ ask. ask (levelTyped par rows)) typing) 12 ((λ z. n (rw (S.width, S.height) z)), refl);
-    is-level = λ z. absurd (omega (arith, z));
+    code = stops 0 (asked (λ ask. ask (level_typed par rows)) typing) 12 ((λ z. n (rw (S.width, S.height) z)), refl);
+    is_level = λ z. absurd (omega (arith, z));
     says = λ z. absurd (omega (arith, z));
     past = λ z. absurd (omega (arith, z));
     kept = λ _. refl;
@@ -72,7 +72,7 @@ module _ (body : List ℕ) (w h par : ℕ) (S : Shown body w h) where
 
   module _ (sized : Sized w h) where
     pub few : w * h ≤ 961
-    few = area_small w h sized.not_wider sized.not-higher
+    few = area_small w h sized.not_wider sized.not_higher
 
     -- a board of floor has room for the rows
     pub layable : Layable body w (replicate 961 0)
@@ -82,23 +82,23 @@ module _ (body : List ℕ) (w h par : ℕ) (S : Shown body w h) where
       not_wider = sized.not_wider;
       room = omega (arith, few, ap (λ (k : ℕ). w * k) S.height, length-replicate {A = ℕ} 961 0);
       few = omega (arith, length-replicate {A = ℕ} 961 0);
-      is-floor = λ p. all-floor 961 p;
+      is_floor = λ p. all_floor 961 p;
     }
 
-    module _ (par-small : par ≤ 1023) where
+    module _ (par_small : par ≤ 1023) where
       -- of all that a writer asks, only the rule is left
-      asked-typing : (c : ℕ) → First (asked (λ ask. ask (levelTyped par rows)) (lending 1)) c → First (asked (λ ask. ask (levelTyped par rows)) typing) c
-      asked-typing c (inl p) = absurd (p.0 (record {
-        ranged = record { known = first-known; sized = rw (← S.width, ← S.height) sized; par-small = par-small };
-        not-newer = omega arith;
+      asked_typing : (c : ℕ) → First (asked (λ ask. ask (level_typed par rows)) (lending 1)) c → First (asked (λ ask. ask (level_typed par rows)) typing) c
+      asked_typing c (inl p) = absurd (p.0 (record {
+        ranged = record { known = first_known; sized = rw (← S.width, ← S.height) sized; par_small = par_small };
+        not_newer = omega arith;
       }))
-      asked-typing c (inr (r, inl p)) = absurd (p.0 (board-long (longest rows) rows (omega arith)))
-      asked-typing c (inr (r, inr (n, inl p))) = absurd (p.0 (coded (longest rows) rows S.has.letters))
-      asked-typing c (inr (r, inr (n, inr (k, f)))) = inr (r.ranged.sized, f)
+      asked_typing c (inr (r, inl p)) = absurd (p.0 (board_long (longest rows) rows (omega arith)))
+      asked_typing c (inr (r, inr (n, inl p))) = absurd (p.0 (coded (longest rows) rows S.has.letters))
+      asked_typing c (inr (r, inr (n, inr (k, f)))) = inr (r.ranged.sized, f)
 
       module _ (tiles : List ℕ) (L : LaidOut body w tiles) (c : ℕ) (f : First (asked (λ ask. ask (lent 1 w h par (take (w * h - 0) tiles))) (lending 1)) c) where
         -- the level that was asked is the one that the rows say
-        said : lent 1 w h par (take (w * h - 0) tiles) ≡ levelTyped par rows
+        said : lent 1 w h par (take (w * h - 0) tiles) ≡ level_typed par rows
         said =
             ap (λ (t : List ℕ). lent 1 w h par t) (ap (λ (k : ℕ). take k tiles) same ∙ L.laid S.has)
             ∙ ap₂ (λ (a b : ℕ). lent 1 a b par (board a rows)) S.width S.height
@@ -106,26 +106,26 @@ module _ (body : List ℕ) (w h par : ℕ) (S : Shown body w h) where
             same : w * h - 0 ≡ w * length rows
             same = omega (arith, ap (λ (k : ℕ). w * k) S.height)
 
-        first : First (asked (λ ask. ask (levelTyped par rows)) (lending 1)) c
+        first : First (asked (λ ask. ask (level_typed par rows)) (lending 1)) c
         first = subst (λ (l : Level). First (asked (λ ask. ask l) (lending 1)) c) said f
 
-        pub rows-refused : (old : List ℕ) → (c ≡ 0 → ⊥) → RowsReadAs par body old old (read.Refused c)
-        rows-refused old n = record {
+        pub rows_refused : (old : List ℕ) → (c ≡ 0 → ⊥) → RowsReadAs par body old old (read.Refused c)
+        rows_refused old n = record {
           has = S.has;
-          code = asked-typing c first;
-          is-level = λ z. absurd (n z);
+          code = asked_typing c first;
+          is_level = λ z. absurd (n z);
           says = λ z. absurd (n z);
           past = λ z. absurd (n z);
           kept = λ _. refl;
         }
 
         -- the tiles copied in front are all of the board
-        pub rows-read : (old new : List ℕ) → c ≡ 0 → new ≡ take (w * h - 0) tiles ++ drop (length (take (w * h - 0) tiles)) old
+        pub rows_read : (old new : List ℕ) → c ≡ 0 → new ≡ take (w * h - 0) tiles ++ drop (length (take (w * h - 0) tiles)) old
             → RowsReadAs par body old new (read.Level 1 w h par)
-        rows-read old new z put = record {
+        rows_read old new z put = record {
           has = S.has;
-          code = subst (First (asked (λ ask. ask (levelTyped par rows)) typing)) z (asked-typing c first);
-          is-level = λ _. (lent_level 1 (levelTyped par rows) c z first).0;
+          code = subst (First (asked (λ ask. ask (level_typed par rows)) typing)) z (asked_typing c first);
+          is_level = λ _. (lent_level 1 (level_typed par rows) c z first).0;
           says = λ _. ap (λ (t : List ℕ). lent 1 w h par t) (ap (take (w * h)) put ∙ take_at (take (w * h - 0) tiles) _ (w * h) count) ∙ said;
           past = λ _. ap (drop (w * h)) put ∙ drop_at (take (w * h - 0) tiles) _ (w * h) count ∙ ap (λ (k : ℕ). drop k old) count;
           kept = λ n. absurd (n refl);
@@ -134,5 +134,5 @@ module _ (body : List ℕ) (w h par : ℕ) (S : Shown body w h) where
             count : length (take (w * h - 0) tiles) ≡ w * h
             count =
                 ap (λ (l : Level). length l.tiles) said
-                ∙ board-long (longest rows) rows (omega arith)
+                ∙ board_long (longest rows) rows (omega arith)
                 ∙ sym (ap₂ (λ (a b : ℕ). a * b) S.width S.height)

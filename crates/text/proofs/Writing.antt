@@ -8,28 +8,28 @@ use native.Mathlib.Numerals.{add-one}
 use native.Mathlib.Omega.{arith}
 use lib.ListN.{length, get_or, take, drop, set, length-append, length-drop, length-map}
 use lib.Seq.{sets, sets-eq, take-suc, drop-drop, get_or-drop, length-take-le, take_at, drop-append-add}
-use Rattle.typed.specs.Letters.{letterOf}
+use Rattle.typed.specs.Letters.{letter_of}
 use Rattle.rules.specs.Refusal.{First, asked}
 use Rattle.rules.proofs.Laws.{stops}
 use Rattle.level.specs.Level.{Level, IsLevel, lending}
-use Rattle.level.specs.Writing.{lent, writingUpto}
+use Rattle.level.specs.Writing.{lent, writing_upto}
 use Rattle.code.specs.declared.word.Written.TheVariants as written
-use Rattle.typed.specs.Text.{joined, firstLine, rows_of, text_of}
+use Rattle.typed.specs.Text.{joined, first_line, rows_of, text_of}
 use Rattle.typed.specs.Parts.{LineIs, line_of}
 use Rattle.text.specs.Parts.{TextPut}
 use Rattle.text.specs.Writing.{TextWritesAs}
 use Rattle.typed.specs.declared.line.Line.{Line}
-use Rattle.typed.proofs.Lines.{line-part}
-use Rattle.text.proofs.Written.{joined-long, text-size, text-short}
+use Rattle.typed.proofs.Lines.{line_part}
+use Rattle.text.proofs.Written.{joined_long, text_size, text_short}
 
 -- ---- stores
 
 -- a run of stores, and then another
-sets-append : (o xs ys : List ℕ) (a : ℕ) → sets o a (xs ++ ys) ≡ sets (sets o a xs) (a + length xs) ys
-sets-append o [] ys a = ap (λ (k : ℕ). sets o k ys) (sym (add-zero a))
-sets-append o (x ∷ xs) ys a =
+sets_append : (o xs ys : List ℕ) (a : ℕ) → sets o a (xs ++ ys) ≡ sets (sets o a xs) (a + length xs) ys
+sets_append o [] ys a = ap (λ (k : ℕ). sets o k ys) (sym (add-zero a))
+sets_append o (x ∷ xs) ys a =
     let e : suc a + length xs ≡ a + suc (length xs) = omega arith in
-    sets-append (set o a x) xs ys (suc a) ∙ ap (λ (k : ℕ). sets (sets (set o a x) (suc a) xs) k ys) e
+    sets_append (set o a x) xs ys (suc a) ∙ ap (λ (k : ℕ). sets (sets (set o a x) (suc a) xs) k ys) e
 
 -- stores right behind a front
 sets_behind : (o f vs : List ℕ) → length f + length vs ≤ length o
@@ -43,61 +43,61 @@ sets_behind o f vs room =
 
 -- the letters of the n tiles from k on
 abbrev pub lettered : List ℕ → ℕ → ℕ → List ℕ
-lettered ts k n = map letterOf (take n (drop k ts))
+lettered ts k n = map letter_of (take n (drop k ts))
 
 module _ (ts : List ℕ) (k : ℕ) where
-  lettered-long : (n : ℕ) → k + n ≤ length ts → length (lettered ts k n) ≡ n
-  lettered-long n h = length-map (take n (drop k ts)) letterOf ∙ length-take-le n (drop k ts) (omega (arith, length-drop k ts))
+  lettered_long : (n : ℕ) → k + n ≤ length ts → length (lettered ts k n) ≡ n
+  lettered_long n h = length-map (take n (drop k ts)) letter_of ∙ length-take-le n (drop k ts) (omega (arith, length-drop k ts))
 
-  lettered-next : (n : ℕ) → k + n < length ts → lettered ts k (n + 1) ≡ lettered ts k n ++ letterOf (get_or ts (k + n) 0) ∷ []
-  lettered-next n h =
+  lettered_next : (n : ℕ) → k + n < length ts → lettered ts k (n + 1) ≡ lettered ts k n ++ letter_of (get_or ts (k + n) 0) ∷ []
+  lettered_next n h =
       ap (λ (i : ℕ). lettered ts k i) (add-one n)
-      ∙ ap (map letterOf) (take-suc (drop k ts) n 0 (omega (arith, length-drop k ts)))
-      ∙ map-append letterOf (take n (drop k ts)) (get_or (drop k ts) n 0 ∷ [])
-      ∙ ap (λ (t : ℕ). lettered ts k n ++ letterOf t ∷ []) (get_or-drop k ts n 0)
+      ∙ ap (map letter_of) (take-suc (drop k ts) n 0 (omega (arith, length-drop k ts)))
+      ∙ map-append letter_of (take n (drop k ts)) (get_or (drop k ts) n 0 ∷ [])
+      ∙ ap (λ (t : ℕ). lettered ts k n ++ letter_of t ∷ []) (get_or-drop k ts n 0)
 
   -- one letter more
-  pub letters-next : (o : List ℕ) (j n : ℕ) → k + n < length ts
-      → set (sets o j (lettered ts k n)) (j + n) (letterOf (get_or ts (k + n) 0)) ≡ sets o j (lettered ts k (n + 1))
-  letters-next o j n h =
-      ap (λ (i : ℕ). set (sets o j (lettered ts k n)) (j + i) (letterOf (get_or ts (k + n) 0))) (sym (lettered-long n (omega arith)))
-      ∙ sym (sets-append o (lettered ts k n) (letterOf (get_or ts (k + n) 0) ∷ []) j)
-      ∙ ap (sets o j) (sym (lettered-next n h))
+  pub letters_next : (o : List ℕ) (j n : ℕ) → k + n < length ts
+      → set (sets o j (lettered ts k n)) (j + n) (letter_of (get_or ts (k + n) 0)) ≡ sets o j (lettered ts k (n + 1))
+  letters_next o j n h =
+      ap (λ (i : ℕ). set (sets o j (lettered ts k n)) (j + i) (letter_of (get_or ts (k + n) 0))) (sym (lettered_long n (omega arith)))
+      ∙ sym (sets_append o (lettered ts k n) (letter_of (get_or ts (k + n) 0) ∷ []) j)
+      ∙ ap (sets o j) (sym (lettered_next n h))
 
   -- and the line feed
-  pub letters-end : (o : List ℕ) (j n : ℕ) → k + n ≤ length ts → set (sets o j (lettered ts k n)) (j + n) 10 ≡ sets o j (lettered ts k n ++ 10 ∷ [])
-  letters-end o j n h =
-      ap (λ (i : ℕ). set (sets o j (lettered ts k n)) (j + i) 10) (sym (lettered-long n h)) ∙ sym (sets-append o (lettered ts k n) (10 ∷ []) j)
+  pub letters_end : (o : List ℕ) (j n : ℕ) → k + n ≤ length ts → set (sets o j (lettered ts k n)) (j + n) 10 ≡ sets o j (lettered ts k n ++ 10 ∷ [])
+  letters_end o j n h =
+      ap (λ (i : ℕ). set (sets o j (lettered ts k n)) (j + i) 10) (sym (lettered_long n h)) ∙ sym (sets_append o (lettered ts k n) (10 ∷ []) j)
 
 -- ---- rows
 
 -- row y is among them
 module _ (w h y : ℕ) (l : y < h) where
-  pub row-tiles : y * w + w ≤ w * h
-  row-tiles = omega (arith, mul-le-mul_right {m = suc y} {n = h} w l, suc-mul y w, mul_comm w h)
+  pub row_tiles : y * w + w ≤ w * h
+  row_tiles = omega (arith, mul-le-mul_right {m = suc y} {n = h} w l, suc-mul y w, mul_comm w h)
 
-  pub row-bytes : y * (w + 1) + (w + 1) ≤ h * (w + 1)
-  row-bytes = omega (arith, mul-le-mul_right {m = suc y} {n = h} (w + 1) l, suc-mul y (w + 1))
+  pub row_bytes : y * (w + 1) + (w + 1) ≤ h * (w + 1)
+  row_bytes = omega (arith, mul-le-mul_right {m = suc y} {n = h} (w + 1) l, suc-mul y (w + 1))
 
 module _ (w : ℕ) where
   -- one row more
-  joined-next : (y : ℕ) (ts : List ℕ) → joined (rows_of w (suc y) ts) ≡ joined (rows_of w y ts) ++ (lettered ts (y * w) w ++ 10 ∷ [])
-  joined-next zero ts = ap (λ (k : ℕ). lettered ts k w ++ 10 ∷ []) (sym (zero-mul w))
-  joined-next (suc y) ts =
+  joined_next : (y : ℕ) (ts : List ℕ) → joined (rows_of w (suc y) ts) ≡ joined (rows_of w y ts) ++ (lettered ts (y * w) w ++ 10 ∷ [])
+  joined_next zero ts = ap (λ (k : ℕ). lettered ts k w ++ 10 ∷ []) (sym (zero-mul w))
+  joined_next (suc y) ts =
       let e : w + y * w ≡ suc y * w = omega (arith, suc-mul y w) in
-      ap (λ (r : List ℕ). map letterOf (take w ts) ++ 10 ∷ r) (joined-next y (drop w ts)
-      ∙ ap (λ (r : List ℕ). joined (rows_of w y (drop w ts)) ++ (map letterOf (take w r) ++ 10 ∷ []))
+      ap (λ (r : List ℕ). map letter_of (take w ts) ++ 10 ∷ r) (joined_next y (drop w ts)
+      ∙ ap (λ (r : List ℕ). joined (rows_of w y (drop w ts)) ++ (map letter_of (take w r) ++ 10 ∷ []))
       (drop-drop (y * w) w ts ∙ ap (λ (k : ℕ). drop k ts) e))
-      ∙ sym (append_assoc (map letterOf (take w ts)) (10 ∷ joined (rows_of w y (drop w ts))) (lettered ts (suc y * w) w ++ 10 ∷ []))
+      ∙ sym (append_assoc (map letter_of (take w ts)) (10 ∷ joined (rows_of w y (drop w ts))) (lettered ts (suc y * w) w ++ 10 ∷ []))
 
   -- the row y put after those before it
   pub rows_next : (o ts t u : List ℕ) (j y : ℕ) → y * w ≤ length ts → t ≡ sets o j (joined (rows_of w y ts))
       → u ≡ sets t (j + y * (w + 1)) (lettered ts (y * w) w ++ 10 ∷ []) → u ≡ sets o j (joined (rows_of w (y + 1) ts))
   rows_next o ts t u j y k et eu =
       eu
-      ∙ ap₂ (λ (v : List ℕ) (n : ℕ). sets v (j + n) (lettered ts (y * w) w ++ 10 ∷ [])) et (sym (joined-long w y ts k))
-      ∙ sym (sets-append o (joined (rows_of w y ts)) (lettered ts (y * w) w ++ 10 ∷ []) j)
-      ∙ ap (sets o j) (sym (joined-next y ts))
+      ∙ ap₂ (λ (v : List ℕ) (n : ℕ). sets v (j + n) (lettered ts (y * w) w ++ 10 ∷ [])) et (sym (joined_long w y ts k))
+      ∙ sym (sets_append o (joined (rows_of w y ts)) (lettered ts (y * w) w ++ 10 ∷ []) j)
+      ∙ ap (sets o j) (sym (joined_next y ts))
       ∙ ap (λ (n : ℕ). sets o j (joined (rows_of w n ts))) (sym (add-one y))
 
 -- ---- a text
@@ -108,22 +108,22 @@ module _ (w h par : ℕ) (ts o : List ℕ) (il : IsLevel (lent 1 w h par ts)) (r
   body = joined (rows_of w h ts)
 
   sized : r.len + h * (w + 1) ≡ length (text_of (lent 1 w h par ts))
-  sized = omega (arith, line.size, length-append (firstLine par) (10 ∷ []), text-size (lent 1 w h par ts) il refl)
+  sized = omega (arith, line.size, length-append (first_line par) (10 ∷ []), text_size (lent 1 w h par ts) il refl)
 
   pub rows_fit : r.len + h * (w + 1) ≤ length o
-  rows_fit = omega (arith, sized, text-short (lent 1 w h par ts) il refl)
+  rows_fit = omega (arith, sized, text_short (lent 1 w h par ts) il refl)
 
   long : length body ≡ h * (w + 1)
-  long = joined-long w h ts (omega (arith, il.count, mul_comm w h))
+  long = joined_long w h ts (omega (arith, il.count, mul_comm w h))
 
-  pub text-put : (t u : List ℕ) → t ≡ take (r.len - 0) r.bytes ++ drop (length (take (r.len - 0) r.bytes)) o → u ≡ sets t r.len body
+  pub text_put : (t u : List ℕ) → t ≡ take (r.len - 0) r.bytes ++ drop (length (take (r.len - 0) r.bytes)) o → u ≡ sets t r.len body
       → TextPut (lent 1 w h par ts) o u (r.len + h * (w + 1))
-  text-put t u et eu = record {
+  text_put t u et eu = record {
     size = sized;
     text = eu
-        ∙ ap₂ (λ (v : List ℕ) (n : ℕ). sets v n body) (et ∙ ap (λ (f : List ℕ). f ++ drop (length f) o) (line-part par r line)) line.size
+        ∙ ap₂ (λ (v : List ℕ) (n : ℕ). sets v n body) (et ∙ ap (λ (f : List ℕ). f ++ drop (length f) o) (line_part par r line)) line.size
         ∙ sets_behind o (line_of par) body (omega (arith, line.size, long, rows_fit))
-        ∙ ap₂ (λ (a : List ℕ) (n : ℕ). a ++ drop n o) (append_assoc (firstLine par) (10 ∷ []) body) end;
+        ∙ ap₂ (λ (a : List ℕ) (n : ℕ). a ++ drop n o) (append_assoc (first_line par) (10 ∷ []) body) end;
   }
     where
       end : length (line_of par) + length body ≡ r.len + h * (w + 1)
@@ -132,14 +132,14 @@ module _ (w h par : ℕ) (ts o : List ℕ) (il : IsLevel (lent 1 w h par ts)) (r
 -- ---- the answers of the writer
 
 module _ (l : Level) (old : List ℕ) where
-  none : (c : ℕ) → (c ≡ 0 → ⊥) → First (writingUpto 1 1001 l (length old)) c → TextWritesAs l old old (written.Refused c)
+  none : (c : ℕ) → (c ≡ 0 → ⊥) → First (writing_upto 1 1001 l (length old)) c → TextWritesAs l old old (written.Refused c)
   none c n f = record { code = f; value = λ z. absurd (n z); text = λ z. absurd (n z); kept = λ _. refl }
 
-  pub refused-4 : (1001 ≤ length old → ⊥) → TextWritesAs l old old (written.Refused 4)
-  refused-4 n = none 4 (λ z. omega arith) (stops 0 (writingUpto 1 1001 l (length old)) 4 (n, refl))
+  pub refused_4 : (1001 ≤ length old → ⊥) → TextWritesAs l old old (written.Refused 4)
+  refused_4 n = none 4 (λ z. omega arith) (stops 0 (writing_upto 1 1001 l (length old)) 4 (n, refl))
 
-  pub refused-later : (c : ℕ) → 1001 ≤ length old → (c ≡ 0 → ⊥) → First (asked (λ ask. ask l) (lending 1)) c → TextWritesAs l old old (written.Refused c)
-  refused-later c a n f = none c n (inr (a, f))
+  pub refused_later : (c : ℕ) → 1001 ≤ length old → (c ≡ 0 → ⊥) → First (asked (λ ask. ask l) (lending 1)) c → TextWritesAs l old old (written.Refused c)
+  refused_later c a n f = none c n (inr (a, f))
 
   pub wrote : (new : List ℕ) (c n : ℕ) → 1001 ≤ length old → c ≡ 0 → First (asked (λ ask. ask l) (lending 1)) c → TextPut l old new n
       → TextWritesAs l old new (written.Length n)

@@ -3,21 +3,21 @@ use Rattle.std.specs.Prelude.{◌≡◌, List, ◌++◌, ℕ, ◌*◌, length, d
 use Rattle.rules.specs.Refusal.{First, asked}
 use Rattle.level.specs.Level.{Level, IsLevel}
 use Rattle.record.specs.declared.read.RecordRead.{RecordRead}
-use Rattle.record.specs.Reading.{recordNumbers}
+use Rattle.record.specs.Reading.{record_numbers}
 use Rattle.level.specs.Reading.{returned}
-use Rattle.typed.specs.Text.{levelTyped, text_of}
+use Rattle.typed.specs.Text.{level_typed, text_of}
 use Rattle.typed.specs.Parts.{IsRows}
 use Rattle.text.specs.Reading.{typing}
 
 -- rows judged, and their tiles written where nothing is refused
 pub record RowsReadAs (par : ℕ) (body old new : List ℕ) (a : RecordRead) : Type 0 where
   pub has : IsRows body
-  pub code : First (asked (λ ask. ask (levelTyped par has.rows)) typing) (recordNumbers a).code
-  pub is-level : (recordNumbers a).code ≡ 0 → IsLevel (levelTyped par has.rows)
-  pub says : (recordNumbers a).code ≡ 0 → returned (recordNumbers a) new ≡ levelTyped par has.rows
-  pub past : (recordNumbers a).code ≡ 0
-      → drop ((recordNumbers a).width * (recordNumbers a).height) new ≡ drop ((recordNumbers a).width * (recordNumbers a).height) old
-  pub kept : ((recordNumbers a).code ≡ 0 → ⊥) → new ≡ old
+  pub code : First (asked (λ ask. ask (level_typed par has.rows)) typing) (record_numbers a).code
+  pub is_level : (record_numbers a).code ≡ 0 → IsLevel (level_typed par has.rows)
+  pub says : (record_numbers a).code ≡ 0 → returned (record_numbers a) new ≡ level_typed par has.rows
+  pub past : (record_numbers a).code ≡ 0
+      → drop ((record_numbers a).width * (record_numbers a).height) new ≡ drop ((record_numbers a).width * (record_numbers a).height) old
+  pub kept : ((record_numbers a).code ≡ 0 → ⊥) → new ≡ old
 
 -- the text of a level put in front of a buffer, its length told
 pub record TextPut (l : Level) (old new : List ℕ) (n : ℕ) : Type 0 where

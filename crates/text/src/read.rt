@@ -1,6 +1,6 @@
 // Reading a text: judged first, and its tiles written only where nothing is refused.
 ghost use Rattle.std.specs.Prelude.{◌≤◌, length};
-ghost use Rattle.level.specs.Sizes.{tilesMost};
+ghost use Rattle.level.specs.Sizes.{tiles_most};
 ghost use Rattle.level.specs.Level.{Sized};
 ghost use Rattle.typed.specs.Parts.{Shown};
 ghost use Rattle.text.specs.Reading.{TextReadsAs};
@@ -12,7 +12,7 @@ use record::read::RecordRead;
 
 // Refusal 10 of rows that have the size of a level, and their tiles where it is none. The board is floor until the rows are laid out on it.
 fn judge(body: &[u8], par: usize, w: usize, h: usize, tiles: &mut [u8]) -> RecordRead
-    requires { Shown body.now w h × Sized w h × (par ≤ 1023) × (tilesMost ≤ length tiles.old) }
+    requires { Shown body.now w h × Sized w h × (par ≤ 1023) × (tiles_most ≤ length tiles.old) }
     ensures { RowsReadAs par body.now tiles.old tiles.new result }
 {
     let mut board = [0u8; TILES_MOST];
@@ -33,7 +33,7 @@ fn judge(body: &[u8], par: usize, w: usize, h: usize, tiles: &mut [u8]) -> Recor
 
 // Refusals 12 and 10 of rows, and their tiles where there is none.
 fn accept(body: &[u8], par: usize, w: usize, h: usize, tiles: &mut [u8]) -> RecordRead
-    requires { Shown body.now w h × (par ≤ 1023) × (tilesMost ≤ length tiles.old) }
+    requires { Shown body.now w h × (par ≤ 1023) × (tiles_most ≤ length tiles.old) }
     ensures { RowsReadAs par body.now tiles.old tiles.new result }
 {
     if !lending::sized(w, h) {

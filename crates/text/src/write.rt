@@ -3,8 +3,8 @@ ghost use Rattle.std.specs.Prelude.{◌≡◌, ◌∷◌, [], ◌++◌, map, ◌
 ghost use Rattle.std.proofs.lemmas.List.Edits.{sets};
 ghost use Rattle.level.specs.Level.{IsLevel, AllTiles};
 ghost use Rattle.level.specs.Writing.{lent};
-ghost use Rattle.typed.specs.Letters.{letterOf};
-ghost use Rattle.typed.specs.Text.{joined, rows_of, textMost};
+ghost use Rattle.typed.specs.Letters.{letter_of};
+ghost use Rattle.typed.specs.Text.{joined, rows_of, text_most};
 ghost use Rattle.text.specs.Parts.{TextPut};
 ghost use Rattle.text.specs.Writing.{TextWritesAs};
 
@@ -19,7 +19,7 @@ pub const TEXT_MOST: usize = 1001;
 // The row of w tiles from tile k on in letters, and its line feed, from byte j of the buffer on.
 fn put_letters(w: usize, tiles: &[u8], k: usize, text: &mut [u8], j: usize)
     requires { AllTiles 1 tiles.now × (k + w ≤ length tiles.now) × (j + w + 1 ≤ length text.old) × (length tiles.now ≤ 961) }
-    ensures { text.new ≡ sets text.old j (map letterOf (take w (drop k tiles.now)) ++ 10 ∷ []) }
+    ensures { text.new ≡ sets text.old j (map letter_of (take w (drop k tiles.now)) ++ 10 ∷ []) }
 {
     let mut x: usize = 0;
     while x < w {
@@ -43,7 +43,7 @@ fn put_rows(w: usize, h: usize, tiles: &[u8], text: &mut [u8], j: usize)
 
 // The text of a level, in front of the buffer; its length is returned.
 fn put_text(w: usize, h: usize, par: usize, tiles: &[u8], text: &mut [u8]) -> usize
-    requires { IsLevel (lent 1 w h par tiles.now) × (textMost ≤ length text.old) }
+    requires { IsLevel (lent 1 w h par tiles.now) × (text_most ≤ length text.old) }
     ensures { TextPut (lent 1 w h par tiles.now) text.old text.new result }
 {
     let line = typed::line::line_of(par);

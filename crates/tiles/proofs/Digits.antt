@@ -2,7 +2,7 @@
 use mathlib.Core.Path.{◌≡◌, refl, ap, ◌∙◌}
 use Prim.Native.Nat.{ℕ, zero, suc, ◌+◌, ◌*◌, ◌/◌, ◌%◌, ◌<◌}
 use native.Mathlib.Omega.{arith}
-use Rattle.tiles.specs.Sum.{triplesOf, pairsOf}
+use Rattle.tiles.specs.Sum.{triples_of, pairs_of}
 
 module _ (w : ℕ → ℕ) where
   -- what the lowest n digits add
@@ -14,28 +14,28 @@ module _ (w : ℕ → ℕ) where
   twice zero = 0
   twice (suc n) = suc (suc (twice n))
 
-  pairs-digits : (n v : ℕ) → pairsOf w n v ≡ digits (twice n) v
-  unfolding pairsOf digits twice
-  pairs-digits zero v = refl
-  pairs-digits (suc n) v =
+  pairs_digits : (n v : ℕ) → pairs_of w n v ≡ digits (twice n) v
+  unfolding pairs_of digits twice
+  pairs_digits zero v = refl
+  pairs_digits (suc n) v =
       let first : v % 64 / 8 ≡ v / 8 % 8 = omega arith in
       let last : v % 64 % 8 ≡ v % 8 = omega arith in
       let left : v / 64 ≡ v / 8 / 8 = omega arith in
-      omega (arith, pairs-digits n (v / 64), ap (digits (twice n)) left, ap w first, ap w last)
+      omega (arith, pairs_digits n (v / 64), ap (digits (twice n)) left, ap w first, ap w last)
 
   unfoldable thrice : ℕ → ℕ
   thrice zero = 0
   thrice (suc n) = suc (suc (suc (thrice n)))
 
-  triples-digits : (n v : ℕ) → triplesOf w n v ≡ digits (thrice n) v
-  unfolding triplesOf digits thrice
-  triples-digits zero v = refl
-  triples-digits (suc n) v =
+  triples_digits : (n v : ℕ) → triples_of w n v ≡ digits (thrice n) v
+  unfolding triples_of digits thrice
+  triples_digits zero v = refl
+  triples_digits (suc n) v =
       let first : v % 512 / 64 ≡ v / 8 / 8 % 8 = omega arith in
       let middle : v % 512 / 8 % 8 ≡ v / 8 % 8 = omega arith in
       let last : v % 512 % 8 ≡ v % 8 = omega arith in
       let left : v / 512 ≡ v / 8 / 8 / 8 = omega arith in
-      omega (arith, triples-digits n (v / 512), ap (digits (thrice n)) left, ap w first, ap w middle, ap w last)
+      omega (arith, triples_digits n (v / 512), ap (digits (thrice n)) left, ap w first, ap w middle, ap w last)
 
   unfoldable plus : ℕ → ℕ → ℕ
   plus zero m = m
@@ -46,31 +46,31 @@ module _ (w : ℕ → ℕ) where
   raised zero x = x
   raised (suc n) x = 8 * raised n x
 
-  digits-split : (n m x c : ℕ) → c < raised n 1 → digits (plus n m) (raised n x + c) ≡ digits n c + digits m x
+  digits_split : (n m x c : ℕ) → c < raised n 1 → digits (plus n m) (raised n x + c) ≡ digits n c + digits m x
   unfolding digits raised plus
-  digits-split zero m x c h = let e : x + c ≡ x = omega arith in omega (arith, ap (digits m) e)
-  digits-split (suc n) m x c h =
+  digits_split zero m x c h = let e : x + c ≡ x = omega arith in omega (arith, ap (digits m) e)
+  digits_split (suc n) m x c h =
       let last : (8 * raised n x + c) % 8 ≡ c % 8 = omega arith in
       let left : (8 * raised n x + c) / 8 ≡ raised n x + c / 8 = omega arith in
-      omega (arith, digits-split n m x (c / 8) (omega arith), ap (digits (plus n m)) left, ap w last)
+      omega (arith, digits_split n m x (c / 8) (omega arith), ap (digits (plus n m)) left, ap w last)
 
   -- nine bytes are three groups of eight tiles
-  eight-more : (m x c : ℕ) → c < 16777216 → digits (plus 8 m) (x * 16777216 + c) ≡ digits 8 c + digits m x
+  eight_more : (m x c : ℕ) → c < 16777216 → digits (plus 8 m) (x * 16777216 + c) ≡ digits 8 c + digits m x
   unfolding raised
-  eight-more m x c h =
+  eight_more m x c h =
       let e : x * 16777216 + c ≡ raised 8 x + c = omega arith in
-      ap (digits (plus 8 m)) e ∙ digits-split 8 m x c (omega arith)
+      ap (digits (plus 8 m)) e ∙ digits_split 8 m x c (omega arith)
 
-  pub three-groups : (a b c : ℕ) → b < 16777216 → c < 16777216
-      → triplesOf w 8 ((a * 16777216 + b) * 16777216 + c) ≡ pairsOf w 4 a + pairsOf w 4 b + pairsOf w 4 c
+  pub three_groups : (a b c : ℕ) → b < 16777216 → c < 16777216
+      → triples_of w 8 ((a * 16777216 + b) * 16777216 + c) ≡ pairs_of w 4 a + pairs_of w 4 b + pairs_of w 4 c
   unfolding twice thrice plus
-  three-groups a b c hb hc =
+  three_groups a b c hb hc =
       omega (
         arith,
-        triples-digits 8 ((a * 16777216 + b) * 16777216 + c),
-        eight-more 16 (a * 16777216 + b) c hc,
-        eight-more 8 a b hb,
-        pairs-digits 4 a,
-        pairs-digits 4 b,
-        pairs-digits 4 c,
+        triples_digits 8 ((a * 16777216 + b) * 16777216 + c),
+        eight_more 16 (a * 16777216 + b) c hc,
+        eight_more 8 a b hb,
+        pairs_digits 4 a,
+        pairs_digits 4 b,
+        pairs_digits 4 c,
       )

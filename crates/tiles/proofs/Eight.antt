@@ -5,19 +5,19 @@ use Prim.Native.Nat.{ℕ, zero, suc, ◌+◌, ◌*◌, ◌/◌, ◌%◌, ◌^◌
 use native.Mathlib.Omega.{arith}
 use lib.ListN.{get_or}
 use Rattle.level.specs.Record.{field_at}
-use Rattle.level.proofs.Windows.{within-byte, across}
+use Rattle.level.proofs.Windows.{within_byte, across}
 
 abbrev pub eight : ℕ → ℕ → ℕ → List ℕ
 eight x y z = (x / 32) ∷ (x / 4 % 8) ∷ (x % 4 * 2 + y / 128) ∷ (y / 16 % 8) ∷ (y / 2 % 8) ∷ (y % 2 * 4 + z / 64) ∷ (z / 8 % 8) ∷ (z % 8) ∷ []
 
 -- three bits within a byte
 inside : (bs : List ℕ) (q i k v p : ℕ) → v ≡ get_or bs q 0 → i + 3 + k ≡ 8 → p ≡ 8 * q + i → v / 2 ^ k % 8 ≡ field_at bs p 3
-inside bs q i k v p e h at = ap (λ (x : ℕ). x / 2 ^ k % 8) e ∙ sym (ap (λ (x : ℕ). field_at bs x 3) at ∙ within-byte bs q i 3 k h)
+inside bs q i k v p e h at = ap (λ (x : ℕ). x / 2 ^ k % 8) e ∙ sym (ap (λ (x : ℕ). field_at bs x 3) at ∙ within_byte bs q i 3 k h)
 
 -- the tiles in three bytes
-pub eight-at : (bs : List ℕ) (g x y z : ℕ) → x ≡ get_or bs (3 * g) 0 → y ≡ get_or bs (3 * g + 1) 0 → z ≡ get_or bs (3 * g + 2) 0 → x < 256 → y < 256 → z < 256
+pub eight_at : (bs : List ℕ) (g x y z : ℕ) → x ≡ get_or bs (3 * g) 0 → y ≡ get_or bs (3 * g + 1) 0 → z ≡ get_or bs (3 * g + 2) 0 → x < 256 → y < 256 → z < 256
     → (j : ℕ) → j < 8 → get_or (eight x y z) j 0 ≡ field_at bs (3 * (8 * g + j)) 3
-eight-at bs g x y z ex ey ez hx hy hz = go
+eight_at bs g x y z ex ey ez hx hy hz = go
   where
     go : (j : ℕ) → j < 8 → get_or (eight x y z) j 0 ≡ field_at bs (3 * (8 * g + j)) 3
     go zero h = omega (arith, inside bs (3 * g) 0 5 x (3 * (8 * g + 0)) ex (omega arith) (omega arith))
@@ -36,58 +36,58 @@ eight-at bs g x y z ex ey ez hx hy hz = go
 
 -- digits of three bytes as one number, six bits a step
 module _ (x y z : ℕ) where
-  six-1 : z < 256 → (x * 65536 + y * 256 + z) / 64 ≡ x * 1024 + y * 4 + z / 64
-  six-1 h = omega arith
+  six_1 : z < 256 → (x * 65536 + y * 256 + z) / 64 ≡ x * 1024 + y * 4 + z / 64
+  six_1 h = omega arith
 
-  last-1 : (x * 65536 + y * 256 + z) % 64 % 8 ≡ z % 8
-  last-1 = omega arith
+  last_1 : (x * 65536 + y * 256 + z) % 64 % 8 ≡ z % 8
+  last_1 = omega arith
 
-  first-1 : (x * 65536 + y * 256 + z) % 64 / 8 ≡ z / 8 % 8
-  first-1 = omega arith
+  first_1 : (x * 65536 + y * 256 + z) % 64 / 8 ≡ z / 8 % 8
+  first_1 = omega arith
 
-  six-2 : (k : ℕ) → k < 4 → (x * 1024 + y * 4 + k) / 64 ≡ x * 16 + y / 16
-  six-2 k h = omega arith
+  six_2 : (k : ℕ) → k < 4 → (x * 1024 + y * 4 + k) / 64 ≡ x * 16 + y / 16
+  six_2 k h = omega arith
 
-  last-2 : (k : ℕ) → k < 4 → (x * 1024 + y * 4 + k) % 64 % 8 ≡ y % 2 * 4 + k
-  last-2 k h = omega arith
+  last_2 : (k : ℕ) → k < 4 → (x * 1024 + y * 4 + k) % 64 % 8 ≡ y % 2 * 4 + k
+  last_2 k h = omega arith
 
-  first-2 : (k : ℕ) → k < 4 → (x * 1024 + y * 4 + k) % 64 / 8 ≡ y / 2 % 8
-  first-2 k h = omega arith
+  first_2 : (k : ℕ) → k < 4 → (x * 1024 + y * 4 + k) % 64 / 8 ≡ y / 2 % 8
+  first_2 k h = omega arith
 
-  six-3 : y < 256 → (x * 16 + y / 16) / 64 ≡ x / 4
-  six-3 h = omega arith
+  six_3 : y < 256 → (x * 16 + y / 16) / 64 ≡ x / 4
+  six_3 h = omega arith
 
-  last-3 : (x * 16 + y / 16) % 64 % 8 ≡ y / 16 % 8
-  last-3 = omega arith
+  last_3 : (x * 16 + y / 16) % 64 % 8 ≡ y / 16 % 8
+  last_3 = omega arith
 
-  first-3 : y < 256 → (x * 16 + y / 16) % 64 / 8 ≡ x % 4 * 2 + y / 128
-  first-3 h = omega arith
+  first_3 : y < 256 → (x * 16 + y / 16) % 64 / 8 ≡ x % 4 * 2 + y / 128
+  first_3 h = omega arith
 
-  first-4 : x < 256 → x / 4 % 64 / 8 ≡ x / 32
-  first-4 h = omega arith
+  first_4 : x < 256 → x / 4 % 64 / 8 ≡ x / 32
+  first_4 h = omega arith
 
-  last-4 : x / 4 % 64 % 8 ≡ x / 4 % 8
-  last-4 = omega arith
+  last_4 : x / 4 % 64 % 8 ≡ x / 4 % 8
+  last_4 = omega arith
 
 -- what eight tiles are taken to by F, when they come as four pairs of digits of the number of the three bytes, the last pair first
-pub four-pairs : (F : ℕ → ℕ → ℕ → ℕ → ℕ → ℕ → ℕ → ℕ → ℕ) (x y z : ℕ) → x < 256 → y < 256 → z < 256
+pub four_pairs : (F : ℕ → ℕ → ℕ → ℕ → ℕ → ℕ → ℕ → ℕ → ℕ) (x y z : ℕ) → x < 256 → y < 256 → z < 256
     → F ((x * 65536 + y * 256 + z) % 64 / 8) ((x * 65536 + y * 256 + z) % 64 % 8)
     ((x * 65536 + y * 256 + z) / 64 % 64 / 8) ((x * 65536 + y * 256 + z) / 64 % 64 % 8)
     ((x * 65536 + y * 256 + z) / 64 / 64 % 64 / 8) ((x * 65536 + y * 256 + z) / 64 / 64 % 64 % 8)
     ((x * 65536 + y * 256 + z) / 64 / 64 / 64 % 64 / 8) ((x * 65536 + y * 256 + z) / 64 / 64 / 64 % 64 % 8)
     ≡ F (z / 8 % 8) (z % 8) (y / 2 % 8) (y % 2 * 4 + z / 64) (x % 4 * 2 + y / 128) (y / 16 % 8) (x / 32) (x / 4 % 8)
-four-pairs F x y z hx hy hz =
+four_pairs F x y z hx hy hz =
     let k : z / 64 < 4 = omega arith in
     rw (
-      first-1 x y z,
-      last-1 x y z,
-      six-1 x y z hz,
-      first-2 x y z (z / 64) k,
-      last-2 x y z (z / 64) k,
-      six-2 x y z (z / 64) k,
-      first-3 x y z hy,
-      last-3 x y z,
-      six-3 x y z hy,
-      first-4 x y z hx,
-      last-4 x y z,
+      first_1 x y z,
+      last_1 x y z,
+      six_1 x y z hz,
+      first_2 x y z (z / 64) k,
+      last_2 x y z (z / 64) k,
+      six_2 x y z (z / 64) k,
+      first_3 x y z hy,
+      last_3 x y z,
+      six_3 x y z hy,
+      first_4 x y z hx,
+      last_4 x y z,
     )

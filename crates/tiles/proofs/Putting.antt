@@ -7,14 +7,14 @@ use native.Mathlib.Numerals.{unary_clauses}
 use native.Mathlib.Omega.{arith}
 use lib.ListN.{length, get_or, take, drop, set, length-append, length-drop, get_or-append}
 use lib.Seq.{sets, sets-eq, get_or-take, get_or-drop, get_or-append-add, length-take-le, ext_get_or, get_or-set_same, get_or-set_other}
-use Rattle.rules.proofs.Numbers.{lt-or-ge}
+use Rattle.rules.proofs.Numbers.{lt_or_ge}
 use Rattle.account.specs.Lists.{list_of}
-use Rattle.account.proofs.Lists.{length-listOf, getD-listOf}
+use Rattle.account.proofs.Lists.{length_list_of, get_d_list_of}
 use Rattle.level.specs.Record.{field_at}
-use Rattle.spreads.specs.Spread.{first_of, second_of, thirdOf}
-use Rattle.tiles.specs.Part.{tilesFrom, threeAt}
+use Rattle.spreads.specs.Spread.{first_of, second_of, third_of}
+use Rattle.tiles.specs.Part.{tiles_from, three_at}
 use Rattle.tiles.specs.Put.{spread_of, byte_of, Puts}
-use Rattle.tiles.proofs.Eight.{eight, eight-at, four-pairs}
+use Rattle.tiles.proofs.Eight.{eight, eight_at, four_pairs}
 
 -- ---- pairs spread
 
@@ -23,24 +23,24 @@ unfoldable pub limit : ℕ → ℕ
 limit zero = 18446744073709551616
 limit (suc n) = limit n / 65536
 
-pub limit-top : (n : ℕ) → limit n ≤ 18446744073709551616
+pub limit_top : (n : ℕ) → limit n ≤ 18446744073709551616
 unfolding limit
-limit-top zero = omega arith
-limit-top (suc n) = omega (arith, limit-top n)
+limit_top zero = omega arith
+limit_top (suc n) = omega (arith, limit_top n)
 
-pub limit-next : (n : ℕ) → 0 < n → limit n ≡ limit (n - 1) / 65536
+pub limit_next : (n : ℕ) → 0 < n → limit n ≡ limit (n - 1) / 65536
 unfolding limit
-limit-next zero h = absurd (omega arith)
-limit-next (suc n) h = let e : suc n - 1 ≡ n = omega arith in ap (λ (k : ℕ). limit k / 65536) (sym e)
+limit_next zero h = absurd (omega arith)
+limit_next (suc n) h = let e : suc n - 1 ≡ n = omega arith in ap (λ (k : ℕ). limit k / 65536) (sym e)
 
-pub limit-4 : 0 < limit 4
+pub limit_4 : 0 < limit 4
 unfolding limit
-limit-4 = omega arith
+limit_4 = omega arith
 
-pub spread-next : (n u s t : ℕ) → 0 < n → t ≡ u % 64 / 8 + 256 * (u % 64 % 8) → spread_of n u s ≡ spread_of (n - 1) (u / 64) (s * 65536 + t)
+pub spread_next : (n u s t : ℕ) → 0 < n → t ≡ u % 64 / 8 + 256 * (u % 64 % 8) → spread_of n u s ≡ spread_of (n - 1) (u / 64) (s * 65536 + t)
 unfolding spread_of
-spread-next zero u s t h e = absurd (omega arith)
-spread-next (suc n) u s t h e = let z : suc n - 1 ≡ n = omega arith in rw (z, e)
+spread_next zero u s t h e = absurd (omega arith)
+spread_next (suc n) u s t h e = let z : suc n - 1 ≡ n = omega arith in rw (z, e)
 
 pub spread_none : (n u s : ℕ) → n ≡ 0 → spread_of n u s ≡ s
 unfolding spread_of
@@ -56,54 +56,54 @@ abbrev Bytes : List ℕ → Type 0
 Bytes [] = Unit {0}
 Bytes (d ∷ ds) = (d < 256) × Bytes ds
 
-byte-zero : (j : ℕ) → byte_of j 0 ≡ 0
+byte_zero : (j : ℕ) → byte_of j 0 ≡ 0
 unfolding byte_of
-byte-zero zero = refl
-byte-zero (suc j) = byte-zero j
+byte_zero zero = refl
+byte_zero (suc j) = byte_zero j
 
-byte-number : (ds : List ℕ) → Bytes ds → (j : ℕ) → byte_of j (number_of ds) ≡ get_or ds j 0
+byte_number : (ds : List ℕ) → Bytes ds → (j : ℕ) → byte_of j (number_of ds) ≡ get_or ds j 0
 unfolding byte_of number_of
-byte-number [] b j = byte-zero j
-byte-number (d ∷ ds) (h, b) zero = omega arith
-byte-number (d ∷ ds) (h, b) (suc j) = let e : (d + 256 * number_of ds) / 256 ≡ number_of ds = omega arith in ap (byte_of j) e ∙ byte-number ds b j
+byte_number [] b j = byte_zero j
+byte_number (d ∷ ds) (h, b) zero = omega arith
+byte_number (d ∷ ds) (h, b) (suc j) = let e : (d + 256 * number_of ds) / 256 ≡ number_of ds = omega arith in ap (byte_of j) e ∙ byte_number ds b j
 
 -- the tiles of three bytes, spread
-spread-three : (x y z : ℕ) → x < 256 → y < 256 → z < 256 → spread_of 4 (x * 65536 + y * 256 + z) 0 ≡ number_of (eight x y z)
+spread_three : (x y z : ℕ) → x < 256 → y < 256 → z < 256 → spread_of 4 (x * 65536 + y * 256 + z) 0 ≡ number_of (eight x y z)
 unfolding spread_of number_of
-spread-three x y z hx hy hz =
-    four-pairs (λ a b c d e f g h. (((0 * 65536 + (a + 256 * b)) * 65536 + (c + 256 * d)) * 65536 + (e + 256 * f)) * 65536 + (g + 256 * h)) x y z hx hy hz
+spread_three x y z hx hy hz =
+    four_pairs (λ a b c d e f g h. (((0 * 65536 + (a + 256 * b)) * 65536 + (c + 256 * d)) * 65536 + (e + 256 * f)) * 65536 + (g + 256 * h)) x y z hx hy hz
     ∙ omega arith
 
 -- the same from what each byte has of them
-pub spread-sum : (x y z : ℕ) → x < 256 → y < 256 → z < 256 → spread_of 4 (x * 65536 + y * 256 + z) 0 ≡ first_of x + second_of y + thirdOf z
+pub spread_sum : (x y z : ℕ) → x < 256 → y < 256 → z < 256 → spread_of 4 (x * 65536 + y * 256 + z) 0 ≡ first_of x + second_of y + third_of z
 unfolding number_of
-spread-sum x y z hx hy hz = spread-three x y z hx hy hz ∙ omega arith
+spread_sum x y z hx hy hz = spread_three x y z hx hy hz ∙ omega arith
 
 first_small : (x a : ℕ) → x < 256 → a ≡ first_of x → a < 1048576
 first_small x a h e = omega arith
 
-second-small : (y b : ℕ) → y < 256 → b ≡ second_of y → b < 281474976710656
-second-small y b h e = omega arith
+second_small : (y b : ℕ) → y < 256 → b ≡ second_of y → b < 281474976710656
+second_small y b h e = omega arith
 
-third-small : (z c : ℕ) → z < 256 → c ≡ thirdOf z → c < 576460752303423488
-third-small z c h e = omega arith
+third_small : (z c : ℕ) → z < 256 → c ≡ third_of z → c < 576460752303423488
+third_small z c h e = omega arith
 
 pub pair_small : (x y a b : ℕ) → x < 256 → y < 256 → a ≡ first_of x → b ≡ second_of y → a + b < 562949953421312
-pair_small x y a b hx hy ea eb = two a b (first_small x a hx ea) (second-small y b hy eb)
+pair_small x y a b hx hy ea eb = two a b (first_small x a hx ea) (second_small y b hy eb)
   where
     two : (a b : ℕ) → a < 1048576 → b < 281474976710656 → a + b < 562949953421312
     two a b ha hb = omega arith
 
-pub sum-small : (x y z a b c : ℕ) → x < 256 → y < 256 → z < 256 → a ≡ first_of x → b ≡ second_of y → c ≡ thirdOf z → a + b + c < 18446744073709551616
-sum-small x y z a b c hx hy hz ea eb ec = three (a + b) c (pair_small x y a b hx hy ea eb) (third-small z c hz ec)
+pub sum_small : (x y z a b c : ℕ) → x < 256 → y < 256 → z < 256 → a ≡ first_of x → b ≡ second_of y → c ≡ third_of z → a + b + c < 18446744073709551616
+sum_small x y z a b c hx hy hz ea eb ec = three (a + b) c (pair_small x y a b hx hy ea eb) (third_small z c hz ec)
   where
     three : (d c : ℕ) → d < 562949953421312 → c < 576460752303423488 → d + c < 18446744073709551616
     three d c hd hc = omega arith
 
-spread-byte : (x y z : ℕ) → x < 256 → y < 256 → z < 256 → (j : ℕ) → byte_of j (spread_of 4 (x * 65536 + y * 256 + z) 0) ≡ get_or (eight x y z) j 0
-spread-byte x y z hx hy hz j =
-    ap (byte_of j) (spread-three x y z hx hy hz)
-    ∙ byte-number (eight x y z) (omega arith, (omega arith, (omega arith, (omega arith, (omega arith, (omega arith, (omega arith, (omega arith, tt)))))))) j
+spread_byte : (x y z : ℕ) → x < 256 → y < 256 → z < 256 → (j : ℕ) → byte_of j (spread_of 4 (x * 65536 + y * 256 + z) 0) ≡ get_or (eight x y z) j 0
+spread_byte x y z hx hy hz j =
+    ap (byte_of j) (spread_three x y z hx hy hz)
+    ∙ byte_number (eight x y z) (omega arith, (omega arith, (omega arith, (omega arith, (omega arith, (omega arith, (omega arith, (omega arith, tt)))))))) j
 
 -- ---- eight bytes put
 
@@ -120,22 +120,22 @@ module _ (l vs : List ℕ) (k : ℕ) (room : k + length vs ≤ length l) where
   fits : length (take k l ++ vs) ≡ k + length vs
   fits = length-append (take k l) vs ∙ ap (λ (n : ℕ). n + length vs) front
 
-  sets-before : (i : ℕ) → i < k → get_or (sets l k vs) i 0 ≡ get_or l i 0
-  sets-before i h =
+  sets_before : (i : ℕ) → i < k → get_or (sets l k vs) i 0 ≡ get_or l i 0
+  sets_before i h =
       ap (λ (s : List ℕ). get_or s i 0) (sets-eq vs l k room)
       ∙ get_or-append (take k l ++ vs) (drop (k + length vs) l) 0 i (omega (arith, fits))
       ∙ get_or-append (take k l) vs 0 i (omega (arith, front))
       ∙ get_or-take k l i 0 h
 
-  pub sets-at : (j : ℕ) → j < length vs → get_or (sets l k vs) (k + j) 0 ≡ get_or vs j 0
-  sets-at j h =
+  pub sets_at : (j : ℕ) → j < length vs → get_or (sets l k vs) (k + j) 0 ≡ get_or vs j 0
+  sets_at j h =
       ap (λ (s : List ℕ). get_or s (k + j) 0) (sets-eq vs l k room)
       ∙ get_or-append (take k l ++ vs) (drop (k + length vs) l) 0 (k + j) (omega (arith, fits))
       ∙ ap (λ (n : ℕ). get_or (take k l ++ vs) (n + j) 0) (sym front)
       ∙ get_or-append-add (take k l) vs j 0
 
-  pub sets-past : (i : ℕ) → k + length vs ≤ i → get_or (sets l k vs) i 0 ≡ get_or l i 0
-  sets-past i h =
+  pub sets_past : (i : ℕ) → k + length vs ≤ i → get_or (sets l k vs) i 0 ≡ get_or l i 0
+  sets_past i h =
       let e : k + length vs + (i - (k + length vs)) ≡ i = omega arith in
       subst (λ (q : ℕ). get_or (sets l k vs) q 0 ≡ get_or l q 0) e (at (i - (k + length vs)))
     where
@@ -146,20 +146,20 @@ module _ (l vs : List ℕ) (k : ℕ) (room : k + length vs ≤ length l) where
           ∙ get_or-append-add (take k l ++ vs) (drop (k + length vs) l) d 0
           ∙ get_or-drop (k + length vs) l d 0
 
-run-puts : (l vs : List ℕ) (k w : ℕ) → length vs ≡ 8 → k + length vs ≤ length l → ((j : ℕ) → j < 8 → get_or vs j 0 ≡ byte_of j w)
+run_puts : (l vs : List ℕ) (k w : ℕ) → length vs ≡ 8 → k + length vs ≤ length l → ((j : ℕ) → j < 8 → get_or vs j 0 ≡ byte_of j w)
     → Puts l (sets l k vs) k (k + 8) w
-run-puts l vs k w n room at = record {
-  put = λ j h r. sets-at l vs k room j (omega (arith, n)) ∙ at j h;
-  before = λ i h. sets-before l vs k room i h;
-  past = λ i h. sets-past l vs k room i (omega (arith, n));
+run_puts l vs k w n room at = record {
+  put = λ j h r. sets_at l vs k room j (omega (arith, n)) ∙ at j h;
+  before = λ i h. sets_before l vs k room i h;
+  past = λ i h. sets_past l vs k room i (omega (arith, n));
 }
 
 -- eight stores, each of its byte
-pub word-puts : (l : List ℕ) (k w a b c d e f g h : ℕ) → k + 8 ≤ length l
+pub word_puts : (l : List ℕ) (k w a b c d e f g h : ℕ) → k + 8 ≤ length l
     → a ≡ byte_of 0 w → b ≡ byte_of 1 w → c ≡ byte_of 2 w → d ≡ byte_of 3 w → e ≡ byte_of 4 w → f ≡ byte_of 5 w → g ≡ byte_of 6 w → h ≡ byte_of 7 w
     → Puts l (set (set (set (set (set (set (set (set l k a) (k + 1) b) (k + 2) c) (k + 3) d) (k + 4) e) (k + 5) f) (k + 6) g) (k + 7) h) k (k + 8) w
-word-puts l k w a b c d e f g h room ea eb ec ed ee ef eg eh =
-    subst (λ (x : List ℕ). Puts l x k (k + 8) w) (sym (stored l k a b c d e f g h)) (run-puts l (a ∷ b ∷ c ∷ d ∷ e ∷ f ∷ g ∷ h ∷ []) k w refl room at)
+word_puts l k w a b c d e f g h room ea eb ec ed ee ef eg eh =
+    subst (λ (x : List ℕ). Puts l x k (k + 8) w) (sym (stored l k a b c d e f g h)) (run_puts l (a ∷ b ∷ c ∷ d ∷ e ∷ f ∷ g ∷ h ∷ []) k w refl room at)
   where
     at : (j : ℕ) → j < 8 → get_or (a ∷ b ∷ c ∷ d ∷ e ∷ f ∷ g ∷ h ∷ []) j 0 ≡ byte_of j w
     at zero m = ea
@@ -175,9 +175,9 @@ word-puts l k w a b c d e f g h room ea eb ec ed ee ef eg eh =
 -- ---- bytes put one by one
 
 module _ (old out : List ℕ) (k i w u : ℕ) (from : k ≤ i) (room : i < length out) where
-  pub left-next : ((j : ℕ) → byte_of j u ≡ byte_of (i - k + j) w) → (j : ℕ) → byte_of j (u / 256) ≡ byte_of (i + 1 - k + j) w
+  pub left_next : ((j : ℕ) → byte_of j u ≡ byte_of (i - k + j) w) → (j : ℕ) → byte_of j (u / 256) ≡ byte_of (i + 1 - k + j) w
   unfolding byte_of
-  left-next h j = let e : i - k + suc j ≡ i + 1 - k + j = omega arith in h (suc j) ∙ ap (λ (q : ℕ). byte_of q w) e
+  left_next h j = let e : i - k + suc j ≡ i + 1 - k + j = omega arith in h (suc j) ∙ ap (λ (q : ℕ). byte_of q w) e
 
   pub put_next : ((j : ℕ) → byte_of j u ≡ byte_of (i - k + j) w) → ((j : ℕ) → k + j < i → get_or out (k + j) 0 ≡ byte_of j w)
       → (j : ℕ) → k + j < i + 1 → get_or (set out i (u % 256)) (k + j) 0 ≡ byte_of j w
@@ -185,10 +185,10 @@ module _ (old out : List ℕ) (k i w u : ℕ) (from : k ≤ i) (room : i < lengt
   put_next h p j l = ⊎_elim (λ a. get_or-set_other out i (k + j) (u % 256) 0 (λ e. omega arith) ∙ p j a) (λ b.
       let e : k + j ≡ i = omega arith in
       let d : i - k + 0 ≡ j = omega arith in
-      ap (λ (q : ℕ). get_or (set out i (u % 256)) q 0) e ∙ get_or-set_same out i (u % 256) 0 room ∙ h 0 ∙ ap (λ (q : ℕ). byte_of q w) d) (lt-or-ge (k + j) i)
+      ap (λ (q : ℕ). get_or (set out i (u % 256)) q 0) e ∙ get_or-set_same out i (u % 256) 0 room ∙ h 0 ∙ ap (λ (q : ℕ). byte_of q w) d) (lt_or_ge (k + j) i)
 
-  pub before-next : ((q : ℕ) → q < k → get_or out q 0 ≡ get_or old q 0) → (q : ℕ) → q < k → get_or (set out i (u % 256)) q 0 ≡ get_or old q 0
-  before-next h q l = get_or-set_other out i q (u % 256) 0 (λ e. omega arith) ∙ h q l
+  pub before_next : ((q : ℕ) → q < k → get_or out q 0 ≡ get_or old q 0) → (q : ℕ) → q < k → get_or (set out i (u % 256)) q 0 ≡ get_or old q 0
+  before_next h q l = get_or-set_other out i q (u % 256) 0 (λ e. omega arith) ∙ h q l
 
   pub past_next : ((q : ℕ) → i ≤ q → get_or out q 0 ≡ get_or old q 0) → (q : ℕ) → i + 1 ≤ q → get_or (set out i (u % 256)) q 0 ≡ get_or old q 0
   past_next h q l = get_or-set_other out i q (u % 256) 0 (λ e. omega arith) ∙ h q (omega arith)
@@ -196,44 +196,44 @@ module _ (old out : List ℕ) (k i w u : ℕ) (from : k ≤ i) (room : i < lengt
 -- ---- the tiles
 
 -- eight tiles more
-tile-byte : (part : List ℕ) (g : ℕ) → ((q : ℕ) → get_or part q 0 < 256) → (j : ℕ) → j < 8
-    → byte_of j (spread_of 4 (threeAt part g) 0) ≡ field_at part (3 * (8 * g + j)) 3
-tile-byte part g by j h =
+tile_byte : (part : List ℕ) (g : ℕ) → ((q : ℕ) → get_or part q 0 < 256) → (j : ℕ) → j < 8
+    → byte_of j (spread_of 4 (three_at part g) 0) ≡ field_at part (3 * (8 * g + j)) 3
+tile_byte part g by j h =
     let x = get_or part (3 * g) 0 in
     let y = get_or part (3 * g + 1) 0 in
     let z = get_or part (3 * g + 2) 0 in
-    spread-byte x y z (by (3 * g)) (by (3 * g + 1)) (by (3 * g + 2)) j
-    ∙ eight-at part g x y z refl refl refl (by (3 * g)) (by (3 * g + 1)) (by (3 * g + 2)) j h
+    spread_byte x y z (by (3 * g)) (by (3 * g + 1)) (by (3 * g + 2)) j
+    ∙ eight_at part g x y z refl refl refl (by (3 * g)) (by (3 * g + 1)) (by (3 * g + 2)) j h
 
-pub tiles-next : (part old new : List ℕ) (g m w : ℕ) → ((q : ℕ) → get_or part q 0 < 256)
-    → w ≡ spread_of 4 (threeAt part g) 0 → Puts old new (8 * g) m w
+pub tiles_next : (part old new : List ℕ) (g m w : ℕ) → ((q : ℕ) → get_or part q 0 < 256)
+    → w ≡ spread_of 4 (three_at part g) 0 → Puts old new (8 * g) m w
     → ((i : ℕ) → i < 8 * g → i < m → get_or old i 0 ≡ field_at part (3 * i) 3)
     → (i : ℕ) → i < 8 * (g + 1) → i < m → get_or new i 0 ≡ field_at part (3 * i) 3
-tiles-next part old new g m w by ew p h i a b =
+tiles_next part old new g m w by ew p h i a b =
     ⊎_elim (λ l. p.before i l ∙ h i l b) (λ l.
     let e : 8 * g + (i - 8 * g) ≡ i = omega arith in
     subst (λ (q : ℕ). get_or new q 0 ≡ field_at part (3 * q) 3) e
-    (p.put (i - 8 * g) (omega arith) (omega arith) ∙ ap (byte_of (i - 8 * g)) ew ∙ tile-byte part g by (i - 8 * g) (omega arith)))
-    (lt-or-ge i (8 * g))
+    (p.put (i - 8 * g) (omega arith) (omega arith) ∙ ap (byte_of (i - 8 * g)) ew ∙ tile_byte part g by (i - 8 * g) (omega arith)))
+    (lt_or_ge i (8 * g))
 
 -- the first elements of a list given one by one, and the rest as it was
 pub filled : (f : ℕ → ℕ) (old new : List ℕ) (m : ℕ) → m ≤ length old → length new ≡ length old → ((i : ℕ) → i < m → get_or new i 0 ≡ f i)
     → ((i : ℕ) → m ≤ i → get_or new i 0 ≡ get_or old i 0) → new ≡ list_of m f ++ drop m old
 filled f old new m room same first past =
     ext_get_or 0 new (list_of m f ++ drop m old)
-    (omega (arith, length-append (list_of m f) (drop m old), length-drop m old, length-listOf m f)) (λ i l. ⊎_elim (λ a.
-    first i a ∙ sym (getD-listOf m f i a) ∙ sym (get_or-append (list_of m f) (drop m old) 0 i (omega (arith, length-listOf m f)))) (λ b.
-    let e : m + (i - m) ≡ i = omega arith in subst (λ (q : ℕ). get_or new q 0 ≡ get_or (list_of m f ++ drop m old) q 0) e (at (i - m))) (lt-or-ge i m))
+    (omega (arith, length-append (list_of m f) (drop m old), length-drop m old, length_list_of m f)) (λ i l. ⊎_elim (λ a.
+    first i a ∙ sym (get_d_list_of m f i a) ∙ sym (get_or-append (list_of m f) (drop m old) 0 i (omega (arith, length_list_of m f)))) (λ b.
+    let e : m + (i - m) ≡ i = omega arith in subst (λ (q : ℕ). get_or new q 0 ≡ get_or (list_of m f ++ drop m old) q 0) e (at (i - m))) (lt_or_ge i m))
   where
     at : (d : ℕ) → get_or new (m + d) 0 ≡ get_or (list_of m f ++ drop m old) (m + d) 0
     at d =
         past (m + d) (omega arith)
         ∙ sym (get_or-drop m old d 0)
         ∙ sym (get_or-append-add (list_of m f) (drop m old) d 0)
-        ∙ ap (λ (n : ℕ). get_or (list_of m f ++ drop m old) (n + d) 0) (length-listOf m f)
+        ∙ ap (λ (n : ℕ). get_or (list_of m f ++ drop m old) (n + d) 0) (length_list_of m f)
 
 -- all tiles of a part
-pub tiles-put : (part old new : List ℕ) (m : ℕ) → m ≤ length old → length new ≡ length old → ((i : ℕ) → i < m → get_or new i 0 ≡ field_at part (3 * i) 3)
-    → ((i : ℕ) → m ≤ i → get_or new i 0 ≡ get_or old i 0) → new ≡ tilesFrom part m ++ drop m old
-unfolding tilesFrom
-tiles-put part old new m room same tile past = filled (λ i. field_at part (3 * i) 3) old new m room same tile past
+pub tiles_put : (part old new : List ℕ) (m : ℕ) → m ≤ length old → length new ≡ length old → ((i : ℕ) → i < m → get_or new i 0 ≡ field_at part (3 * i) 3)
+    → ((i : ℕ) → m ≤ i → get_or new i 0 ≡ get_or old i 0) → new ≡ tiles_from part m ++ drop m old
+unfolding tiles_from
+tiles_put part old new m room same tile past = filled (λ i. field_at part (3 * i) 3) old new m room same tile past

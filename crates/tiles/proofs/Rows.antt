@@ -7,20 +7,20 @@ use native.Mathlib.Omega.{arith}
 use lib.ListN.{get_or}
 use borrow.Author.Tests.{lt-ltb, le-ltb}
 use Rattle.level.specs.Tile.{adds}
-use Rattle.rules.proofs.Numbers.{lt-or-ge}
+use Rattle.rules.proofs.Numbers.{lt_or_ge}
 use Rattle.tiles.specs.Sum.{packed, weighed}
 use Rattle.tiles.specs.Rows.{Packs}
 
 -- rows are small, and a crate off its goal is a crate
-pub adds-small : (t : ℕ) → ((adds t).player ≤ 1) × ((adds t).crate' ≤ 1) × ((adds t).goal ≤ 1) × ((adds t).off ≤ (adds t).crate')
-adds-small zero = (omega arith, omega arith, omega arith, omega arith)
-adds-small (suc zero) = (omega arith, omega arith, omega arith, omega arith)
-adds-small (suc (suc zero)) = (omega arith, omega arith, omega arith, omega arith)
-adds-small (suc (suc (suc zero))) = (omega arith, omega arith, omega arith, omega arith)
-adds-small (suc (suc (suc (suc zero)))) = (omega arith, omega arith, omega arith, omega arith)
-adds-small (suc (suc (suc (suc (suc zero))))) = (omega arith, omega arith, omega arith, omega arith)
-adds-small (suc (suc (suc (suc (suc (suc zero)))))) = (omega arith, omega arith, omega arith, omega arith)
-adds-small (suc (suc (suc (suc (suc (suc (suc c))))))) = (omega arith, omega arith, omega arith, omega arith)
+pub adds_small : (t : ℕ) → ((adds t).player ≤ 1) × ((adds t).crate' ≤ 1) × ((adds t).goal ≤ 1) × ((adds t).off ≤ (adds t).crate')
+adds_small zero = (omega arith, omega arith, omega arith, omega arith)
+adds_small (suc zero) = (omega arith, omega arith, omega arith, omega arith)
+adds_small (suc (suc zero)) = (omega arith, omega arith, omega arith, omega arith)
+adds_small (suc (suc (suc zero))) = (omega arith, omega arith, omega arith, omega arith)
+adds_small (suc (suc (suc (suc zero)))) = (omega arith, omega arith, omega arith, omega arith)
+adds_small (suc (suc (suc (suc (suc zero))))) = (omega arith, omega arith, omega arith, omega arith)
+adds_small (suc (suc (suc (suc (suc (suc zero)))))) = (omega arith, omega arith, omega arith, omega arith)
+adds_small (suc (suc (suc (suc (suc (suc (suc c))))))) = (omega arith, omega arith, omega arith, omega arith)
 
 -- what is no tile code adds nothing
 pub adds_none : (t : ℕ) → 7 ≤ t → ((adds t).player ≡ 0) × ((adds t).crate' ≡ 0) × ((adds t).goal ≡ 0) × ((adds t).off ≡ 0)
@@ -33,22 +33,22 @@ adds_none (suc (suc (suc (suc (suc zero))))) h = absurd (omega arith)
 adds_none (suc (suc (suc (suc (suc (suc zero)))))) h = absurd (omega arith)
 adds_none (suc (suc (suc (suc (suc (suc (suc c))))))) h = (refl, refl, refl, refl)
 
-pub weighed-in : (t : ℕ) → t < 7 → weighed t ≡ packed (adds t)
-weighed-in t h = rw (lt-ltb t 7 h)
+pub weighed_in : (t : ℕ) → t < 7 → weighed t ≡ packed (adds t)
+weighed_in t h = rw (lt-ltb t 7 h)
 
-pub weighed-pit : (t : ℕ) → 7 ≤ t → t < 8 → weighed t ≡ 1099511627776
-weighed-pit t h k = rw (le-ltb t 7 h, lt-ltb t 8 k)
+pub weighed_pit : (t : ℕ) → 7 ≤ t → t < 8 → weighed t ≡ 1099511627776
+weighed_pit t h k = rw (le-ltb t 7 h, lt-ltb t 8 k)
 
-pub weighed-out : (t : ℕ) → 8 ≤ t → weighed t ≡ 1125899906842624
-weighed-out t h = let k : 7 ≤ t = omega arith in rw (le-ltb t 7 k, le-ltb t 8 h)
+pub weighed_out : (t : ℕ) → 8 ≤ t → weighed t ≡ 1125899906842624
+weighed_out t h = let k : 7 ≤ t = omega arith in rw (le-ltb t 7 k, le-ltb t 8 h)
 
-pub weighed-small : (t : ℕ) → weighed t ≤ 1125899906842624
-weighed-small t = go (lt-or-ge t 7) (lt-or-ge t 8)
+pub weighed_small : (t : ℕ) → weighed t ≤ 1125899906842624
+weighed_small t = go (lt_or_ge t 7) (lt_or_ge t 8)
   where
     go : (t < 7) ⊎ (7 ≤ t) → (t < 8) ⊎ (8 ≤ t) → weighed t ≤ 1125899906842624
-    go (inl h) k = omega (arith, weighed-in t h, adds-small t)
-    go (inr h) (inl k) = omega (arith, weighed-pit t h k)
-    go (inr h) (inr k) = omega (arith, weighed-out t k)
+    go (inl h) k = omega (arith, weighed_in t h, adds_small t)
+    go (inr h) (inl k) = omega (arith, weighed_pit t h k)
+    go (inr h) (inr k) = omega (arith, weighed_out t k)
 
 pub packs : (a b c d e f g h : ℕ) → a ≡ packed (adds 0) → b ≡ packed (adds 1) → c ≡ packed (adds 2) → d ≡ packed (adds 3) → e ≡ packed (adds 4)
     → f ≡ packed (adds 5) → g ≡ packed (adds 6) → h ≡ packed (adds 7) → Packs (a ∷ b ∷ c ∷ d ∷ e ∷ f ∷ g ∷ (h + 1099511627776) ∷ 1125899906842624 ∷ [])

@@ -13,10 +13,10 @@ join k a b h l =
     ap (bit_or (a * 2 ^ (8 + k))) (shl_exact 8 k 64 l h) ∙ or_shifted a (8 + k) (b * 2 ^ k) (shl_lt 8 k l)
     ∙ ap (λ (x : ℕ). a * x + b * 2 ^ k) (pow-add 2 8 k) ∙ ap (λ (x : ℕ). x + b * 2 ^ k) (sym (mul_assoc a 256 (2 ^ k))) ∙ sym (add-mul (a * 256) b (2 ^ k))
 
-pub or-eight : (a b c d e f g h : ℕ) → a < 256 → b < 256 → c < 256 → d < 256 → e < 256 → f < 256 → g < 256 → h < 256
+pub or_eight : (a b c d e f g h : ℕ) → a < 256 → b < 256 → c < 256 → d < 256 → e < 256 → f < 256 → g < 256 → h < 256
     → bit_or (bit_or (bit_or (bit_or (bit_or (bit_or (bit_or (a * 2 ^ 56 % 2 ^ 64) (b * 2 ^ 48 % 2 ^ 64)) (c * 2 ^ 40 % 2 ^ 64)) (d * 2 ^ 32 % 2 ^ 64))
     (e * 2 ^ 24 % 2 ^ 64)) (f * 2 ^ 16 % 2 ^ 64)) (g * 2 ^ 8 % 2 ^ 64)) h ≡ word_of a b c d e f g h
-or-eight a b c d e f g h ha hb hc hd he hf hg hh =
+or_eight a b c d e f g h ha hb hc hd he hf hg hh =
     rw (
       shl_exact 8 56 64 ha (omega arith),
       join 48 a b (omega arith) hb,

@@ -4,12 +4,12 @@ use Rattle.account.specs.Lists.{list_of}
 use Rattle.level.specs.Record.{field_at}
 
 -- the first m tiles
-unfoldable pub tilesFrom : List ℕ → ℕ → List ℕ
+unfoldable pub tiles_from : List ℕ → ℕ → List ℕ
 unfolding list_of
-tilesFrom part m = list_of m (λ i. field_at part (3 * i) 3)
+tiles_from part m = list_of m (λ i. field_at part (3 * i) 3)
 
 -- ---- parts
 
 -- three bytes from byte 3 g on as one number, zero past the end
-abbrev pub threeAt : List ℕ → ℕ → ℕ
-threeAt part g = get_or part (3 * g) 0 * 65536 + get_or part (3 * g + 1) 0 * 256 + get_or part (3 * g + 2) 0
+abbrev pub three_at : List ℕ → ℕ → ℕ
+three_at part g = get_or part (3 * g) 0 * 65536 + get_or part (3 * g + 1) 0 * 256 + get_or part (3 * g + 2) 0

@@ -5,10 +5,10 @@ use Rattle.tiles.specs.declared.tile.Adds.{Adds}
 use Rattle.tiles.specs.Sum.{weighed}
 
 pub record Same (r : Adds) (row : Row) : Type 0 where
-  pub player-is : r.player ≡ row.player
-  pub crate-is : r.crate_ ≡ row.crate'
-  pub goal-is : r.goal ≡ row.goal
-  pub off-is : r.off ≡ row.off
+  pub player_is : r.player ≡ row.player
+  pub crate_is : r.crate_ ≡ row.crate'
+  pub goal_is : r.goal ≡ row.goal
+  pub off_is : r.off ≡ row.off
 
 pub record Packs (rows : List ℕ) : Type 0 where
   pub row_at : (t : ℕ) → t < 8 → get_or rows t 0 ≡ weighed t

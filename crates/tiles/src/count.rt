@@ -1,13 +1,13 @@
 // What packed tiles add, from their bytes.
 ghost use Rattle.std.specs.Prelude.{◌≡◌, ◌+◌, ◌*◌, ◌/◌, ◌%◌, ◌≤◌, ◌<◌, length};
-ghost use Rattle.tiles.specs.Sum.{weighed, Counted, CountedFrom, pairsOf, triplesOf};
+ghost use Rattle.tiles.specs.Sum.{weighed, Counted, CountedFrom, pairs_of, triples_of};
 ghost use Rattle.tiles.specs.Rows.{Packs};
 
 use super::group::wide;
 
 // What the 24 tiles of nine bytes add, eight of them as one number and the last. The table is used in this one place, so that it stays one load.
 fn nine(v: u64, z: u8) -> u64
-    ensures { (result ≡ triplesOf weighed 8 (v * 256 + z)) × (result ≤ 27021597764222976) }
+    ensures { (result ≡ triples_of weighed 8 (v * 256 + z)) × (result ≤ 27021597764222976) }
 {
     let mut t = v % 2 * 256 + wide(z);
     let mut u = v / 2;
@@ -33,7 +33,7 @@ fn pair(rows: &[u64; 9], a: u64) -> u64
 // What the eight tiles in the lowest 24 bits add.
 fn eight(rows: &[u64; 9], v: u64) -> u64
     requires { Packs rows.now }
-    ensures { (result ≡ pairsOf weighed 4 v) × (result ≤ 9007199254740992) }
+    ensures { (result ≡ pairs_of weighed 4 v) × (result ≤ 9007199254740992) }
 {
     let mut u = v;
     let mut s: u64 = 0;

@@ -1,6 +1,6 @@
 // Bytes as numbers: eight tiles are three bytes.
 ghost use Rattle.std.specs.Prelude.{◌≡◌, ◌+◌, ◌*◌, ◌≤◌, length, get_or};
-ghost use Rattle.tiles.specs.Part.{threeAt};
+ghost use Rattle.tiles.specs.Part.{three_at};
 ghost use Rattle.tiles.specs.Word.{word_at};
 
 pub fn wide(x: u8) -> u64
@@ -44,7 +44,7 @@ pub fn cell(bs: &[u8], q: usize) -> u8
 // Bytes 3 g to 3 g + 2 as one number, 0 past the end.
 pub(crate) fn last(part: &[u8], g: usize) -> u64
     requires { g ≤ 1000 }
-    ensures { result ≡ threeAt part.now g }
+    ensures { result ≡ three_at part.now g }
 {
     three(
         cell(part, 3 * g),

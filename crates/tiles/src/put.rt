@@ -1,8 +1,8 @@
 // Packed tiles, written a byte each.
 ghost use Rattle.std.specs.Prelude.{◌≡◌, ◌++◌, ◌+◌, ◌*◌, ◌/◌, ◌%◌, ◌≤◌, ◌<◌, length, drop};
-ghost use Rattle.tiles.specs.Part.{tilesFrom};
+ghost use Rattle.tiles.specs.Part.{tiles_from};
 ghost use Rattle.tiles.specs.Put.{spread_of, Puts};
-ghost use Rattle.level.specs.Sizes.{tilesMost};
+ghost use Rattle.level.specs.Sizes.{tiles_most};
 
 // The eight tiles of three bytes, a byte each, the first lowest. Each table is used in this one place, so that it stays one load.
 fn spread(x: u8, y: u8, z: u8) -> u64
@@ -65,8 +65,8 @@ pub fn put_rest(out: &mut [u8], k: usize, m: usize, w: u64)
 
 // The first m tiles of a record's part from byte 3; what is past them keeps its value.
 pub fn unpack(part: &[u8], m: usize, tiles: &mut [u8])
-    requires { (m ≤ tilesMost) × (3 * m ≤ 8 * length part.now) × (m ≤ length tiles.old) }
-    ensures { tiles.new ≡ tilesFrom part.now m ++ drop m tiles.old }
+    requires { (m ≤ tiles_most) × (3 * m ≤ 8 * length part.now) × (m ≤ length tiles.old) }
+    ensures { tiles.new ≡ tiles_from part.now m ++ drop m tiles.old }
 {
     let n = m / 8;
     let mut g: usize = 0;

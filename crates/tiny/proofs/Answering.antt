@@ -9,23 +9,23 @@ use native.Mathlib.Omega.{arith}
 use lib.ListN.{length, get_or, take, drop, replicate, length-replicate, get_or-replicate}
 use lib.Seq.{take_at, drop_at, length-take-le}
 use Rattle.rules.specs.Refusal.{First, Hold}
-use Rattle.rules.proofs.Laws.{hold-first, all_hold}
-use Rattle.rules.proofs.Numbers.{lt-or-ge}
+use Rattle.rules.proofs.Laws.{hold_first, all_hold}
+use Rattle.rules.proofs.Numbers.{lt_or_ge}
 use Rattle.account.proofs.Lanes.{get_d_past}
 use Rattle.level.specs.Level.{AllTiles}
-use Rattle.level.proofs.Versions.{first-known}
-use Rattle.level.proofs.Unfinished.{some-two}
+use Rattle.level.proofs.Versions.{first_known}
+use Rattle.level.proofs.Unfinished.{some_two}
 use Rattle.tiny.specs.declared.Found.{Found}
 use Rattle.tiny.specs.declared.Found.TheVariants as answer
-use Rattle.tiny.specs.Tiny.{Tiny, LegalBoard, digits, number, Place, start, after, Later, IsNext, nextNumbers, giving, stepping, StepsAs}
+use Rattle.tiny.specs.Tiny.{Tiny, LegalBoard, digits, number, Place, start, after, Later, IsNext, next_numbers, giving, stepping, StepsAs}
 use Rattle.tiny.specs.Parts.{Ruled, Over, Seeks, GoesOn}
-use Rattle.tiny.proofs.Given.{tiny-sized}
-use Rattle.tiny.proofs.Digits.{same-tiles, floor-least}
+use Rattle.tiny.proofs.Given.{tiny_sized}
+use Rattle.tiny.proofs.Digits.{same_tiles, floor_least}
 
 -- ---- the search answered
 
-pub none-on : (from old : List ℕ) → Over from → GoesOn from old old answer.NoneLeft
-none-on from old o = record {
+pub none_on : (from old : List ℕ) → Over from → GoesOn from old old answer.NoneLeft
+none_on from old o = record {
   code = refl;
   size = λ h. absurd (omega arith);
   next = λ h. absurd (omega arith);
@@ -34,9 +34,9 @@ none-on from old o = record {
   kept = λ z. refl;
 }
 
-pub board-on : (from b old new : List ℕ) → 1 ≤ length from → length b ≡ length from → Seeks from b true → new ≡ b ++ drop (length b) old
+pub board_on : (from b old new : List ℕ) → 1 ≤ length from → length b ≡ length from → Seeks from b true → new ≡ b ++ drop (length b) old
     → GoesOn from old new (answer.Board (length b))
-board-on from b old new some l s e = record {
+board_on from b old new some l s e = record {
   code = refl;
   size = λ h. l;
   next = λ h. subst (λ (x : List ℕ). Seeks from x true) (sym (ap (take (length from)) e ∙ take_at b (drop (length b) old) (length from) l)) s;
@@ -56,7 +56,7 @@ ruled w h c b = record { long = b.count; codes = b.codes; fair = b.playable }
 
 pub board : (w h : ℕ) → Tiny w h → (c : List ℕ) → Ruled (w * h) c → LegalBoard w h c
 board w h t c r = record {
-  ranged = record { known = first-known; sized = tiny-sized w h t; par-small = omega arith };
+  ranged = record { known = first_known; sized = tiny_sized w h t; par_small = omega arith };
   count = r.long;
   codes = r.codes;
   playable = r.fair;
@@ -89,7 +89,7 @@ module _ (w h : ℕ) (t : Tiny w h) (p : Place) (from : List ℕ) (long : length
 
     pub steps : (old new : List ℕ) (a : Found) → Hold (stepping w h p (length old)) → length new ≡ length old → GoesOn from old new a → StepsAs w h p old new a
     steps old new a hold same g = record {
-      code = subst (First (stepping w h p (length old))) (sym g.code) (hold-first (stepping w h p (length old)) hold);
+      code = subst (First (stepping w h p (length old))) (sym g.code) (hold_first (stepping w h p (length old)) hold);
       size = λ k. g.size k ∙ long;
       next = λ k. subst (λ (n : ℕ). IsNext w h p (take n new)) long (found k);
       past = λ k. subst (λ (n : ℕ). drop n new ≡ drop n old) long (g.past k);
@@ -97,7 +97,7 @@ module _ (w h : ℕ) (t : Tiny w h) (p : Place) (from : List ℕ) (long : length
       kept = g.kept;
     }
       where
-        found : 1 ≤ (nextNumbers a).value → IsNext w h p (take (length from) new)
+        found : 1 ≤ (next_numbers a).value → IsNext w h p (take (length from) new)
         found k =
             let s = g.next k in
             let b = take (length from) new in
@@ -118,56 +118,56 @@ abbrev floor : ℕ → List ℕ
 floor n = replicate n 0
 
 -- as the program has it
-pub floor-front : (n : ℕ) → n ≤ 6 → take {A = ℕ} (n - 0) (0 ∷ 0 ∷ 0 ∷ 0 ∷ 0 ∷ 0 ∷ []) ≡ floor n
-floor-front zero h = refl
-floor-front (suc zero) h = refl
-floor-front (suc (suc zero)) h = refl
-floor-front (suc (suc (suc zero))) h = refl
-floor-front (suc (suc (suc (suc zero)))) h = refl
-floor-front (suc (suc (suc (suc (suc zero))))) h = refl
-floor-front (suc (suc (suc (suc (suc (suc zero)))))) h = refl
-floor-front (suc (suc (suc (suc (suc (suc (suc n))))))) h = absurd (omega arith)
+pub floor_front : (n : ℕ) → n ≤ 6 → take {A = ℕ} (n - 0) (0 ∷ 0 ∷ 0 ∷ 0 ∷ 0 ∷ 0 ∷ []) ≡ floor n
+floor_front zero h = refl
+floor_front (suc zero) h = refl
+floor_front (suc (suc zero)) h = refl
+floor_front (suc (suc (suc zero))) h = refl
+floor_front (suc (suc (suc (suc zero)))) h = refl
+floor_front (suc (suc (suc (suc (suc zero))))) h = refl
+floor_front (suc (suc (suc (suc (suc (suc zero)))))) h = refl
+floor_front (suc (suc (suc (suc (suc (suc (suc n))))))) h = absurd (omega arith)
 
 module _ (n : ℕ) where
-  pub floor-long : length (floor n) ≡ n
-  floor-long = length-replicate n 0
+  pub floor_long : length (floor n) ≡ n
+  floor_long = length-replicate n 0
 
-  pub floor-none : (i : ℕ) → get_or (floor n) i 0 ≡ 0
-  floor-none i =
-      ⊎_elim (λ l. get_or-replicate n i 0 0 l) (λ l. get_d_past (floor n) i (omega (arith, floor-long, l))) (lt-or-ge i n)
+  pub floor_none : (i : ℕ) → get_or (floor n) i 0 ≡ 0
+  floor_none i =
+      ⊎_elim (λ l. get_or-replicate n i 0 0 l) (λ l. get_d_past (floor n) i (omega (arith, floor_long, l))) (lt_or_ge i n)
 
-  pub floor-coded : AllTiles 1 (floor n)
-  floor-coded i h = omega (arith, floor-none i)
+  pub floor_coded : AllTiles 1 (floor n)
+  floor_coded i h = omega (arith, floor_none i)
 
-start-0 : (f c : List ℕ) → digits 0 f ≤ digits 0 c
+start_0 : (f c : List ℕ) → digits 0 f ≤ digits 0 c
 unfolding digits
-start-0 f c = omega arith
+start_0 f c = omega arith
 
 -- all floor stands for the start
-pub floor-first : (w h : ℕ) (c : List ℕ) → LegalBoard w h c → number (floor (w * h)) < number c
-floor-first w h c b = go (eq-or-lt_of_le least)
+pub floor_first : (w h : ℕ) (c : List ℕ) → LegalBoard w h c → number (floor (w * h)) < number c
+floor_first w h c b = go (eq-or-lt_of_le least)
   where
     f : List ℕ
     f = floor (w * h)
 
     long : length f ≡ w * h
-    long = floor-long (w * h)
+    long = floor_long (w * h)
 
     same : number c ≡ digits (length f) c
     same = ap (λ (n : ℕ). digits n c) (b.count ∙ sym long)
 
     least : number f ≤ number c
-    least = subst (λ (n : ℕ). number f ≤ n) (sym same) (floor-least (length f) 0 f c (λ i l. floor-none (w * h) i) (omega arith) (start-0 f c))
+    least = subst (λ (n : ℕ). number f ≤ n) (sym same) (floor_least (length f) 0 f c (λ i l. floor_none (w * h) i) (omega arith) (start_0 f c))
 
     two : (i : ℕ) × (i < length c) × (get_or c i 0 ≡ 2)
-    two = some-two c b.playable.unfinished
+    two = some_two c b.playable.unfinished
 
     go : (number f ≡ number c) ⊎ (number f < number c) → number f < number c
     go (inl e) =
         absurd (omega (
           arith,
-          same-tiles (length f) f c (floor-coded (w * h)) b.codes (e ∙ same) two.0 (omega (arith, two.1, b.count, long)),
-          floor-none (w * h) two.0,
+          same_tiles (length f) f c (floor_coded (w * h)) b.codes (e ∙ same) two.0 (omega (arith, two.1, b.count, long)),
+          floor_none (w * h) two.0,
           two.2,
         ))
     go (inr l) = l

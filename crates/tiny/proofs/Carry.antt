@@ -10,7 +10,7 @@ use native.Mathlib.Omega.{arith}
 use lib.Dec.{T}
 use lib.ListN.{length, get_or, set, length-set}
 use lib.Seq.{get_or-set_same, get_or-set_other}
-use Rattle.rules.proofs.Numbers.{lt-or-ge}
+use Rattle.rules.proofs.Numbers.{lt_or_ge}
 use Rattle.account.proofs.Lanes.{get_d_past}
 use Rattle.level.specs.Level.{AllTiles}
 use Rattle.lending.proofs.Writing.{codes_all}
@@ -19,8 +19,8 @@ use Rattle.tiny.specs.Parts.{Stepped, Passed}
 use Rattle.tiny.proofs.Digits.{same_digits}
 
 -- a tile exchanged for another code
-pub codes-set : (b : List ℕ) (i v : ℕ) → AllTiles 1 b → v ≤ 6 → AllTiles 1 (set b i v)
-codes-set b i v f s j h = go (ℕ_discrete j i)
+pub codes_set : (b : List ℕ) (i v : ℕ) → AllTiles 1 b → v ≤ 6 → AllTiles 1 (set b i v)
+codes_set b i v f s j h = go (ℕ_discrete j i)
   where
     in_b : j < length b
     in_b = omega (arith, h, length-set b i v)
@@ -47,7 +47,7 @@ module _ (b : List ℕ) (i : ℕ) (f : AllTiles 1 b) (h : i < length b) where
   unfolding digits
   last l = record {
     more = record {
-      codes = codes-set b i (get_or b i 0 + 1) f (omega arith);
+      codes = codes_set b i (get_or b i 0 + 1) f (omega arith);
       up = λ q. omega (arith, before b i (get_or b i 0 + 1), get_or-set_same b i (get_or b i 0 + 1) 0 h);
       top = λ q. differ q;
     };
@@ -70,15 +70,15 @@ module _ (b : List ℕ) (i : ℕ) (f : AllTiles 1 b) (h : i < length b) where
 
 -- the same at k, whose last place is k - 1
 module _ (b : List ℕ) (k : ℕ) (f : AllTiles 1 b) (some : k ≡ 0 → ⊥) (h : k ≤ length b) where
-  is-suc : suc (k - 1) ≡ k
-  is-suc = omega (arith, some)
+  is_suc : suc (k - 1) ≡ k
+  is_suc = omega (arith, some)
 
   pub at_last : (v : ℕ) → v ≡ get_or b (k - 1) 0 → v < 6 → Stepped k b (set b (k - 1) (v + 1)) true
   at_last v e l =
-      rw e (subst (λ (j : ℕ). Stepped j b (set b (k - 1) (get_or b (k - 1) 0 + 1)) true) is-suc (last b (k - 1) f (omega (arith, some)) (omega (arith, e, l))))
+      rw e (subst (λ (j : ℕ). Stepped j b (set b (k - 1) (get_or b (k - 1) 0 + 1)) true) is_suc (last b (k - 1) f (omega (arith, some)) (omega (arith, e, l))))
 
-  pub at-carry : (z : List ℕ) (r : Bool) → get_or b (k - 1) 0 ≡ 6 → Stepped (k - 1) (set b (k - 1) 0) z r → Stepped k b z r
-  at-carry z r e s = subst (λ (j : ℕ). Stepped j b z r) is-suc (carry b (k - 1) f (omega (arith, some)) z r e s)
+  pub at_carry : (z : List ℕ) (r : Bool) → get_or b (k - 1) 0 ≡ 6 → Stepped (k - 1) (set b (k - 1) 0) z r → Stepped k b z r
+  at_carry z r e s = subst (λ (j : ℕ). Stepped j b z r) is_suc (carry b (k - 1) f (omega (arith, some)) z r e s)
 
 -- ---- floor from a place on
 
@@ -90,8 +90,8 @@ pub record Cleared (old new : List ℕ) (k i : ℕ) : Type 0 where
 pub clear_none : (b : List ℕ) (k : ℕ) → Cleared b b k k
 clear_none b k = record { long = refl; front = λ j h. refl; floor = λ j a c. absurd (omega arith) }
 
-pub clear-more : (old new : List ℕ) (k i : ℕ) → k ≤ i → i < length new → Cleared old new k i → Cleared old (set new i 0) k (i + 1)
-clear-more old new k i h l s = record {
+pub clear_more : (old new : List ℕ) (k i : ℕ) → k ≤ i → i < length new → Cleared old new k i → Cleared old (set new i 0) k (i + 1)
+clear_more old new k i h l s = record {
   long = length-set new i 0 ∙ s.long;
   front = λ j g. get_or-set_other new i j 0 0 (λ e. omega (arith, e, g, h)) ∙ s.front j g;
   floor = λ j a c. go j a c (ℕ_discrete j i);
@@ -102,14 +102,14 @@ clear-more old new k i h l s = record {
     go j a c (no n) = get_or-set_other new i j 0 0 n ∙ s.floor j a (omega (arith, c, n))
 
 -- all of it
-pub clear-end : (old new : List ℕ) (k i : ℕ) → length new ≤ i → Cleared old new k i → (j : ℕ) → k ≤ j → get_or new j 0 ≡ 0
-clear-end old new k i h s j a = ⊎_elim (λ l. s.floor j a (omega arith)) (λ l. get_d_past new j l) (lt-or-ge j (length new))
+pub clear_end : (old new : List ℕ) (k i : ℕ) → length new ≤ i → Cleared old new k i → (j : ℕ) → k ≤ j → get_or new j 0 ≡ 0
+clear_end old new k i h s j a = ⊎_elim (λ l. s.floor j a (omega arith)) (λ l. get_d_past new j l) (lt_or_ge j (length new))
 
 -- then stepped
 module _ (old cleared : List ℕ) (k : ℕ) (f : AllTiles 1 old)
     (front : (i : ℕ) → i < k → get_or cleared i 0 ≡ get_or old i 0) (floor : (i : ℕ) → k ≤ i → get_or cleared i 0 ≡ 0) where
-  pub cleared-codes : AllTiles 1 cleared
-  cleared-codes i h = ⊎_elim (λ l. omega (arith, front i l, codes_all 1 old f i)) (λ l. omega (arith, floor i l)) (lt-or-ge i k)
+  pub cleared_codes : AllTiles 1 cleared
+  cleared_codes i h = ⊎_elim (λ l. omega (arith, front i l, codes_all 1 old f i)) (λ l. omega (arith, floor i l)) (lt_or_ge i k)
 
   pub passed : (new : List ℕ) (r : Bool) → Stepped k cleared new r → Passed k old new r
   passed new r s =

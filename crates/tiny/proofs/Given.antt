@@ -8,31 +8,31 @@ use Rattle.rules.specs.Refusal.{asked}
 use Rattle.rules.proofs.Laws.{all_hold, none_first}
 use Rattle.level.specs.Tile.{totals}
 use Rattle.level.specs.Level.{Sized, AllTiles, Playable, boarding}
-use Rattle.fields.specs.Sum.{boardOf, BoardCode}
+use Rattle.fields.specs.Sum.{board_of, BoardCode}
 use Rattle.tiny.specs.Tiny.{Tiny}
 
 module _ (w h : ℕ) (t : Tiny w h) where
-  pub wide-most : w ≤ 6
-  wide-most = omega (arith, mul-le-mul (le_refl w) t.high, t.few)
+  pub wide_most : w ≤ 6
+  wide_most = omega (arith, mul-le-mul (le_refl w) t.high, t.few)
 
-  pub high-most : h ≤ 6
-  high-most = omega (arith, mul-le-mul t.wide (le_refl h), t.few)
+  pub high_most : h ≤ 6
+  high_most = omega (arith, mul-le-mul t.wide (le_refl h), t.few)
 
-  pub tiny-sized : Sized w h
-  tiny-sized = record { wide = t.wide; not_wider = omega (arith, wide-most); high = t.high; not-higher = omega (arith, high-most) }
+  pub tiny_sized : Sized w h
+  tiny_sized = record { wide = t.wide; not_wider = omega (arith, wide_most); high = t.high; not_higher = omega (arith, high_most) }
 
-  pub some-tile : 1 ≤ w * h
-  some-tile = omega (arith, mul-le-mul t.wide t.high)
+  pub some_tile : 1 ≤ w * h
+  some_tile = omega (arith, mul-le-mul t.wide t.high)
 
 -- neither number is above six
-pub product-most : (w h : ℕ) → w ≤ 6 → h ≤ 6 → w * h ≤ 36
-product-most w h a b = mul-le-mul a b
+pub product_most : (w h : ℕ) → w ≤ 6 → h ≤ 6 → w * h ≤ 36
+product_most w h a b = mul-le-mul a b
 
 -- ---- a board judged by refusals 9 and 10
 
 module _ (ts : List ℕ) (c : ℕ) (f : BoardCode 1 ts c) where
-  pub is-fair : c ≡ 0 → Playable 1 (totals ts)
-  is-fair z = (all_hold 10 (asked (λ ask. ask (boardOf 1 ts)) boarding) c tt f z).1.0
+  pub is_fair : c ≡ 0 → Playable 1 (totals ts)
+  is_fair z = (all_hold 10 (asked (λ ask. ask (board_of 1 ts)) boarding) c tt f z).1.0
 
-  pub not-fair : AllTiles 1 ts → (c ≡ 0 → ⊥) → Playable 1 (totals ts) → ⊥
-  not-fair a n p = n (none_first (asked (λ ask. ask (boardOf 1 ts)) boarding) c (a, (p, tt)) f)
+  pub not_fair : AllTiles 1 ts → (c ≡ 0 → ⊥) → Playable 1 (totals ts) → ⊥
+  not_fair a n p = n (none_first (asked (λ ask. ask (board_of 1 ts)) boarding) c (a, (p, tt)) f)

@@ -9,11 +9,11 @@ use native.Mathlib.Omega.{arith}
 use lib.ListN.{length}
 use Rattle.tiny.specs.Tiny.{digits, number}
 use Rattle.tiny.specs.Parts.{Ruled, Passed, Stuck, NoneBetween, Over, Goes}
-use Rattle.tiny.proofs.Digits.{same-tiles, digits-below, front_less, front_kept, floor-least}
+use Rattle.tiny.proofs.Digits.{same_tiles, digits_below, front_less, front_kept, floor_least}
 
 -- digits by the length of another board
-sized-digits : (a b : List ℕ) → length b ≡ length a → digits (length a) b ≡ number b
-sized-digits a b l = ap (λ (n : ℕ). digits n b) (sym l)
+sized_digits : (a b : List ℕ) → length b ≡ length a → digits (length a) b ≡ number b
+sized_digits a b l = ap (λ (n : ℕ). digits n b) (sym l)
 
 -- ---- what is known of the search
 
@@ -33,13 +33,13 @@ ahead b going = cond going (7 ^ length b - number b) 0
 pub pass_all : (old new : List ℕ) (r : Bool) → length new ≡ length old → Passed (length old) old new r → Goes old new r
 pass_all old new true l s = record {
   codes = s.more.codes;
-  later = omega (arith, s.more.up refl, sized-digits old new l);
-  least = λ c R h. omega (arith, s.more.up refl, sized-digits old new l, h);
+  later = omega (arith, s.more.up refl, sized_digits old new l);
+  least = λ c R h. omega (arith, s.more.up refl, sized_digits old new l, h);
 }
-pass_all old new false l s = λ c R h. omega (arith, s.more.top refl c R.codes, sized-digits old c R.long, h)
+pass_all old new false l s = λ c R h. omega (arith, s.more.top refl c R.codes, sized_digits old c R.long, h)
 
 -- a further one: at the first k places of a board that no legal one begins with
-module _ (old b new : List ℕ) (k : ℕ) (long : length b ≡ length old) (new-long : length new ≡ length old) (r : NoneBetween old b) (stuck : Stuck b k)
+module _ (old b new : List ℕ) (k : ℕ) (long : length b ≡ length old) (new_long : length new ≡ length old) (r : NoneBetween old b) (stuck : Stuck b k)
     (some : k ≡ 0 → ⊥) where
   within : k ≤ length old
   within = omega (arith, stuck.within, long)
@@ -48,38 +48,38 @@ module _ (old b new : List ℕ) (k : ℕ) (long : length b ≡ length old) (new-
   beyond : (c : List ℕ) → Ruled (length old) c → number old < number c → digits k b < digits k c
   beyond c R h =
       go (eq-or-lt_of_le (front_kept (length old) k b c R.codes within
-      (omega (arith, r.least c R h, sized-digits old b long, sized-digits old c R.long))))
+      (omega (arith, r.least c R h, sized_digits old b long, sized_digits old c R.long))))
     where
       go : (digits k b ≡ digits k c) ⊎ (digits k b < digits k c) → digits k b < digits k c
-      go (inl e) = absurd (stuck.never some c (subst (λ (n : ℕ). Ruled n c) (sym long) R) (same-tiles k c b R.codes r.codes (sym e)))
+      go (inl e) = absurd (stuck.never some c (subst (λ (n : ℕ). Ruled n c) (sym long) R) (same_tiles k c b R.codes r.codes (sym e)))
       go (inr l) = l
 
   greater : Passed k b new true → number b < number new
   greater s = omega (
     arith,
-    sized-digits old b long,
-    sized-digits old new new-long,
+    sized_digits old b long,
+    sized_digits old new new_long,
     front_less (length old) k b new r.codes within (omega (arith, s.more.up refl)),
   )
 
-  pub pass-front : (a : Bool) → Passed k b new a → Goes old new a
-  pass-front true s = record {
+  pub pass_front : (a : Bool) → Passed k b new a → Goes old new a
+  pass_front true s = record {
     codes = s.more.codes;
     later = omega (arith, r.later, greater s);
     least = λ c R h. omega (
       arith,
-      sized-digits old new new-long,
-      sized-digits old c R.long,
-      floor-least (length old) k new c s.floor within (omega (arith, s.more.up refl, beyond c R h)),
+      sized_digits old new new_long,
+      sized_digits old c R.long,
+      floor_least (length old) k new c s.floor within (omega (arith, s.more.up refl, beyond c R h)),
     );
   }
-  pass-front false s = λ c R h. omega (arith, s.more.top refl c R.codes, beyond c R h)
+  pass_front false s = λ c R h. omega (arith, s.more.top refl c R.codes, beyond c R h)
 
-  pub fewer-ahead : (a : Bool) → Passed k b new a → ahead new a < ahead b true
-  fewer-ahead true s =
-      let e : 7 ^ length new ≡ 7 ^ length b = ap (λ (n : ℕ). 7 ^ n) (new-long ∙ sym long) in
-      omega (arith, greater s, e, digits-below (length new) new s.more.codes)
-  fewer-ahead false s = omega (arith, digits-below (length b) b r.codes)
+  pub fewer_ahead : (a : Bool) → Passed k b new a → ahead new a < ahead b true
+  fewer_ahead true s =
+      let e : 7 ^ length new ≡ 7 ^ length b = ap (λ (n : ℕ). 7 ^ n) (new_long ∙ sym long) in
+      omega (arith, greater s, e, digits_below (length new) new s.more.codes)
+  fewer_ahead false s = omega (arith, digits_below (length b) b r.codes)
 
 -- where a search stands that began with a step over all places
 pub stands : (old first b : List ℕ) (r going : Bool) → length first ≡ length old → Passed (length old) old first r

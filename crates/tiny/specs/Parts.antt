@@ -1,10 +1,10 @@
 -- Parts: a board stepped, what can no more become legal, and the search for the next.
 use Rattle.std.specs.Prelude.{◌≡◌, Bool, true, false, List, ◌++◌, ℕ, ◌+◌, ◌≤◌, ◌<◌, length, get_or, take, drop}
-use Rattle.level.specs.Sizes.{tilesMost}
+use Rattle.level.specs.Sizes.{tiles_most}
 use Rattle.level.specs.Tile.{totals}
 use Rattle.level.specs.Level.{AllTiles, Playable}
 use Rattle.tiles.specs.Sum.{weight}
-use Rattle.tiny.specs.Tiny.{digits, number, nextNumbers}
+use Rattle.tiny.specs.Tiny.{digits, number, next_numbers}
 use Rattle.tiny.specs.declared.Found.{Found}
 
 -- n tiles that keep the rule
@@ -35,7 +35,7 @@ pub record Passed (k : ℕ) (old new : List ℕ) (r : Bool) : Type 0 where
 
 -- no board keeps the rule of which the first tiles add x, with so many more
 pub record Lost (x left : ℕ) : Type 0 where
-  pub never : (front back : List ℕ) → x ≡ weight front → AllTiles 1 front → length front ≤ tilesMost → length back ≡ left
+  pub never : (front back : List ℕ) → x ≡ weight front → AllTiles 1 front → length front ≤ tiles_most → length back ≡ left
       → Playable 1 (totals (front ++ back)) → ⊥
 
 -- 0 for a board that keeps the rule, or so many first tiles that no board with them keeps it
@@ -68,9 +68,9 @@ Seeks old new false = Over old
 
 -- the next after the tiles `from` put in a buffer, or none
 pub record GoesOn (from old new : List ℕ) (a : Found) : Type 0 where
-  pub code : (nextNumbers a).code ≡ 0
-  pub size : 1 ≤ (nextNumbers a).value → (nextNumbers a).value ≡ length from
-  pub next : 1 ≤ (nextNumbers a).value → Seeks from (take (length from) new) true
-  pub past : 1 ≤ (nextNumbers a).value → drop (length from) new ≡ drop (length from) old
-  pub none : (nextNumbers a).value ≡ 0 → Over from
-  pub kept : (nextNumbers a).value ≡ 0 → new ≡ old
+  pub code : (next_numbers a).code ≡ 0
+  pub size : 1 ≤ (next_numbers a).value → (next_numbers a).value ≡ length from
+  pub next : 1 ≤ (next_numbers a).value → Seeks from (take (length from) new) true
+  pub past : 1 ≤ (next_numbers a).value → drop (length from) new ≡ drop (length from) old
+  pub none : (next_numbers a).value ≡ 0 → Over from
+  pub kept : (next_numbers a).value ≡ 0 → new ≡ old

@@ -1,20 +1,20 @@
 -- FORMAT 16: the legal boards of a tiny size, one after another.
 use Rattle.std.specs.Prelude.{◌≡◌, Bool, true, false, List, [], ◌∷◌, ℕ, zero, suc, ◌+◌, ◌*◌, ◌≤◌, ◌<◌, length, get_or, take, drop}
 use Rattle.rules.specs.Refusal.{Rule, unless, First, Numbers, done, refused}
-use Rattle.level.specs.Sizes.{tilesMost}
+use Rattle.level.specs.Sizes.{tiles_most}
 use Rattle.level.specs.Level.{IsLevel, Counted, Coded}
 use Rattle.level.specs.Writing.{lent}
 use Rattle.tiny.specs.declared.Found.{Found}
 use Rattle.tiny.specs.declared.Found.TheVariants as answer
 
 -- FORMAT 16.1: a size of at most six tiles
-abbrev pub tinyMost : ℕ
-tinyMost = 6
+abbrev pub tiny_most : ℕ
+tiny_most = 6
 
 pub record Tiny (w h : ℕ) : Type 0 where
   pub wide : 1 ≤ w
   pub high : 1 ≤ h
-  pub few : w * h ≤ tinyMost
+  pub few : w * h ≤ tiny_most
 
 -- FORMAT 16.2: a legal board of that size: with par 0 it is a level
 abbrev pub LegalBoard : ℕ → ℕ → List ℕ → Type 0
@@ -58,10 +58,10 @@ place_of true g = start
 place_of false g = after g
 
 -- FORMAT 8.28: the numbers of an answer: its refusal, and how many tiles the next board has, 0 where none is left
-abbrev pub nextNumbers : Found → Numbers
-nextNumbers (answer.Board n) = done n
-nextNumbers answer.NoneLeft = done 0
-nextNumbers (answer.Refused c) = refused c
+abbrev pub next_numbers : Found → Numbers
+next_numbers (answer.Board n) = done n
+next_numbers answer.NoneLeft = done 0
+next_numbers (answer.Refused c) = refused c
 
 -- FORMAT 9.8, 9.9, 16.6: what is asked of a given board; it need not be legal
 abbrev pub giving : ℕ → ℕ → Place → List Rule
@@ -70,17 +70,17 @@ giving w h (after g) = unless 8 (Counted (lent 1 w h 0 g)) ∷ unless 9 (Coded (
 
 -- FORMAT 9.4, 9.14, 9.40. 4: the tile buffer; 14: the size; 8 and 9 of a given board
 abbrev pub stepping : ℕ → ℕ → Place → ℕ → List Rule
-stepping w h p room = unless 4 (tilesMost ≤ room) ∷ unless 14 (Tiny w h) ∷ giving w h p
+stepping w h p room = unless 4 (tiles_most ≤ room) ∷ unless 14 (Tiny w h) ∷ giving w h p
 
 -- FORMAT 8.28, 10.2: the promise. The next board in front of the buffer, what is past it kept; or none is left, or a refusal, and the buffer as
 -- it was.
 pub record StepsAs (w h : ℕ) (p : Place) (old new : List ℕ) (a : Found) : Type 0 where
-  pub code : First (stepping w h p (length old)) (nextNumbers a).code
-  pub size : 1 ≤ (nextNumbers a).value → (nextNumbers a).value ≡ w * h
-  pub next : 1 ≤ (nextNumbers a).value → IsNext w h p (take (w * h) new)
-  pub past : 1 ≤ (nextNumbers a).value → drop (w * h) new ≡ drop (w * h) old
-  pub none : (nextNumbers a).code ≡ 0 → (nextNumbers a).value ≡ 0 → NoneLeft w h p
-  pub kept : (nextNumbers a).value ≡ 0 → new ≡ old
+  pub code : First (stepping w h p (length old)) (next_numbers a).code
+  pub size : 1 ≤ (next_numbers a).value → (next_numbers a).value ≡ w * h
+  pub next : 1 ≤ (next_numbers a).value → IsNext w h p (take (w * h) new)
+  pub past : 1 ≤ (next_numbers a).value → drop (w * h) new ≡ drop (w * h) old
+  pub none : (next_numbers a).code ≡ 0 → (next_numbers a).value ≡ 0 → NoneLeft w h p
+  pub kept : (next_numbers a).value ≡ 0 → new ≡ old
 
 -- ---- walks, for the theorems
 
@@ -90,7 +90,7 @@ pub record Gave (w h : ℕ) (p : Place) (b : List ℕ) : Type 0 where
   pub new : List ℕ
   pub answer : Found
   pub promise : StepsAs w h p old new answer
-  pub found : 1 ≤ (nextNumbers answer).value
+  pub found : 1 ≤ (next_numbers answer).value
   pub front : b ≡ take (w * h) new
 
 -- FORMAT 16.8: a call said that none is left
@@ -99,8 +99,8 @@ pub record SaidNone (w h : ℕ) (p : Place) : Type 0 where
   pub new : List ℕ
   pub answer : Found
   pub promise : StepsAs w h p old new answer
-  pub done : (nextNumbers answer).code ≡ 0
-  pub none : (nextNumbers answer).value ≡ 0
+  pub done : (next_numbers answer).code ≡ 0
+  pub none : (next_numbers answer).value ≡ 0
 
 -- FORMAT 16.8: calls from a place on gave these boards, each asked for with the one before it
 abbrev pub Walk : ℕ → ℕ → Place → List (List ℕ) → Type 0

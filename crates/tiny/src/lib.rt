@@ -2,10 +2,10 @@
 ghost use Rattle.std.specs.Prelude.{◌≡◌, true, ℕ, ◌≤◌, ◌<◌, length, get_or, replicate};
 ghost use Rattle.rules.specs.Says.{Says};
 ghost use Rattle.rules.specs.Refusal.{First};
-ghost use Rattle.level.specs.Sizes.{tilesMost};
+ghost use Rattle.level.specs.Sizes.{tiles_most};
 ghost use Rattle.level.specs.Level.{AllTiles};
 ghost use Rattle.tiles.specs.Rows.{Packs};
-ghost use Rattle.tiny.specs.Tiny.{tinyMost, Tiny, place_of, after, giving, StepsAs};
+ghost use Rattle.tiny.specs.Tiny.{tiny_most, Tiny, place_of, after, giving, StepsAs};
 ghost use Rattle.tiny.specs.Parts.{Stepped, Passed, Lost, Stuck, Seeks, GoesOn};
 
 use level::TILES_MOST;
@@ -115,7 +115,7 @@ fn pass(board: &mut [u8], k: usize) -> bool
 // Whether tiles that add x can no more become a legal board with so many that are left: these add at most a crate and a goal each, and take no
 // player away.
 fn lost(x: u64, left: usize) -> bool
-    requires { left ≤ tinyMost }
+    requires { left ≤ tiny_most }
     ensures { result ≡ true → Lost x left }
 {
     let players = x % 1024;
@@ -136,7 +136,7 @@ fn lost(x: u64, left: usize) -> bool
 
 // 0 for a legal board; else how many of its first tiles no legal board begins with.
 fn stuck(rows: &[u64; 9], board: &[u8]) -> usize
-    requires { Packs rows.now × AllTiles 1 board.now × (1 ≤ length board.now) × (length board.now ≤ tinyMost) }
+    requires { Packs rows.now × AllTiles 1 board.now × (1 ≤ length board.now) × (length board.now ≤ tiny_most) }
     ensures { Stuck board.now result }
 {
     let n = board.len();
@@ -157,7 +157,7 @@ fn stuck(rows: &[u64; 9], board: &[u8]) -> usize
 
 // The next legal board, over the one that is lent. What no legal board begins with is passed over in one step.
 fn seek(board: &mut [u8]) -> bool
-    requires { AllTiles 1 board.old × (1 ≤ length board.old) × (length board.old ≤ tinyMost) }
+    requires { AllTiles 1 board.old × (1 ≤ length board.old) × (length board.old ≤ tiny_most) }
     ensures { Seeks board.old board.new result }
 {
     let rows = tiles::tile::rows();
@@ -175,7 +175,7 @@ fn seek(board: &mut [u8]) -> bool
 
 // The next legal board after the one that is lent and searched from, in front of the buffer.
 fn answer(board: &mut [u8], tiles: &mut [u8]) -> Found
-    requires { AllTiles 1 board.old × (1 ≤ length board.old) × (length board.old ≤ tinyMost) × (tilesMost ≤ length tiles.old) }
+    requires { AllTiles 1 board.old × (1 ≤ length board.old) × (length board.old ≤ tiny_most) × (tiles_most ≤ length tiles.old) }
     ensures { GoesOn board.old tiles.old tiles.new result }
 {
     if !seek(board) {
@@ -187,7 +187,7 @@ fn answer(board: &mut [u8], tiles: &mut [u8]) -> Found
 
 // The same after tiles that keep their values.
 fn go_on(from: &[u8], tiles: &mut [u8]) -> Found
-    requires { AllTiles 1 from.now × (1 ≤ length from.now) × (length from.now ≤ tinyMost) × (tilesMost ≤ length tiles.old) }
+    requires { AllTiles 1 from.now × (1 ≤ length from.now) × (length from.now ≤ tiny_most) × (tiles_most ≤ length tiles.old) }
     ensures { GoesOn from.now tiles.old tiles.new result }
 {
     let mut board = [0u8; TINY_MOST];
@@ -197,7 +197,7 @@ fn go_on(from: &[u8], tiles: &mut [u8]) -> Found
 
 // The first legal board of n tiles: all floor is no legal board, and the least of all, so that it is the next after it.
 fn first(n: usize, tiles: &mut [u8]) -> Found
-    requires { (1 ≤ n) × (n ≤ tinyMost) × (tilesMost ≤ length tiles.old) }
+    requires { (1 ≤ n) × (n ≤ tiny_most) × (tiles_most ≤ length tiles.old) }
     ensures { GoesOn (replicate n 0) tiles.old tiles.new result }
 {
     let floor = [0u8; TINY_MOST];

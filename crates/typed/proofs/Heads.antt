@@ -13,7 +13,7 @@ use lib.Seq.{take-suc, take-length, get_or-take, get_or-drop, drop-drop, append_
 use Rattle.typed.specs.Text.{decimal}
 use Rattle.typed.specs.Parts.{line_of, spelled, Starts, HeadIs}
 use Rattle.typed.specs.declared.head.Head.{Head}
-use Rattle.typed.proofs.Lines.{decimal-by, digits_3, digits_4}
+use Rattle.typed.proofs.Lines.{decimal_by, digits_3, digits_4}
 
 -- ---- a line held against a text
 
@@ -24,9 +24,9 @@ module _ (line text : List ℕ) where
   pub unlike : (i : ℕ) → i < length line → (get_or text i 0 ≡ get_or line i 0 → ⊥) → Starts line text → ⊥
   unlike i h n s = n (sym (get_or-take (length line) text i 0 h) ∙ ap (λ (l : List ℕ). get_or l i 0) s)
 
-  pub alike-more : (i : ℕ) → i < length line → length line ≤ length text → get_or text i 0 ≡ get_or line i 0 → take i text ≡ take i line
+  pub alike_more : (i : ℕ) → i < length line → length line ≤ length text → get_or text i 0 ≡ get_or line i 0 → take i text ≡ take i line
       → take (i + 1) text ≡ take (i + 1) line
-  alike-more i h k e p =
+  alike_more i h k e p =
       ap (λ (j : ℕ). take j text) (add-one i)
       ∙ take-suc text i 0 (omega arith)
       ∙ ap₂ (λ (a : List ℕ) (b : ℕ). a ++ (b ∷ [])) p e
@@ -42,15 +42,15 @@ module _ (line text : List ℕ) where
 
 -- ---- digits read
 
-stop-low : (k n : ℕ) (s : List ℕ) → get_or s 0 0 < 48 → spelled k n s ≡ n
-stop-low zero n s h = refl
-stop-low (suc k) n [] h = refl
-stop-low (suc k) n (c ∷ s) h = ap (λ (b : Bool). cond b n (cond (ltb 57 c) n (spelled k (n * 10 + (c - 48)) s))) (lt-ltb c 48 h)
+stop_low : (k n : ℕ) (s : List ℕ) → get_or s 0 0 < 48 → spelled k n s ≡ n
+stop_low zero n s h = refl
+stop_low (suc k) n [] h = refl
+stop_low (suc k) n (c ∷ s) h = ap (λ (b : Bool). cond b n (cond (ltb 57 c) n (spelled k (n * 10 + (c - 48)) s))) (lt-ltb c 48 h)
 
-stop-high : (k n : ℕ) (s : List ℕ) → 57 < get_or s 0 0 → spelled k n s ≡ n
-stop-high zero n s h = refl
-stop-high (suc k) n [] h = refl
-stop-high (suc k) n (c ∷ s) h =
+stop_high : (k n : ℕ) (s : List ℕ) → 57 < get_or s 0 0 → spelled k n s ≡ n
+stop_high zero n s h = refl
+stop_high (suc k) n [] h = refl
+stop_high (suc k) n (c ∷ s) h =
     ap₂ (λ (a b : Bool). cond a n (cond b n (spelled k (n * 10 + (c - 48)) s))) (le-ltb c 48 (omega (arith, h))) (lt-ltb 57 c h)
 
 go_on : (k n : ℕ) (s : List ℕ) → 48 ≤ get_or s 0 0 → get_or s 0 0 ≤ 57 → spelled (suc k) n s ≡ spelled k (n * 10 + (get_or s 0 0 - 48)) (drop 1 s)
@@ -62,11 +62,11 @@ module _ (text : List ℕ) (i n : ℕ) where
   first : get_or (drop i text) 0 0 ≡ get_or text i 0
   first = get_or-drop i text 0 0 ∙ ap (λ (k : ℕ). get_or text k 0) (omega arith)
 
-  pub stops-low : get_or text i 0 < 48 → spelled (8 - i) n (drop i text) ≡ n
-  stops-low h = stop-low (8 - i) n (drop i text) (omega (arith, first, h))
+  pub stops_low : get_or text i 0 < 48 → spelled (8 - i) n (drop i text) ≡ n
+  stops_low h = stop_low (8 - i) n (drop i text) (omega (arith, first, h))
 
-  pub stops-high : 57 < get_or text i 0 → spelled (8 - i) n (drop i text) ≡ n
-  stops-high h = stop-high (8 - i) n (drop i text) (omega (arith, first, h))
+  pub stops_high : 57 < get_or text i 0 → spelled (8 - i) n (drop i text) ≡ n
+  stops_high h = stop_high (8 - i) n (drop i text) (omega (arith, first, h))
 
   pub goes_on : i < 8 → 48 ≤ get_or text i 0 → get_or text i 0 ≤ 57
       → spelled (8 - i) n (drop i text) ≡ spelled (8 - (i + 1)) (n * 10 + (get_or text i 0 - 48)) (drop (i + 1) text)
@@ -101,19 +101,19 @@ digit : (k n m : ℕ) (s : List ℕ) → spelled (suc k) n ((48 + m % 10) ∷ s)
 digit k n m s = go_on k n ((48 + m % 10) ∷ s) (omega arith) (omega arith) ∙ ap (λ (j : ℕ). spelled k (n * 10 + j) s) (omega arith)
 
 feed : (k n : ℕ) (s : List ℕ) → spelled k n (10 ∷ s) ≡ n
-feed k n s = stop-low k n (10 ∷ s) (omega arith)
+feed k n s = stop_low k n (10 ∷ s) (omega arith)
 
-four-digits : (n : ℕ) → n ≤ 1023 → (((0 * 10 + n / 1000 % 10) * 10 + n / 100 % 10) * 10 + n / 10 % 10) * 10 + n % 10 ≡ n
-four-digits n h =
+four_digits : (n : ℕ) → n ≤ 1023 → (((0 * 10 + n / 1000 % 10) * 10 + n / 100 % 10) * 10 + n / 10 % 10) * 10 + n % 10 ≡ n
+four_digits n h =
     let a : n / 1000 % 10 ≡ n / 1000 = omega arith in
     let b : n / 1000 * 10 + n / 100 % 10 ≡ n / 100 = omega arith in
     let c : n / 100 * 10 + n / 10 % 10 ≡ n / 10 = omega arith in
     let d : n / 10 * 10 + n % 10 ≡ n = omega arith in
     rw (a) (omega (arith, b, c, d))
 
-decimal-spelled : (n : ℕ) (s : List ℕ) → n ≤ 1023 → spelled 4 0 (decimal n ++ 10 ∷ s) ≡ n
-decimal-spelled n s h =
-    decimal-by n (λ ds. spelled 4 0 (ds ++ 10 ∷ s) ≡ n)
+decimal_spelled : (n : ℕ) (s : List ℕ) → n ≤ 1023 → spelled 4 0 (decimal n ++ 10 ∷ s) ≡ n
+decimal_spelled n s h =
+    decimal_by n (λ ds. spelled 4 0 (ds ++ 10 ∷ s) ≡ n)
     (λ a. digit 3 0 n (10 ∷ s) ∙ feed 3 (0 * 10 + n % 10) s ∙ omega arith)
     (λ a b. digit 3 0 (n / 10) ((48 + n % 10) ∷ 10 ∷ s) ∙ digit 2 (0 * 10 + n / 10 % 10) n (10 ∷ s)
     ∙ feed 2 ((0 * 10 + n / 10 % 10) * 10 + n % 10) s ∙ omega arith)
@@ -127,33 +127,33 @@ decimal-spelled n s h =
     ∙ digit 2 (0 * 10 + n / 1000 % 10) (n / 100) ((48 + n / 10 % 10) ∷ (48 + n % 10) ∷ 10 ∷ s)
     ∙ digit 1 ((0 * 10 + n / 1000 % 10) * 10 + n / 100 % 10) (n / 10) ((48 + n % 10) ∷ 10 ∷ s)
     ∙ digit 0 (((0 * 10 + n / 1000 % 10) * 10 + n / 100 % 10) * 10 + n / 10 % 10) n (10 ∷ s)
-    ∙ four-digits n h))
+    ∙ four_digits n h))
 
 -- a text that starts with the line of a par spells that par
-pub line-spelled : (par : ℕ) (text : List ℕ) → par ≤ 1023 → Starts (line_of par) text → spelled 4 0 (drop 4 text) ≡ par
-line-spelled par text h s =
+pub line_spelled : (par : ℕ) (text : List ℕ) → par ≤ 1023 → Starts (line_of par) text → spelled 4 0 (drop 4 text) ≡ par
+line_spelled par text h s =
     ap (λ (t : List ℕ). spelled 4 0 (drop 4 t)) (started (line_of par) text s)
     ∙ ap (spelled 4 0) (append_snoc (decimal par) 10 (drop (length (line_of par)) text))
-    ∙ decimal-spelled par (drop (length (line_of par)) text) h
+    ∙ decimal_spelled par (drop (length (line_of par)) text) h
 
 -- ---- what the first line says
 
 -- no par that the digits do not spell has its line here
 module _ (text : List ℕ) (n : ℕ) (told : n ≡ spelled 4 0 (drop 4 text)) where
-  pub head-large : 1023 < n → (r : Head) → r ≡ record { par = 0; from = 0 } → HeadIs text r
-  head-large h r e = rw e record {
+  pub head_large : 1023 < n → (r : Head) → r ≡ record { par = 0; from = 0 } → HeadIs text r
+  head_large h r e = rw e record {
     small = λ k. absurd (k refl);
     size = λ k. absurd (k refl);
     starts = λ k. absurd (k refl);
-    none = λ _ par p s. omega (arith, told, line-spelled par text p s, h, p);
+    none = λ _ par p s. omega (arith, told, line_spelled par text p s, h, p);
   }
 
-  pub head-other : (Starts (line_of n) text → ⊥) → (r : Head) → r ≡ record { par = 0; from = 0 } → HeadIs text r
-  head-other k r e = rw e record {
+  pub head_other : (Starts (line_of n) text → ⊥) → (r : Head) → r ≡ record { par = 0; from = 0 } → HeadIs text r
+  head_other k r e = rw e record {
     small = λ k. absurd (k refl);
     size = λ k. absurd (k refl);
     starts = λ k. absurd (k refl);
-    none = λ _ par p s. k (subst (λ (q : ℕ). Starts (line_of q) text) (sym (line-spelled par text p s) ∙ sym told) s);
+    none = λ _ par p s. k (subst (λ (q : ℕ). Starts (line_of q) text) (sym (line_spelled par text p s) ∙ sym told) s);
   }
 
 pub head_read : (text : List ℕ) (n m : ℕ) → n ≤ 1023 → m ≡ length (line_of n) → Starts (line_of n) text → HeadIs text record { par = n; from = m }

@@ -6,7 +6,7 @@ use Prim.Native.Nat.{ℕ, ◌+◌, ◌-◌, ◌/◌, ◌%◌, ◌≤◌, ◌<◌
 use native.Mathlib.Omega.{arith}
 use borrow.Author.Tests.{lt-ltb, le-ltb}
 use lib.ListN.{length, take}
-use Rattle.rules.proofs.Numbers.{lt-or-ge}
+use Rattle.rules.proofs.Numbers.{lt_or_ge}
 use Rattle.typed.specs.Text.{digits, decimal}
 use Rattle.typed.specs.Parts.{LineIs, line_of}
 use Rattle.typed.specs.declared.line.Line.{Line}
@@ -15,32 +15,32 @@ use Rattle.typed.specs.declared.line.Line.{Line}
 
 -- of one digit, two, three and four
 module _ (n : ℕ) where
-  decimal-1 : n < 10 → decimal n ≡ digits 1 n
+  decimal_1 : n < 10 → decimal n ≡ digits 1 n
   unfolding decimal
-  decimal-1 h = rw (lt-ltb n 10 h) refl
+  decimal_1 h = rw (lt-ltb n 10 h) refl
 
-  decimal-2 : 10 ≤ n → n < 100 → decimal n ≡ digits 2 n
+  decimal_2 : 10 ≤ n → n < 100 → decimal n ≡ digits 2 n
   unfolding decimal
-  decimal-2 g h = rw (le-ltb n 10 g, lt-ltb n 100 h) refl
+  decimal_2 g h = rw (le-ltb n 10 g, lt-ltb n 100 h) refl
 
-  decimal-3 : 100 ≤ n → n < 1000 → decimal n ≡ digits 3 n
+  decimal_3 : 100 ≤ n → n < 1000 → decimal n ≡ digits 3 n
   unfolding decimal
-  decimal-3 g h = rw (le-ltb n 10 (omega arith), le-ltb n 100 g, lt-ltb n 1000 h) refl
+  decimal_3 g h = rw (le-ltb n 10 (omega arith), le-ltb n 100 g, lt-ltb n 1000 h) refl
 
-  decimal-4 : 1000 ≤ n → decimal n ≡ digits 4 n
+  decimal_4 : 1000 ≤ n → decimal n ≡ digits 4 n
   unfolding decimal
-  decimal-4 g = rw (le-ltb n 10 (omega arith), le-ltb n 100 (omega arith), le-ltb n 1000 g) refl
+  decimal_4 g = rw (le-ltb n 10 (omega arith), le-ltb n 100 (omega arith), le-ltb n 1000 g) refl
 
   -- a property of it by the four cases
-  pub decimal-by : (P : List ℕ → Type 0) → (n < 10 → P (digits 1 n)) → (10 ≤ n → n < 100 → P (digits 2 n)) → (100 ≤ n → n < 1000 → P (digits 3 n))
+  pub decimal_by : (P : List ℕ → Type 0) → (n < 10 → P (digits 1 n)) → (10 ≤ n → n < 100 → P (digits 2 n)) → (100 ≤ n → n < 1000 → P (digits 3 n))
       → (1000 ≤ n → P (digits 4 n)) → P (decimal n)
-  decimal-by P one two three four =
-      ⊎_elim (λ a. rw (decimal-1 a) (one a)) (λ a. ⊎_elim (λ b. rw (decimal-2 a b) (two a b)) (λ b.
-      ⊎_elim (λ d. rw (decimal-3 b d) (three b d)) (λ d. rw (decimal-4 d) (four d)) (lt-or-ge n 1000)) (lt-or-ge n 100)) (lt-or-ge n 10)
+  decimal_by P one two three four =
+      ⊎_elim (λ a. rw (decimal_1 a) (one a)) (λ a. ⊎_elim (λ b. rw (decimal_2 a b) (two a b)) (λ b.
+      ⊎_elim (λ d. rw (decimal_3 b d) (three b d)) (λ d. rw (decimal_4 d) (four d)) (lt_or_ge n 1000)) (lt_or_ge n 100)) (lt_or_ge n 10)
 
   -- it has at most four
-  pub decimal-short : length (decimal n) ≤ 4
-  decimal-short = decimal-by (λ ds. length ds ≤ 4) (λ _. omega arith) (λ _ _. omega arith) (λ _ _. omega arith) (λ _. omega arith)
+  pub decimal_short : length (decimal n) ≤ 4
+  decimal_short = decimal_by (λ ds. length ds ≤ 4) (λ _. omega arith) (λ _ _. omega arith) (λ _ _. omega arith) (λ _. omega arith)
 
   -- its digits, each from the number itself
   pub digits_3 : digits 3 n ≡ (48 + n / 100 % 10) ∷ (48 + n / 10 % 10) ∷ (48 + n % 10) ∷ []
@@ -59,24 +59,24 @@ abbrev spells : List ℕ → List ℕ
 spells ds = 112 ∷ 97 ∷ 114 ∷ 32 ∷ ds ++ 10 ∷ []
 
 module _ (n : ℕ) where
-  line-is : (ds : List ℕ) (r : Line) → decimal n ≡ ds → r.len ≡ length (spells ds) → r.len ≤ 9 → take r.len r.bytes ≡ spells ds → LineIs n r
-  line-is ds r e s h t = record { size = rw e s; short = h; is = rw e t }
+  line_is : (ds : List ℕ) (r : Line) → decimal n ≡ ds → r.len ≡ length (spells ds) → r.len ≤ 9 → take r.len r.bytes ≡ spells ds → LineIs n r
+  line_is ds r e s h t = record { size = rw e s; short = h; is = rw e t }
 
-  pub line-1 : (a : ℕ) → n < 10 → a ≡ 48 + n % 10 → LineIs n record { bytes = 112 ∷ 97 ∷ 114 ∷ 32 ∷ a ∷ 10 ∷ 0 ∷ 0 ∷ 0 ∷ []; len = 6 }
-  line-1 a h ea = line-is (digits 1 n) _ (decimal-1 n h) refl (omega arith) (rw ea refl)
+  pub line_1 : (a : ℕ) → n < 10 → a ≡ 48 + n % 10 → LineIs n record { bytes = 112 ∷ 97 ∷ 114 ∷ 32 ∷ a ∷ 10 ∷ 0 ∷ 0 ∷ 0 ∷ []; len = 6 }
+  line_1 a h ea = line_is (digits 1 n) _ (decimal_1 n h) refl (omega arith) (rw ea refl)
 
-  pub line-2 : (a b : ℕ) → 10 ≤ n → n < 100 → a ≡ 48 + n / 10 % 10 → b ≡ 48 + n % 10
+  pub line_2 : (a b : ℕ) → 10 ≤ n → n < 100 → a ≡ 48 + n / 10 % 10 → b ≡ 48 + n % 10
       → LineIs n record { bytes = 112 ∷ 97 ∷ 114 ∷ 32 ∷ a ∷ b ∷ 10 ∷ 0 ∷ 0 ∷ []; len = 7 }
-  line-2 a b g h ea eb = line-is (digits 2 n) _ (decimal-2 n g h) refl (omega arith) (rw (ea, eb) refl)
+  line_2 a b g h ea eb = line_is (digits 2 n) _ (decimal_2 n g h) refl (omega arith) (rw (ea, eb) refl)
 
-  pub line-3 : (a b c : ℕ) → 100 ≤ n → n < 1000 → a ≡ 48 + n / 100 % 10 → b ≡ 48 + n / 10 % 10 → c ≡ 48 + n % 10
+  pub line_3 : (a b c : ℕ) → 100 ≤ n → n < 1000 → a ≡ 48 + n / 100 % 10 → b ≡ 48 + n / 10 % 10 → c ≡ 48 + n % 10
       → LineIs n record { bytes = 112 ∷ 97 ∷ 114 ∷ 32 ∷ a ∷ b ∷ c ∷ 10 ∷ 0 ∷ []; len = 8 }
-  line-3 a b c g h ea eb ec = line-is _ _ (decimal-3 n g h ∙ digits_3 n) refl (omega arith) (rw (ea, eb, ec) refl)
+  line_3 a b c g h ea eb ec = line_is _ _ (decimal_3 n g h ∙ digits_3 n) refl (omega arith) (rw (ea, eb, ec) refl)
 
-  pub line-4 : (a b c d : ℕ) → 1000 ≤ n → a ≡ 48 + n / 1000 % 10 → b ≡ 48 + n / 100 % 10 → c ≡ 48 + n / 10 % 10 → d ≡ 48 + n % 10
+  pub line_4 : (a b c d : ℕ) → 1000 ≤ n → a ≡ 48 + n / 1000 % 10 → b ≡ 48 + n / 100 % 10 → c ≡ 48 + n / 10 % 10 → d ≡ 48 + n % 10
       → LineIs n record { bytes = 112 ∷ 97 ∷ 114 ∷ 32 ∷ a ∷ b ∷ c ∷ d ∷ 10 ∷ []; len = 9 }
-  line-4 a b c d g ea eb ec ed = line-is _ _ (decimal-4 n g ∙ digits_4 n) refl (omega arith) (rw (ea, eb, ec, ed) refl)
+  line_4 a b c d g ea eb ec ed = line_is _ _ (decimal_4 n g ∙ digits_4 n) refl (omega arith) (rw (ea, eb, ec, ed) refl)
 
   -- lent as `&bytes[0..len]`, it arrives as len - 0 bytes
-  pub line-part : (r : Line) → LineIs n r → take (r.len - 0) r.bytes ≡ line_of n
-  line-part r L = let z : r.len - 0 ≡ r.len = omega arith in ap (λ (k : ℕ). take k r.bytes) z ∙ L.is
+  pub line_part : (r : Line) → LineIs n r → take (r.len - 0) r.bytes ≡ line_of n
+  line_part r L = let z : r.len - 0 ≡ r.len = omega arith in ap (λ (k : ℕ). take k r.bytes) z ∙ L.is

@@ -8,8 +8,8 @@ use native.Mathlib.Decide.{ℕ_discrete}
 use native.Mathlib.Omega.{arith}
 use borrow.Author.Tests.{lt-ltb, le-ltb, ne_eqb}
 use lib.ListN.{get_or}
-use Rattle.rules.proofs.Numbers.{lt-or-ge}
-use Rattle.typed.specs.Letters.{Letter, letters, tileIn, tileOf, letterOf}
+use Rattle.rules.proofs.Numbers.{lt_or_ge}
+use Rattle.typed.specs.Letters.{Letter, letters, tile_in, tile_of, letter_of}
 use Rattle.typed.specs.Parts.{foreign}
 
 -- P of each letter of a list
@@ -28,52 +28,52 @@ beside : (ls : List Letter) (N : Type 0) (c : ℕ) → None ls N c → N
 beside [] N c n = n
 beside (l ∷ ls) N c n = (beside ls (N × (c ≡ l.letter → ⊥)) c n).0
 
-none_in : (ls : List Letter) (N : Type 0) (c : ℕ) → None ls N c → tileIn ls c ≡ 7
+none_in : (ls : List Letter) (N : Type 0) (c : ℕ) → None ls N c → tile_in ls c ≡ 7
 none_in [] N c n = refl
 none_in (l ∷ ls) N c n =
     rw (ne_eqb l.letter c (λ e. (beside ls (N × (c ≡ l.letter → ⊥)) c n).1 (sym e))) (none_in ls (N × (c ≡ l.letter → ⊥)) c n)
 
 -- such a byte has tile 7
-pub no-letter : (c : ℕ) → None letters (Unit {0}) c → 7 ≡ tileOf c
-unfolding tileOf
-no-letter c n = sym (none_in letters (Unit {0}) c n)
+pub no_letter : (c : ℕ) → None letters (Unit {0}) c → 7 ≡ tile_of c
+unfolding tile_of
+no_letter c n = sym (none_in letters (Unit {0}) c n)
 
 -- a line feed is such a byte
-feed-none : tileOf 10 ≡ 7
-unfolding tileOf
-feed-none = refl
+feed_none : tile_of 10 ≡ 7
+unfolding tile_of
+feed_none = refl
 
-pub no-feed : (c : ℕ) → tileOf c ≤ 6 → c ≡ 10 → ⊥
-no-feed c h e = omega (arith, ap tileOf e, feed-none, h)
+pub no_feed : (c : ℕ) → tile_of c ≤ 6 → c ≡ 10 → ⊥
+no_feed c h e = omega (arith, ap tile_of e, feed_none, h)
 
 -- ---- the letter of a tile
 
 -- a tile's letter stands for that tile
-pub letter-tile : (t : ℕ) → t ≤ 6 → tileOf (letterOf t) ≡ t
-unfolding tileOf letterOf
-letter-tile zero h = refl
-letter-tile (suc zero) h = refl
-letter-tile (suc (suc zero)) h = refl
-letter-tile (suc (suc (suc zero))) h = refl
-letter-tile (suc (suc (suc (suc zero)))) h = refl
-letter-tile (suc (suc (suc (suc (suc zero))))) h = refl
-letter-tile (suc (suc (suc (suc (suc (suc zero)))))) h = refl
-letter-tile (suc (suc (suc (suc (suc (suc (suc t))))))) h = absurd (omega arith)
+pub letter_tile : (t : ℕ) → t ≤ 6 → tile_of (letter_of t) ≡ t
+unfolding tile_of letter_of
+letter_tile zero h = refl
+letter_tile (suc zero) h = refl
+letter_tile (suc (suc zero)) h = refl
+letter_tile (suc (suc (suc zero))) h = refl
+letter_tile (suc (suc (suc (suc zero)))) h = refl
+letter_tile (suc (suc (suc (suc (suc zero))))) h = refl
+letter_tile (suc (suc (suc (suc (suc (suc zero)))))) h = refl
+letter_tile (suc (suc (suc (suc (suc (suc (suc t))))))) h = absurd (omega arith)
 
 -- ---- one letter after the other
 
 -- what holds of each letter holds of every byte with a tile
-letters-all : (ls : List Letter) (P : ℕ → Type 0) → All ls P → (c : ℕ) → tileIn ls c ≤ 6 → P c
-letters-all [] P a c h = absurd (omega (arith, h))
-letters-all (l ∷ ls) P (p, a) c h = go (ℕ_discrete l.letter c) (λ k. letters-all ls P a c k)
+letters_all : (ls : List Letter) (P : ℕ → Type 0) → All ls P → (c : ℕ) → tile_in ls c ≤ 6 → P c
+letters_all [] P a c h = absurd (omega (arith, h))
+letters_all (l ∷ ls) P (p, a) c h = go (ℕ_discrete l.letter c) (λ k. letters_all ls P a c k)
   where
-    go : Dec (l.letter ≡ c) → (tileIn ls c ≤ 6 → P c) → P c
+    go : Dec (l.letter ≡ c) → (tile_in ls c ≤ 6 → P c) → P c
     go (yes e) more = subst P e p
-    go (no n) more = more (subst (λ (b : Bool). cond b l.tile (tileIn ls c) ≤ 6) (ne_eqb l.letter c n) h)
+    go (no n) more = more (subst (λ (b : Bool). cond b l.tile (tile_in ls c) ≤ 6) (ne_eqb l.letter c n) h)
 
-each-letter : (P : ℕ → Type 0) → All letters P → (c : ℕ) → tileOf c ≤ 6 → P c
-unfolding tileOf
-each-letter P a c h = letters-all letters P a c h
+each_letter : (P : ℕ → Type 0) → All letters P → (c : ℕ) → tile_of c ≤ 6 → P c
+unfolding tile_of
+each_letter P a c h = letters_all letters P a c h
 
 -- ---- by the last four bits
 
@@ -84,15 +84,15 @@ key c = (c + c / 64) % 16
 abbrev tiles : List ℕ
 tiles = 0 ∷ 5 ∷ 7 ∷ 1 ∷ 2 ∷ 7 ∷ 7 ∷ 7 ∷ 7 ∷ 7 ∷ 4 ∷ 6 ∷ 7 ∷ 0 ∷ 3 ∷ []
 
-keyed : (c : ℕ) → tileOf c ≤ 6 → get_or tiles (key c) 0 ≡ tileOf c
-unfolding tileOf
-keyed c h = each-letter (λ x. get_or tiles (key x) 0 ≡ tileOf x) (refl, (refl, (refl, (refl, (refl, (refl, (refl, (refl, tt)))))))) c h
+keyed : (c : ℕ) → tile_of c ≤ 6 → get_or tiles (key c) 0 ≡ tile_of c
+unfolding tile_of
+keyed c h = each_letter (λ x. get_or tiles (key x) 0 ≡ tile_of x) (refl, (refl, (refl, (refl, (refl, (refl, (refl, (refl, tt)))))))) c h
 
-pub letter-low : (c : ℕ) → tileOf c ≤ 6 → c ≤ 64
-letter-low c h = each-letter (λ x. x ≤ 64) (omega arith, (omega arith, (omega arith, (omega arith, (omega arith, (omega arith, (omega arith, (omega arith, tt)))))))) c h
+pub letter_low : (c : ℕ) → tile_of c ≤ 6 → c ≤ 64
+letter_low c h = each_letter (λ x. x ≤ 64) (omega arith, (omega arith, (omega arith, (omega arith, (omega arith, (omega arith, (omega arith, (omega arith, tt)))))))) c h
 
-pub tile-at : (k c : ℕ) → tileOf c ≤ 6 → key c ≡ k → get_or tiles k 0 ≡ tileOf c
-tile-at k c h e = ap (λ (i : ℕ). get_or tiles i 0) (sym e) ∙ keyed c h
+pub tile_at : (k c : ℕ) → tile_of c ≤ 6 → key c ≡ k → get_or tiles k 0 ≡ tile_of c
+tile_at k c h e = ap (λ (i : ℕ). get_or tiles i 0) (sym e) ∙ keyed c h
 
 -- and the last of them, where it is none of the others
 abbrev Not : ℕ → ℕ → Type 0
@@ -101,9 +101,9 @@ Not k c = key c ≡ k → ⊥
 abbrev Others : ℕ → Type 0
 Others c = ((((((Unit {0} × Not 0 c) × Not 1 c) × Not 3 c) × Not 4 c) × Not 10 c) × Not 11 c) × Not 13 c
 
-pub tile-last : (c : ℕ) → tileOf c ≤ 6 → Others c → 3 ≡ tileOf c
-unfolding tileOf
-tile-last c h o = each-letter (λ x. Others x → 3 ≡ tileOf x) (floor, (wall, (crate', (goal, (stored, (player, (on-goal, (space, tt)))))))) c h o
+pub tile_last : (c : ℕ) → tile_of c ≤ 6 → Others c → 3 ≡ tile_of c
+unfolding tile_of
+tile_last c h o = each_letter (λ x. Others x → 3 ≡ tile_of x) (floor, (wall, (crate', (goal, (stored, (player, (on_goal, (space, tt)))))))) c h o
   where
     floor : Others 45 → ◌≡◌ {A = ℕ} 3 0
     floor o = absurd (o.1 refl)
@@ -123,8 +123,8 @@ tile-last c h o = each-letter (λ x. Others x → 3 ≡ tileOf x) (floor, (wall,
     player : Others 64 → ◌≡◌ {A = ℕ} 3 5
     player o = absurd (o.0.0.0.0.0.1 refl)
 
-    on-goal : Others 43 → ◌≡◌ {A = ℕ} 3 6
-    on-goal o = absurd (o.0.1 refl)
+    on_goal : Others 43 → ◌≡◌ {A = ℕ} 3 6
+    on_goal o = absurd (o.0.1 refl)
 
     space : Others 32 → ◌≡◌ {A = ℕ} 3 0
     space o = absurd (o.0.0.0.0.0.0.1 refl)
@@ -132,14 +132,14 @@ tile-last c h o = each-letter (λ x. Others x → 3 ≡ tileOf x) (floor, (wall,
 -- ---- foreign bytes
 
 -- letters are not foreign, and what is not foreign is a letter
-pub letter-known : (c : ℕ) → tileOf c ≤ 6 → foreign c ≡ 0
-letter-known c h = ap (λ (b : Bool). cond b 0 1) (lt-ltb (tileOf c) 7 (omega arith))
+pub letter_known : (c : ℕ) → tile_of c ≤ 6 → foreign c ≡ 0
+letter_known c h = ap (λ (b : Bool). cond b 0 1) (lt-ltb (tile_of c) 7 (omega arith))
 
-pub other-foreign : (c : ℕ) → 7 ≤ tileOf c → foreign c ≡ 1
-other-foreign c h = ap (λ (b : Bool). cond b 0 1) (le-ltb (tileOf c) 7 h)
+pub other_foreign : (c : ℕ) → 7 ≤ tile_of c → foreign c ≡ 1
+other_foreign c h = ap (λ (b : Bool). cond b 0 1) (le-ltb (tile_of c) 7 h)
 
-pub known-letter : (c : ℕ) → foreign c ≡ 0 → tileOf c ≤ 6
-known-letter c e = ⊎_elim (λ h. omega (arith, h)) (λ h. absurd (omega (arith, e, other-foreign c h))) (lt-or-ge (tileOf c) 7)
+pub known_letter : (c : ℕ) → foreign c ≡ 0 → tile_of c ≤ 6
+known_letter c e = ⊎_elim (λ h. omega (arith, h)) (λ h. absurd (omega (arith, e, other_foreign c h))) (lt_or_ge (tile_of c) 7)
 
-pub foreign-one : (c : ℕ) → foreign c ≤ 1
-foreign-one c = ⊎_elim (λ h. omega (arith, letter-known c (omega (arith, h)))) (λ h. omega (arith, other-foreign c h)) (lt-or-ge (tileOf c) 7)
+pub foreign_one : (c : ℕ) → foreign c ≤ 1
+foreign_one c = ⊎_elim (λ h. omega (arith, letter_known c (omega (arith, h)))) (λ h. omega (arith, other_foreign c h)) (lt_or_ge (tile_of c) 7)

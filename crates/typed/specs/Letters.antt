@@ -14,17 +14,17 @@ abbrev pub letters : List Letter
 letters = stands 45 0 ∷ stands 35 1 ∷ stands 36 2 ∷ stands 46 3 ∷ stands 42 4 ∷ stands 64 5 ∷ stands 43 6 ∷ stands 32 0 ∷ []
 
 -- the tile of a letter; 7, which is no tile code, of any other byte
-abbrev pub tileIn : List Letter → ℕ → ℕ
-tileIn [] c = 7
-tileIn (l ∷ ls) c = cond (eqb l.letter c) l.tile (tileIn ls c)
+abbrev pub tile_in : List Letter → ℕ → ℕ
+tile_in [] c = 7
+tile_in (l ∷ ls) c = cond (eqb l.letter c) l.tile (tile_in ls c)
 
-unfoldable pub tileOf : ℕ → ℕ
-tileOf c = tileIn letters c
+unfoldable pub tile_of : ℕ → ℕ
+tile_of c = tile_in letters c
 
 -- the first letter of a tile
-abbrev pub letterIn : List Letter → ℕ → ℕ
-letterIn [] t = 0
-letterIn (l ∷ ls) t = cond (eqb l.tile t) l.letter (letterIn ls t)
+abbrev pub letter_in : List Letter → ℕ → ℕ
+letter_in [] t = 0
+letter_in (l ∷ ls) t = cond (eqb l.tile t) l.letter (letter_in ls t)
 
-unfoldable pub letterOf : ℕ → ℕ
-letterOf t = letterIn letters t
+unfoldable pub letter_of : ℕ → ℕ
+letter_of t = letter_in letters t

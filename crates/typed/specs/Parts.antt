@@ -1,8 +1,8 @@
 -- Parts: a text seen byte by byte.
 use Rattle.std.specs.Prelude.{◌≡◌, cond, List, [], ◌∷◌, ◌++◌, ℕ, zero, suc, ◌+◌, ◌*◌, ◌-◌, ◌≤◌, max, eqb, ltb, length, get_or, take, set}
-use Rattle.level.specs.Sizes.{tilesMost}
-use Rattle.typed.specs.Letters.{tileOf}
-use Rattle.typed.specs.Text.{joined, firstLine, Rows, longest, board}
+use Rattle.level.specs.Sizes.{tiles_most}
+use Rattle.typed.specs.Letters.{tile_of}
+use Rattle.typed.specs.Text.{joined, first_line, Rows, longest, board}
 use Rattle.typed.specs.declared.line.Line.{Line}
 use Rattle.typed.specs.declared.head.Head.{Head}
 use Rattle.typed.specs.declared.rows.Seen.{Seen}
@@ -12,7 +12,7 @@ use Rattle.typed.specs.declared.rows.Spot.{Spot}
 
 -- with its line feed
 abbrev pub line_of : ℕ → List ℕ
-line_of par = firstLine par ++ 10 ∷ []
+line_of par = first_line par ++ 10 ∷ []
 
 -- the first line of a par in a line's bytes
 pub record LineIs (par : ℕ) (r : Line) : Type 0 where
@@ -41,17 +41,17 @@ pub record HeadIs (text : List ℕ) (r : Head) : Type 0 where
 
 -- 1 for a byte that is no letter, else 0
 abbrev pub foreign : ℕ → ℕ
-foreign c = cond (ltb (tileOf c) 7) 0 1
+foreign c = cond (ltb (tile_of c) 7) 0 1
 
 -- the bytes of rows, one after the other: those that are foreign, the rows ended, the letters since, the longest row that ended
-abbrev pub seenNext : Seen → ℕ → Seen
-seenNext s c =
+abbrev pub seen_next : Seen → ℕ → Seen
+seen_next s c =
     cond (eqb c 10) (record { foreign = s.foreign; rows = s.rows + 1; column = 0; longest = max s.longest s.column })
     (record { foreign = s.foreign + foreign c; rows = s.rows; column = s.column + 1; longest = s.longest })
 
-abbrev pub seenIn : Seen → List ℕ → Seen
-seenIn s [] = s
-seenIn s (c ∷ cs) = seenIn (seenNext s c) cs
+abbrev pub seen_in : Seen → List ℕ → Seen
+seen_in s [] = s
+seen_in s (c ∷ cs) = seen_in (seen_next s c) cs
 
 -- the bytes are rows
 pub record IsRows (body : List ℕ) : Type 0 where
@@ -78,8 +78,8 @@ pub record Layable (body : List ℕ) (w : ℕ) (floor : List ℕ) : Type 0 where
   pub narrow : longest has.rows ≤ w
   pub not_wider : w ≤ 31
   pub room : w * length has.rows ≤ length floor
-  pub few : length floor ≤ tilesMost
-  pub is-floor : (p : ℕ) → get_or floor p 0 ≡ 0
+  pub few : length floor ≤ tiles_most
+  pub is_floor : (p : ℕ) → get_or floor p 0 ≡ 0
 
 -- the tiles of the rows stand in front
 pub record LaidOut (body : List ℕ) (w : ℕ) (new : List ℕ) : Type 0 where
@@ -88,4 +88,4 @@ pub record LaidOut (body : List ℕ) (w : ℕ) (new : List ℕ) : Type 0 where
 -- a byte placed: a line feed goes to the next row, a letter puts its tile
 pub record PlacedAs (c w : ℕ) (at : Spot) (old new : List ℕ) (r : Spot) : Type 0 where
   pub feed : c ≡ 10 → (new ≡ old) × (r ≡ record { base = at.base + w; column = 0 })
-  pub letter : (c ≡ 10 → ⊥) → (new ≡ set old (at.base + at.column) (tileOf c)) × (r ≡ record { base = at.base; column = at.column + 1 })
+  pub letter : (c ≡ 10 → ⊥) → (new ≡ set old (at.base + at.column) (tile_of c)) × (r ≡ record { base = at.base; column = at.column + 1 })

@@ -1,6 +1,6 @@
 // Letters and tiles, by the table of FORMAT 13.3. A `match` is static data, so nothing is copied.
 ghost use Rattle.std.specs.Prelude.{◌≡◌, ◌≤◌};
-ghost use Rattle.typed.specs.Letters.{tileOf, letterOf};
+ghost use Rattle.typed.specs.Letters.{tile_of, letter_of};
 ghost use Rattle.typed.specs.Parts.{foreign};
 
 // 1 for a byte that is no letter, else 0.
@@ -23,8 +23,8 @@ pub(crate) fn is_foreign(c: u8) -> usize
 // The tile of a letter. With 64 moved next to 32 the letters differ in their last four bits, so that the arms lie close enough to become a
 // table, and no jump has to be guessed.
 pub(crate) fn tile_of(c: u8) -> u8
-    requires { tileOf c ≤ 6 }
-    ensures { result ≡ tileOf c }
+    requires { tile_of c ≤ 6 }
+    ensures { result ≡ tile_of c }
 {
     match (c + c / 64) % 16 {
         0 => 0,
@@ -41,7 +41,7 @@ pub(crate) fn tile_of(c: u8) -> u8
 // The letter of a tile.
 pub fn letter_of(t: u8) -> u8
     requires { t ≤ 6 }
-    ensures { result ≡ letterOf t }
+    ensures { result ≡ letter_of t }
 {
     match t {
         0 => 45,

@@ -1,7 +1,7 @@
 // The rows of a text: seen once for their number and the longest, and laid out once that is known.
 ghost use Rattle.std.specs.Prelude.{◌≡◌, ◌+◌, ◌≤◌, ◌<◌, max, length};
-ghost use Rattle.typed.specs.Letters.{tileOf};
-ghost use Rattle.typed.specs.Parts.{seenNext, SeenAs, Layable, LaidOut, PlacedAs};
+ghost use Rattle.typed.specs.Letters.{tile_of};
+ghost use Rattle.typed.specs.Parts.{seen_next, SeenAs, Layable, LaidOut, PlacedAs};
 
 // What was seen: bytes that are no letters, rows ended, letters since, the longest row that ended.
 #[derive(Drop)]
@@ -24,7 +24,7 @@ fn larger(a: usize, b: usize) -> usize
 // One byte more.
 fn step(s: Seen, c: u8) -> Seen
     requires { (s.foreign < 9223372036854775808) × (s.rows < 9223372036854775808) × (s.column < 9223372036854775808) }
-    ensures { result ≡ seenNext s c }
+    ensures { result ≡ seen_next s c }
 {
     if c == 10 {
         return Seen {
@@ -69,7 +69,7 @@ pub struct Spot {
 
 // One byte placed in rows of width w.
 fn place(at: Spot, c: u8, w: usize, board: &mut [u8]) -> Spot
-    requires { (at.base + at.column + w < 9223372036854775808) × ((c ≡ 10 → ⊥) → (tileOf c ≤ 6) × (at.base + at.column < length board.old)) }
+    requires { (at.base + at.column + w < 9223372036854775808) × ((c ≡ 10 → ⊥) → (tile_of c ≤ 6) × (at.base + at.column < length board.old)) }
     ensures { PlacedAs c w at board.old board.new result }
 {
     if c == 10 {

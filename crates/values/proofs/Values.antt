@@ -12,16 +12,16 @@ use Rattle.account.specs.Errata.{Outside, Distinct, total, divided, solve, unwei
 use Rattle.account.proofs.Cells.{below_at}
 use Rattle.account.proofs.Powers as powers
 use Rattle.account.proofs.Filter as filter
-use Rattle.account.proofs.Solve.{solve-near}
+use Rattle.account.proofs.Solve.{solve_near}
 use Rattle.gf256.specs.Gf256.{gf256, times}
-use Rattle.gf256.specs.Tables.{place_of, inverseOf}
+use Rattle.gf256.specs.Tables.{place_of, inverse_of}
 use Rattle.gf256.proofs.Field256.{field256}
-use Rattle.gf256.proofs.Lookups.{same-quotient}
+use Rattle.gf256.proofs.Lookups.{same_quotient}
 use Rattle.rules.proofs.Laws.{either}
 use Rattle.values.specs.Values.{at, Sieved, Listed, Divided, Solved, Unweighed}
 
 abbrev div : ℕ → List ℕ → List ℕ → List ℕ
-div = divided gf256 inverseOf
+div = divided gf256 inverse_of
 
 positive : (a : ℕ) → a ≢ 0 → 0 < a
 positive zero ne = absurd (ne refl)
@@ -48,8 +48,8 @@ up_to i j l v h lt =
 pub from : (i k : ℕ) (l : List ℕ) → i < k → k ≤ length l → slice i k l ≡ get_or l i 0 ∷ slice (i + 1) k l
 from i k l h e = slice-cons i k l 0 h e ∙ ap (λ (m : ℕ). get_or l i 0 ∷ slice m k l) (sym (add-one i))
 
-set-from : (i k : ℕ) (l : List ℕ) (v : ℕ) → i < k → k ≤ length l → slice i k (set l i v) ≡ v ∷ slice (i + 1) k l
-set-from i k l v h e =
+set_from : (i k : ℕ) (l : List ℕ) (v : ℕ) → i < k → k ≤ length l → slice i k (set l i v) ≡ v ∷ slice (i + 1) k l
+set_from i k l v h e =
     from i k (set l i v) h (omega (arith, length-set l i v))
     ∙ ap₂ (λ (x : ℕ) (xs : List ℕ). x ∷ xs) (get_or-set_same l i v 0 (omega arith)) (after i k l v h)
 
@@ -63,8 +63,8 @@ pub record Sieving (x i k : ℕ) (s r : List ℕ) (m : ℕ) : Type 0 where
   pub same : (p : ℕ) → p < m → at r p ≡ at s p
   pub done : (p : ℕ) → m ≤ suc p → suc p < k → at r (suc p) ≡ bit_xor (at s (suc p)) (times x (at s p))
 
-pub sieve-starts : (x i k : ℕ) (s : List ℕ) → i < k → length s ≡ 5 → Sieving x i k s s k
-sieve-starts x i k s h e = record {
+pub sieve_starts : (x i k : ℕ) (s : List ℕ) → i < k → length s ≡ 5 → Sieving x i k s s k
+sieve_starts x i k s h e = record {
   low = h;
   high = omega arith;
   room = e;
@@ -72,9 +72,9 @@ sieve-starts x i k s h e = record {
   done = λ p l g. absurd (omega arith);
 }
 
-pub sieve-goes : (x i k : ℕ) (s r : List ℕ) (m a b y : ℕ) → k ≤ 5 → i + 1 < m → a + 1 ≡ m → b + 1 ≡ a → Sieving x i k s r m → y ≡ times x (at r b)
+pub sieve_goes : (x i k : ℕ) (s r : List ℕ) (m a b y : ℕ) → k ≤ 5 → i + 1 < m → a + 1 ≡ m → b + 1 ≡ a → Sieving x i k s r m → y ≡ times x (at r b)
     → Sieving x i k s (set r a (bit_xor (at r a) y)) a
-sieve-goes x i k s r m a b y few h ha hb S e = record {
+sieve_goes x i k s r m a b y few h ha hb S e = record {
   low = omega arith;
   high = omega (arith, S.high);
   room = length-set r a w ∙ S.room;
@@ -92,23 +92,23 @@ sieve-goes x i k s r m a b y few h ha hb S e = record {
         ∙ ap₂ bit_xor (S.same a (omega arith)) (e ∙ ap (times x) (S.same b (omega arith)))
         ∙ sym (ap₂ (λ (z z' : ℕ). bit_xor (at s z) (times x (at s z'))) q q')
 
-pub sieve-ends : (x i k : ℕ) (s r : List ℕ) (m : ℕ) → m ≤ i + 1 → Sieving x i k s r m → Sieved x i k s r
-sieve-ends x i k s r m h S = record { room = S.room; sum = λ p l g. S.done p (omega arith) g }
+pub sieve_ends : (x i k : ℕ) (s r : List ℕ) (m : ℕ) → m ≤ i + 1 → Sieving x i k s r m → Sieved x i k s r
+sieve_ends x i k s r m h S = record { room = S.room; sum = λ p l g. S.done p (omega arith) g }
 
 -- ---- two listed cells
 
 -- a later cell's place differs from an earlier one's
-distinct-at : (l : List ℕ) (i j : ℕ) → Distinct l → i < j → j < length l → get_or l i 0 ≢ get_or l j 0
-distinct-at [] i j d h k = absurd (omega arith)
-distinct-at (p ∷ l) zero zero d h k = absurd (omega arith)
-distinct-at (p ∷ l) zero (suc j) d h k = outside-at l j p d.0 (omega arith)
+distinct_at : (l : List ℕ) (i j : ℕ) → Distinct l → i < j → j < length l → get_or l i 0 ≢ get_or l j 0
+distinct_at [] i j d h k = absurd (omega arith)
+distinct_at (p ∷ l) zero zero d h k = absurd (omega arith)
+distinct_at (p ∷ l) zero (suc j) d h k = outside_at l j p d.0 (omega arith)
   where
-    outside-at : (qs : List ℕ) (m i : ℕ) → Outside qs i → m < length qs → i ≢ get_or qs m 0
-    outside-at [] m i o k = absurd (omega arith)
-    outside-at (q ∷ qs) zero i o k = o.0
-    outside-at (q ∷ qs) (suc m) i o k = outside-at qs m i o.1 (omega arith)
-distinct-at (p ∷ l) (suc i) zero d h k = absurd (omega arith)
-distinct-at (p ∷ l) (suc i) (suc j) d h k = distinct-at l i j d.1 (omega arith) (omega arith)
+    outside_at : (qs : List ℕ) (m i : ℕ) → Outside qs i → m < length qs → i ≢ get_or qs m 0
+    outside_at [] m i o k = absurd (omega arith)
+    outside_at (q ∷ qs) zero i o k = o.0
+    outside_at (q ∷ qs) (suc m) i o k = outside_at qs m i o.1 (omega arith)
+distinct_at (p ∷ l) (suc i) zero d h k = absurd (omega arith)
+distinct_at (p ∷ l) (suc i) (suc j) d h k = distinct_at l i j d.1 (omega arith) (omega arith)
 
 -- the place of the i-th listed cell, and of the cells j .. k - 1
 abbrev P : ℕ → List ℕ → ℕ → ℕ
@@ -136,13 +136,13 @@ pub record Unweighing (n : ℕ) (cells : List ℕ) (k : ℕ) (u r : List ℕ) (j
   pub list : slice 0 j r ++ unw (ys n cells k j) (slice j k r) ≡ unw (ys n cells k 0) (slice 0 k u)
 
 module _ (n : ℕ) (cells : List ℕ) (k : ℕ) (L : Listed n cells k) where
-  P-in : (i : ℕ) → P n cells i < 256
-  P-in i = powers.pow-in gf256 field256 2 (n - suc (get_or cells i 0))
+  P_in : (i : ℕ) → P n cells i < 256
+  P_in i = powers.pow_in gf256 field256 2 (n - suc (get_or cells i 0))
 
   apart : (i j : ℕ) → i < j → j < k → bit_xor (P n cells j) (P n cells i) ≢ 0
   apart i j h l =
       filter.apart_some gf256 field256 n L.short (get_or cells j 0) (get_or cells i 0) (cell_below n cells k L j l) (cell_below n cells k L i (omega arith))
-      (λ e. distinct-at (take k cells) i j L.distinct h (omega (arith, length-take-le k cells (omega (arith, L.few, L.room))))
+      (λ e. distinct_at (take k cells) i j L.distinct h (omega (arith, length-take-le k cells (omega (arith, L.few, L.room))))
       (get_or-take k cells i 0 (omega arith) ∙ sym e ∙ sym (get_or-take k cells j 0 l)))
 
   pub apart_by : (i j x y : ℕ) → i < j → j < k → x ≡ P n cells i → y ≡ P n cells j → 0 < bit_xor y x
@@ -150,11 +150,11 @@ module _ (n : ℕ) (cells : List ℕ) (k : ℕ) (L : Listed n cells k) where
 
   -- ---- dividing
 
-  ys-cons : (j : ℕ) → j < k → ys n cells k j ≡ P n cells j ∷ ys n cells k (j + 1)
-  ys-cons j h = ap (map (place_of n)) (from j k cells h (omega (arith, L.few, L.room)))
+  ys_cons : (j : ℕ) → j < k → ys n cells k j ≡ P n cells j ∷ ys n cells k (j + 1)
+  ys_cons j h = ap (map (place_of n)) (from j k cells h (omega (arith, L.few, L.room)))
 
-  pub divide-starts : (i : ℕ) (v : List ℕ) (s0 : ℕ) → i < k → length v ≡ 5 → Dividing n cells k i v s0 v s0 (i + 1)
-  divide-starts i v s0 h e = record {
+  pub divide_starts : (i : ℕ) (v : List ℕ) (s0 : ℕ) → i < k → length v ≡ 5 → Dividing n cells k i v s0 v s0 (i + 1)
+  divide_starts i v s0 h e = record {
     low = omega arith;
     high = omega arith;
     room = e;
@@ -162,10 +162,10 @@ module _ (n : ℕ) (cells : List ℕ) (k : ℕ) (L : Listed n cells k) where
     rest = refl;
   }
 
-  pub divide-goes : (i : ℕ) (v : List ℕ) (s0 : ℕ) (r : List ℕ) (sum j x y iv u : ℕ) → j < k → Dividing n cells k i v s0 r sum j → x ≡ P n cells i
+  pub divide_goes : (i : ℕ) (v : List ℕ) (s0 : ℕ) (r : List ℕ) (sum j x y iv u : ℕ) → j < k → Dividing n cells k i v s0 r sum j → x ≡ P n cells i
       → y ≡ P n cells j
       → times (bit_xor y x) iv ≡ 1 → u ≡ times (get_or r j 0) iv → Dividing n cells k i v s0 (set r j u) (bit_xor sum u) (j + 1)
-  divide-goes i v s0 r sum j x y iv u l D ex ey ei eu = record {
+  divide_goes i v s0 r sum j x y iv u l D ex ey ei eu = record {
     low = omega (arith, D.low);
     high = omega arith;
     room = length-set r j u ∙ D.room;
@@ -181,23 +181,23 @@ module _ (n : ℕ) (cells : List ℕ) (k : ℕ) (L : Listed n cells k) where
       rest : List ℕ
       rest = div (P n cells i) (ys n cells k (j + 1)) (slice (j + 1) k r)
 
-      quotient : u ≡ times (get_or r j 0) (inverseOf (bit_xor (P n cells j) (P n cells i)))
+      quotient : u ≡ times (get_or r j 0) (inverse_of (bit_xor (P n cells j) (P n cells i)))
       quotient =
-          eu ∙ same-quotient (get_or r j 0) (bit_xor (P n cells j) (P n cells i)) iv (field256.in-add (P n cells j) (P n cells i) (P-in j) (P-in i))
+          eu ∙ same_quotient (get_or r j 0) (bit_xor (P n cells j) (P n cells i)) iv (field256.in_add (P n cells j) (P n cells i) (P_in j) (P_in i))
           (apart i j D.low l)
           (ap₂ (λ (a b : ℕ). times (bit_xor a b) iv) (sym ey) (sym ex) ∙ ei)
 
       here : div (P n cells i) (ys n cells k j) (slice j k r) ≡ u ∷ rest
       here =
-          ap₂ (div (P n cells i)) (ys-cons j l) (from j k r l (omega (arith, D.room, L.few)))
+          ap₂ (div (P n cells i)) (ys_cons j l) (from j k r l (omega (arith, D.room, L.few)))
           ∙ ap (λ (a : ℕ). a ∷ rest) (sym quotient)
 
-  pub divide-ends : (i : ℕ) (v : List ℕ) (s0 : ℕ) (r : List ℕ) (sum j : ℕ) → i < k → k ≤ j → Dividing n cells k i v s0 r sum j
+  pub divide_ends : (i : ℕ) (v : List ℕ) (s0 : ℕ) (r : List ℕ) (sum j : ℕ) → i < k → k ≤ j → Dividing n cells k i v s0 r sum j
       → Divided n cells i k v s0 (set r i sum)
-  divide-ends i v s0 r sum j h g D =
-      set-from i k r sum h (omega (arith, D.room, L.few))
+  divide_ends i v s0 r sum j h g D =
+      set_from i k r sum h (omega (arith, D.room, L.few))
       ∙ ap₂ (λ (a : ℕ) (b : List ℕ). a ∷ b)
-      (sym (field256.add-zero sum) ∙ ap (λ (b : List ℕ). bit_xor sum (total gf256 b)) (sym none) ∙ D.rest)
+      (sym (field256.add_zero sum) ∙ ap (λ (b : List ℕ). bit_xor sum (total gf256 b)) (sym none) ∙ D.rest)
       (sym (append-nil (slice (i + 1) k r)) ∙ ap₂ (λ (m : ℕ) (b : List ℕ). slice (i + 1) m r ++ b) same (sym none) ∙ D.list)
     where
       same : k ≡ j
@@ -211,8 +211,8 @@ module _ (n : ℕ) (cells : List ℕ) (k : ℕ) (L : Listed n cells k) where
 
   -- ---- solving
 
-  pub solve-none : (i : ℕ) (s r : List ℕ) → k ≤ i → i ≤ k → Solved n cells i k s r
-  solve-none i s r h g = none r ∙ sym (ap (λ (l : List ℕ). solve gf256 inverseOf (map (place_of n) l) (λ m. at s (i + m))) (none cells))
+  pub solve_none : (i : ℕ) (s r : List ℕ) → k ≤ i → i ≤ k → Solved n cells i k s r
+  solve_none i s r h g = none r ∙ sym (ap (λ (l : List ℕ). solve gf256 inverse_of (map (place_of n) l) (λ m. at s (i + m))) (none cells))
     where
       same : i ≡ k
       same = omega arith
@@ -221,8 +221,8 @@ module _ (n : ℕ) (cells : List ℕ) (k : ℕ) (L : Listed n cells k) where
       none l = ap (λ (m : ℕ). slice m k l) same ∙ slice_empty k l
 
   -- at most one
-  pub solve-last : (i : ℕ) (s : List ℕ) → k ≤ i + 1 → i ≤ k → length s ≡ 5 → Solved n cells i k s s
-  solve-last i s h g e = either (Solved n cells i k s s) (k - i) (λ z. solve-none i s s (omega (arith, z)) g) (λ z. one (omega (arith, positive (k - i) z)))
+  pub solve_last : (i : ℕ) (s : List ℕ) → k ≤ i + 1 → i ≤ k → length s ≡ 5 → Solved n cells i k s s
+  solve_last i s h g e = either (Solved n cells i k s s) (k - i) (λ z. solve_none i s s (omega (arith, z)) g) (λ z. one (omega (arith, positive (k - i) z)))
     where
       first : i ≡ i + 0
       first = omega arith
@@ -233,16 +233,16 @@ module _ (n : ℕ) (cells : List ℕ) (k : ℕ) (L : Listed n cells k) where
       one : k ≡ i + 1 → Solved n cells i k s s
       one q =
           from i k s (omega arith) (omega (arith, L.few))
-          ∙ ap₂ (λ (a : ℕ) (vs : List ℕ). a ∷ vs) (ap (at s) first ∙ sym (field256.add-zero (at s (i + 0)))) (none q s)
-          ∙ sym (ap (λ (l : List ℕ). solve gf256 inverseOf l (λ m. at s (i + m)))
-          (ys-cons i (omega arith) ∙ ap (λ (l : List ℕ). P n cells i ∷ map (place_of n) l) (none q cells)))
+          ∙ ap₂ (λ (a : ℕ) (vs : List ℕ). a ∷ vs) (ap (at s) first ∙ sym (field256.add_zero (at s (i + 0)))) (none q s)
+          ∙ sym (ap (λ (l : List ℕ). solve gf256 inverse_of l (λ m. at s (i + m)))
+          (ys_cons i (omega arith) ∙ ap (λ (l : List ℕ). P n cells i ∷ map (place_of n) l) (none q cells)))
 
-  pub solve-step : (i x : ℕ) (s t v r : List ℕ) → i < k → x ≡ P n cells i → Sieved x i k s t → Solved n cells (i + 1) k t v → Divided n cells i k v (at s i) r
+  pub solve_step : (i x : ℕ) (s t v r : List ℕ) → i < k → x ≡ P n cells i → Sieved x i k s t → Solved n cells (i + 1) k t v → Divided n cells i k v (at s i) r
       → Solved n cells i k s r
-  solve-step i x s t v r h ex f S D =
+  solve_step i x s t v r h ex f S D =
       D ∙ ap₂ (λ (a : ℕ) (vs : List ℕ). bit_xor a (total gf256 (div (P n cells i) (ys n cells k (i + 1)) vs)) ∷ div (P n cells i) (ys n cells k (i + 1)) vs)
       (ap (at s) first) inner
-      ∙ ap (λ (xs : List ℕ). solve gf256 inverseOf xs (λ m. at s (i + m))) (sym (ys-cons i h))
+      ∙ ap (λ (xs : List ℕ). solve gf256 inverse_of xs (λ m. at s (i + m))) (sym (ys_cons i h))
     where
       first : i ≡ i + 0
       first = omega arith
@@ -253,34 +253,34 @@ module _ (n : ℕ) (cells : List ℕ) (k : ℕ) (L : Listed n cells k) where
       behind : (m : ℕ) → suc (i + m) ≡ i + suc m
       behind m = omega arith
 
-      inner : slice (i + 1) k v ≡ solve gf256 inverseOf (ys n cells k (i + 1)) (λ m. bit_xor (at s (i + suc m)) (times (P n cells i) (at s (i + m))))
+      inner : slice (i + 1) k v ≡ solve gf256 inverse_of (ys n cells k (i + 1)) (λ m. bit_xor (at s (i + suc m)) (times (P n cells i) (at s (i + m))))
       inner =
-          S ∙ solve-near gf256 field256 inverseOf (ys n cells k (i + 1)) (λ m. at t (i + 1 + m))
+          S ∙ solve_near gf256 field256 inverse_of (ys n cells k (i + 1)) (λ m. at t (i + 1 + m))
           (λ m. bit_xor (at s (i + suc m)) (times (P n cells i) (at s (i + m))))
           (λ m l. ap (at t) (before m) ∙ f.sum (i + m) (omega arith) (omega (
             arith,
             l,
-            filter.length-map (place_of n) (slice (i + 1) k cells),
+            filter.length_map (place_of n) (slice (i + 1) k cells),
             length-slice (i + 1) k cells (omega (arith, L.few, L.room)),
           ))
           ∙ ap₂ (λ (a z : ℕ). bit_xor (at s a) (times z (at s (i + m)))) (behind m) ex)
 
   -- from the first cell on
-  pub solve-all : (s r : List ℕ) → Solved n cells 0 k s r → take k r ≡ solve gf256 inverseOf (map (place_of n) (take k cells)) (at s)
-  solve-all s r S =
-      S ∙ solve-near gf256 field256 inverseOf (map (place_of n) (take k cells)) (λ m. at s (0 + m)) (at s) (λ m l. ap (at s) (zero-plus m))
+  pub solve_all : (s r : List ℕ) → Solved n cells 0 k s r → take k r ≡ solve gf256 inverse_of (map (place_of n) (take k cells)) (at s)
+  solve_all s r S =
+      S ∙ solve_near gf256 field256 inverse_of (map (place_of n) (take k cells)) (λ m. at s (0 + m)) (at s) (λ m l. ap (at s) (zero_plus m))
     where
-      zero-plus : (m : ℕ) → 0 + m ≡ m
-      zero-plus m = omega arith
+      zero_plus : (m : ℕ) → 0 + m ≡ m
+      zero_plus m = omega arith
 
   -- ---- the weights taken off
 
-  pub unweigh-starts : (u : List ℕ) → length u ≡ 5 → Unweighing n cells k u u 0
-  unweigh-starts u e = record { high = omega arith; room = e; list = refl }
+  pub unweigh_starts : (u : List ℕ) → length u ≡ 5 → Unweighing n cells k u u 0
+  unweigh_starts u e = record { high = omega arith; room = e; list = refl }
 
-  pub unweigh-goes : (u r : List ℕ) (j x q w : ℕ) → j < k → Unweighing n cells k u r j → x ≡ P n cells j → q ≡ times x x → w ≡ times (get_or r j 0) q
+  pub unweigh_goes : (u r : List ℕ) (j x q w : ℕ) → j < k → Unweighing n cells k u r j → x ≡ P n cells j → q ≡ times x x → w ≡ times (get_or r j 0) q
       → Unweighing n cells k u (set r j w) (j + 1)
-  unweigh-goes u r j x q w l U ex eq ew = record {
+  unweigh_goes u r j x q w l U ex eq ew = record {
     high = omega arith;
     room = length-set r j w ∙ U.room;
     list =
@@ -293,12 +293,12 @@ module _ (n : ℕ) (cells : List ℕ) (k : ℕ) (L : Listed n cells k) where
 
       here : unw (ys n cells k j) (slice j k r) ≡ w ∷ rest
       here =
-          ap₂ unw (ys-cons j l) (from j k r l (omega (arith, U.room, L.few)))
+          ap₂ unw (ys_cons j l) (from j k r l (omega (arith, U.room, L.few)))
           ∙ ap (λ (a : ℕ). a ∷ rest)
           (sym (ew ∙ ap (times (get_or r j 0)) (eq ∙ ap₂ times ex ex) ∙ sym (field256.mul_assoc (get_or r j 0) (P n cells j) (P n cells j))))
 
-  pub unweigh-ends : (u r : List ℕ) (j : ℕ) → k ≤ j → Unweighing n cells k u r j → Unweighed n cells k u r
-  unweigh-ends u r j g U =
+  pub unweigh_ends : (u r : List ℕ) (j : ℕ) → k ≤ j → Unweighing n cells k u r j → Unweighed n cells k u r
+  unweigh_ends u r j g U =
       sym (append-nil (take k r)) ∙ ap₂ (λ (m : ℕ) (b : List ℕ). slice 0 m r ++ b) same (sym none) ∙ U.list
     where
       same : k ≡ j

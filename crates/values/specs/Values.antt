@@ -5,7 +5,7 @@ use Rattle.std.proofs.Math.Seq.{slice}
 use Rattle.account.specs.Errata.{Below, Distinct, total, divided, solve, unweighed}
 use Rattle.account.specs.Search.{erasures}
 use Rattle.gf256.specs.Gf256.{gf256, times}
-use Rattle.gf256.specs.Tables.{place_of, inverseOf}
+use Rattle.gf256.specs.Tables.{place_of, inverse_of}
 use Rattle.values.specs.declared.Errata.{Errata}
 
 -- the sums that a syndrome holds, counted from 0
@@ -23,9 +23,9 @@ pub record Listed (n : ℕ) (cells : List ℕ) (k : ℕ) : Type 0 where
 -- the first k cells, with the values that give the sums s
 pub record Valued (n : ℕ) (cells : List ℕ) (k : ℕ) (s : List ℕ) (e : Errata) : Type 0 where
   pub count : e.count ≡ k
-  pub same-cells : e.cells ≡ cells
+  pub same_cells : e.cells ≡ cells
   pub room : length e.values ≡ 5
-  pub values : take k e.values ≡ unweighed gf256 (map (place_of n) (take k cells)) (solve gf256 inverseOf (map (place_of n) (take k cells)) (at s))
+  pub values : take k e.values ≡ unweighed gf256 (map (place_of n) (take k cells)) (solve gf256 inverse_of (map (place_of n) (take k cells)) (at s))
 
 -- the first f cells are the marked ones, the last first
 pub record Gathered (marks cells : List ℕ) (f : ℕ) : Type 0 where
@@ -42,7 +42,7 @@ values_of e = take e.count e.values
 pub record ErrataFor (n : ℕ) (e : Errata) : Type 0 where
   pub few : e.count ≤ 5
   pub room : length e.cells ≡ 5
-  pub values-room : length e.values ≡ 5
+  pub values_room : length e.values ≡ 5
   pub below : Below (cells_of e) n
   pub distinct : Distinct (cells_of e)
 
@@ -56,12 +56,12 @@ pub record Sieved (x i k : ℕ) (s r : List ℕ) : Type 0 where
 -- the values at the cells after i, divided, and before them what is left of the first sum
 abbrev pub Divided : ℕ → List ℕ → ℕ → ℕ → List ℕ → ℕ → List ℕ → Type 0
 Divided n cells i k v s0 r =
-    slice i k r ≡ bit_xor s0 (total gf256 (divided gf256 inverseOf (place_of n (get_or cells i 0)) (map (place_of n) (slice (i + 1) k cells)) (slice (i + 1) k v)))
-    ∷ divided gf256 inverseOf (place_of n (get_or cells i 0)) (map (place_of n) (slice (i + 1) k cells)) (slice (i + 1) k v)
+    slice i k r ≡ bit_xor s0 (total gf256 (divided gf256 inverse_of (place_of n (get_or cells i 0)) (map (place_of n) (slice (i + 1) k cells)) (slice (i + 1) k v)))
+    ∷ divided gf256 inverse_of (place_of n (get_or cells i 0)) (map (place_of n) (slice (i + 1) k cells)) (slice (i + 1) k v)
 
 -- the values at the cells from i on that give the sums s from i on
 abbrev pub Solved : ℕ → List ℕ → ℕ → ℕ → List ℕ → List ℕ → Type 0
-Solved n cells i k s r = slice i k r ≡ solve gf256 inverseOf (map (place_of n) (slice i k cells)) (λ m. at s (i + m))
+Solved n cells i k s r = slice i k r ≡ solve gf256 inverse_of (map (place_of n) (slice i k cells)) (λ m. at s (i + m))
 
 abbrev pub Unweighed : ℕ → List ℕ → ℕ → List ℕ → List ℕ → Type 0
 Unweighed n cells k u r = take k r ≡ unweighed gf256 (map (place_of n) (take k cells)) (take k u)

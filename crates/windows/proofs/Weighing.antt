@@ -8,37 +8,37 @@ use Prim.Native.Nat.{ℕ, ◌+◌, ◌*◌, ◌-◌, ◌/◌, ◌≤◌, ◌<◌
 use native.Mathlib.Omega.{arith}
 use lib.ListN.{length, get_or, take}
 use lib.Seq.{get_or-take, length-take-le}
-use Rattle.rules.proofs.Numbers.{lt-or-ge}
+use Rattle.rules.proofs.Numbers.{lt_or_ge}
 use Rattle.account.specs.Lists.{sum_of}
 use Rattle.level.specs.Record.{bit_at, field_at}
-use Rattle.level.proofs.Windows.{field-seen}
+use Rattle.level.proofs.Windows.{field_seen}
 use Rattle.patches.specs.Patched.{patched}
-use Rattle.patches.proofs.Patching.{length-patched}
+use Rattle.patches.proofs.Patching.{length_patched}
 use Rattle.patches.specs.Window.{Shown}
 use Rattle.fields.specs.Head.{Heads}
 use Rattle.fields.specs.declared.head.Head.{Head}
-use Rattle.tiles.specs.Sum.{addsAt, Counted}
+use Rattle.tiles.specs.Sum.{adds_at, Counted}
 use Rattle.tiles.proofs.Part.{part_of, length_part}
-use Rattle.tiles.proofs.Counting.{part-summed}
+use Rattle.tiles.proofs.Counting.{part_summed}
 use Rattle.windows.specs.Windows.{WeighedAs}
-use Rattle.windows.proofs.Pieces.{Sees, blank-more, blank-seen, full-sum, last_sum}
+use Rattle.windows.proofs.Pieces.{Sees, blank_more, blank_seen, full_sum, last_sum}
 
 -- no bit of w is set from bit d on
 abbrev pub BlankFrom : ℕ → List ℕ → Type 0
 BlankFrom d w = (p : ℕ) → d ≤ p → p < 8 * length w → bit_at w p ≡ 0
 
 -- the record in the first cells of the mended strip
-abbrev pub recordIn : List ℕ → List ℕ → List ℕ → ℕ → ℕ → List ℕ
-recordIn s cells bytes count to = take to (patched cells bytes count s)
+abbrev pub record_in : List ℕ → List ℕ → List ℕ → ℕ → ℕ → List ℕ
+record_in s cells bytes count to = take to (patched cells bytes count s)
 
-pub length-record : (s cells bytes : List ℕ) (count to : ℕ) → to ≤ length s → length (recordIn s cells bytes count to) ≡ to
-length-record s cells bytes count to h = length-take-le to (patched cells bytes count s) (omega (arith, length-patched cells bytes s count))
+pub length_record : (s cells bytes : List ℕ) (count to : ℕ) → to ≤ length s → length (record_in s cells bytes count to) ≡ to
+length_record s cells bytes count to h = length-take-le to (patched cells bytes count s) (omega (arith, length_patched cells bytes s count))
 
 -- what a window shows, it shows of the record
 pub sees : (s cells bytes scratch : List ℕ) (count a to n : ℕ) → to ≤ length s → Shown s cells bytes count a to scratch n
-    → Sees (recordIn s cells bytes count to) a n (take (n - 0) scratch)
+    → Sees (record_in s cells bytes count to) a n (take (n - 0) scratch)
 sees s cells bytes scratch count a to n h O = record {
-  inside = omega (arith, O.before, length-record s cells bytes count to h);
+  inside = omega (arith, O.before, length_record s cells bytes count to h);
   same = λ q l.
       get_or-take (n - 0) scratch q 0 (omega arith) ∙ O.shows q l
       ∙ sym (get_or-take to (patched cells bytes count s) (a + q) 0 (omega (arith, O.before)));
@@ -46,9 +46,9 @@ sees s cells bytes scratch count a to n h O = record {
 
 -- ---- the head
 
-pub head-seen : (s cells bytes scratch : List ℕ) (count to n : ℕ) → 3 ≤ to → to ≤ length s → Shown s cells bytes count 0 3 scratch n → (f : Head)
-    → Heads scratch f → Heads (recordIn s cells bytes count to) f
-head-seen s cells bytes scratch count to n some h O f H = record {
+pub head_seen : (s cells bytes scratch : List ℕ) (count to n : ℕ) → 3 ≤ to → to ≤ length s → Shown s cells bytes count 0 3 scratch n → (f : Head)
+    → Heads scratch f → Heads (record_in s cells bytes count to) f
+head_seen s cells bytes scratch count to n some h O f H = record {
   version = H.version ∙ at 0 4 (omega arith);
   width = H.width ∙ at 4 5 (omega arith);
   height = H.height ∙ at 9 5 (omega arith);
@@ -56,15 +56,15 @@ head-seen s cells bytes scratch count to n some h O f H = record {
 }
   where
     three : n ≡ 3
-    three = ⊎_elim (λ l. absurd (omega (arith, l, O.full (omega arith)))) (λ l. omega (arith, O.before)) (lt-or-ge n 3)
+    three = ⊎_elim (λ l. absurd (omega (arith, l, O.full (omega arith)))) (λ l. omega (arith, O.before)) (lt_or_ge n 3)
 
-    same : (q : ℕ) → q < 3 → get_or scratch q 0 ≡ get_or (recordIn s cells bytes count to) (0 + q) 0
+    same : (q : ℕ) → q < 3 → get_or scratch q 0 ≡ get_or (record_in s cells bytes count to) (0 + q) 0
     same q l = O.shows q (omega (arith, three)) ∙ sym (get_or-take to (patched cells bytes count s) (0 + q) 0 (omega arith))
 
-    at : (p k : ℕ) → p + k ≤ 24 → field_at scratch p k ≡ field_at (recordIn s cells bytes count to) p k
+    at : (p k : ℕ) → p + k ≤ 24 → field_at scratch p k ≡ field_at (record_in s cells bytes count to) p k
     at p k l =
         let z : 8 * 0 + p ≡ p = omega arith in
-        field-seen (recordIn s cells bytes count to) scratch 0 3 same p k (omega arith) ∙ ap (λ (q : ℕ). field_at (recordIn s cells bytes count to) q k) z
+        field_seen (record_in s cells bytes count to) scratch 0 3 same p k (omega arith) ∙ ap (λ (q : ℕ). field_at (record_in s cells bytes count to) q k) z
 
 -- ---- blank, and the sum
 
@@ -75,15 +75,15 @@ module _ (bs : List ℕ) (bits : ℕ) where
     pub start : 3 ≤ from
     pub g : ℕ
     pub few : g ≤ from
-    pub sum_is : sum ≡ sum_of (8 * g) (addsAt (part_of bs))
+    pub sum_is : sum ≡ sum_of (8 * g) (adds_at (part_of bs))
     pub small : sum ≤ 9007199254740992 * (2 * g)
     pub on : from < length bs → from ≡ 3 + 3 * g
     pub all : length bs ≤ from → length (part_of bs) ≤ 3 * g
     pub clear : (p : ℕ) → bits ≤ p → p < 8 * from → bit_at bs p ≡ 0
 
-  pub weighing-0 : 24 ≤ bits → 4 ≤ length bs → Weighing 3 0
+  pub weighing_0 : 24 ≤ bits → 4 ≤ length bs → Weighing 3 0
   unfolding sum_of
-  weighing-0 h l = record {
+  weighing_0 h l = record {
     within = omega arith;
     start = omega arith;
     g = 0;
@@ -97,14 +97,14 @@ module _ (bs : List ℕ) (bits : ℕ) where
 
   module _ (from sum n r : ℕ) (w : List ℕ) (W : Weighing from sum) (more : from < length bs) (S : Sees bs from n w) (long : length w ≡ n)
       (full : from + n < length bs → n ≡ 186) (d : ℕ) (left : d ≡ bits - 8 * from) where
-    pub some-seen : 0 < n
-    some-seen = ⊎_elim (λ l. omega (arith, full l)) (λ l. omega arith) (lt-or-ge (from + n) (length bs))
+    pub some_seen : 0 < n
+    some_seen = ⊎_elim (λ l. omega (arith, full l)) (λ l. omega arith) (lt_or_ge (from + n) (length bs))
 
-    pub weighing-more : BlankFrom d w → Counted w r → Weighing (from + n) (sum + r)
-    weighing-more b C = ⊎_elim goes ends (lt-or-ge (from + n) (length bs))
+    pub weighing_more : BlankFrom d w → Counted w r → Weighing (from + n) (sum + r)
+    weighing_more b C = ⊎_elim goes ends (lt_or_ge (from + n) (length bs))
       where
         clear : (p : ℕ) → bits ≤ p → p < 8 * (from + n) → bit_at bs p ≡ 0
-        clear = blank-more bs from n w S bits long W.clear (λ p h. b p (omega (arith, left)))
+        clear = blank_more bs from n w S bits long W.clear (λ p h. b p (omega (arith, left)))
 
         goes : from + n < length bs → Weighing (from + n) (sum + r)
         goes l = record {
@@ -112,7 +112,7 @@ module _ (bs : List ℕ) (bits : ℕ) where
           start = omega (arith, W.start);
           g = W.g + 62;
           few = omega (arith, W.few, full l);
-          sum_is = full-sum bs from n w S W.g (W.on more) long (full l) sum r W.sum_is C;
+          sum_is = full_sum bs from n w S W.g (W.on more) long (full l) sum r W.sum_is C;
           small = omega (arith, W.small, C.small, long, full l, count);
           on = λ _. omega (arith, W.on more, full l);
           all = λ k. absurd (omega arith);
@@ -135,14 +135,14 @@ module _ (bs : List ℕ) (bits : ℕ) where
           clear = clear;
         }
 
-    pub not-blank : (BlankFrom d w → ⊥) → WeighedAs bs bits (record { blank = false; sum = 0 })
-    not-blank out = record { blank = λ all. out (λ p h. blank-seen bs from n w S bits long all p (omega (arith, left))); sum = λ e. absurd (no_true e) }
+    pub not_blank : (BlankFrom d w → ⊥) → WeighedAs bs bits (record { blank = false; sum = 0 })
+    not_blank out = record { blank = λ all. out (λ p h. blank_seen bs from n w S bits long all p (omega (arith, left))); sum = λ e. absurd (no_true e) }
       where
         no_true : false ≡ true → ⊥
         no_true e = subst (λ (b : Bool). T (not b)) e tt
 
-  pub weighed-all : (from sum : ℕ) → length bs ≤ from → Weighing from sum → WeighedAs bs bits (record { blank = true; sum = sum })
-  weighed-all from sum h W = record {
+  pub weighed_all : (from sum : ℕ) → length bs ≤ from → Weighing from sum → WeighedAs bs bits (record { blank = true; sum = sum })
+  weighed_all from sum h W = record {
     blank = λ p a b. W.clear p a (omega arith);
-    sum = λ _. part-summed (part_of bs) sum W.g (W.all h) W.sum_is;
+    sum = λ _. part_summed (part_of bs) sum W.g (W.all h) W.sum_is;
   }

@@ -2,15 +2,15 @@
 use Rattle.std.specs.Prelude.{◌≡◌, true, List, ℕ, ◌*◌, ◌-◌, ◌≤◌, ◌<◌, length, take, drop}
 use Rattle.rules.specs.Says.{Says}
 use Rattle.level.specs.Record.{bit_at}
-use Rattle.level.specs.Sizes.{recordLeast, filledMost}
+use Rattle.level.specs.Sizes.{record_least, filled_most}
 use Rattle.tiles.specs.Sum.{PartSummed}
 use Rattle.windows.specs.declared.Weighed.{Weighed}
 
 -- the record is in the first cells of a strip, up to one of them; what is to be put right and the scratch have their sizes
 pub record Lent (s : List ℕ) (count to scratch : ℕ) : Type 0 where
   pub few : count ≤ 80
-  pub some : recordLeast ≤ to
-  pub short : to ≤ filledMost
+  pub some : record_least ≤ to
+  pub short : to ≤ filled_most
   pub inside : to ≤ length s
   pub room : 186 ≤ scratch
 

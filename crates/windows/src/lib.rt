@@ -2,8 +2,8 @@
 // the head; a window from there on has whole groups of eight tiles, but for the last.
 ghost use Rattle.std.specs.Prelude.{◌≡◌, ◌++◌, ◌+◌, ◌*◌, ◌-◌, ◌≤◌, ◌<◌, length, take, drop};
 ghost use Rattle.rules.specs.Refusal.{Within};
-ghost use Rattle.level.specs.Sizes.{tilesMost};
-ghost use Rattle.level.specs.Reading.{tilesIn};
+ghost use Rattle.level.specs.Sizes.{tiles_most};
+ghost use Rattle.level.specs.Reading.{tiles_in};
 ghost use Rattle.patches.specs.Patched.{patched};
 ghost use Rattle.fields.specs.Head.{Heads};
 ghost use Rattle.fields.specs.Judged.{JudgedAs, AcceptedAs};
@@ -133,8 +133,8 @@ fn unpack(
     tiles: &mut [u8],
     scratch: &mut [u8],
 )
-    requires { Lent strip.now count to (length scratch.old) × (m ≤ tilesMost) × (24 + 3 * m ≤ 8 * to) × (m ≤ length tiles.old) }
-    ensures { tiles.new ≡ tilesIn (take to (patched cells.now bytes.now count strip.now)) m ++ drop m tiles.old }
+    requires { Lent strip.now count to (length scratch.old) × (m ≤ tiles_most) × (24 + 3 * m ≤ 8 * to) × (m ≤ length tiles.old) }
+    ensures { tiles.new ≡ tiles_in (take to (patched cells.now bytes.now count strip.now)) m ++ drop m tiles.old }
 {
     let mut from = HEAD;
     let mut t: usize = 0;
@@ -159,7 +159,7 @@ pub fn accept(
     tiles: &mut [u8],
     scratch: &mut [u8],
 ) -> Judged
-    requires { Lent strip.now count to (length scratch.old) × Within 1 16 lanes × (tilesMost ≤ length tiles.old) }
+    requires { Lent strip.now count to (length scratch.old) × Within 1 16 lanes × (tiles_most ≤ length tiles.old) }
     ensures { AcceptedAs upto lanes (take to (patched cells.now bytes.now count strip.now)) tiles.old tiles.new result }
 {
     let j = judge(upto, strip, cells, bytes, count, lanes, to, scratch);

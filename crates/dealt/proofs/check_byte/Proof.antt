@@ -1,5 +1,5 @@
 use mathlib.Core.Path.{◌∙◌}
-use Rattle.dealt.proofs.CheckCells.{check-byte-is}
+use Rattle.dealt.proofs.CheckCells.{check_byte_is}
 use borrow.Author.Rules.{rules}
 use Rattle.dealt.proofs.check_byte.Statement.{statement}
 use Rattle.dealt.proofs.check_byte.Tie as tie
@@ -17,7 +17,7 @@ low-requires : tie.Need-low-requires
 low-requires c κs = search rules
 
 returns : tie.Need-returns
-returns c = c.low.ensures ∙ check-byte-is c.before.args.c c.before.args.i c.before.requires
+returns c = c.low.ensures ∙ check_byte_is c.before.args.c c.before.args.i c.before.requires
 
 pub check-byte-spec : {M : Type 1} → statement M
 check-byte-spec = tie.close (tie.spec mul_low sub_low shr-low low-requires returns)

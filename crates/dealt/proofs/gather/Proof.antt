@@ -3,7 +3,7 @@ use Prim.Native.Nat.{◌-◌, ◌≤◌}
 use native.Mathlib.Omega.{arith}
 use borrow.Author.Rules.{rules}
 use lib.ListN.{length-set}
-use Rattle.dealt.proofs.Gathering.{Gathering, gathering-0, gathering-more, next-inside, gathered}
+use Rattle.dealt.proofs.Gathering.{Gathering, gathering_0, gathering_more, next_inside, gathered}
 use Rattle.dealt.proofs.gather.Statement.{statement}
 use Rattle.dealt.proofs.gather.Tie as tie
 
@@ -16,13 +16,13 @@ decreases-loop strip lanes l n t₀ p₀ k₀ t p k = n - k
 loop-holds : tie.Need-loop-init invariant-loop decreases-loop
 loop-holds c =
     let a = c.args in
-    (omega arith, refl, gathering-0 a.lanes a.l a.strip.now _ refl)
+    (omega arith, refl, gathering_0 a.lanes a.l a.strip.now _ refl)
 
 shared-slice-read-t : tie.Need-shared-slice-read-t invariant-loop decreases-loop
 shared-slice-read-t c =
     let a = c.before.before.before.args in
     let l = c.before.before.loop in
-    next-inside a.lanes a.l a.n a.strip.now c.before.before.before.requires.0 l.t.bytes l.p l.k (omega arith) l.invariant.2
+    next_inside a.lanes a.l a.n a.strip.now c.before.before.before.requires.0 l.t.bytes l.p l.k (omega arith) l.invariant.2
 
 element-write-t : tie.Need-element-write-t invariant-loop decreases-loop
 element-write-t c =
@@ -34,7 +34,7 @@ add-p : tie.Need-overflow-add-p invariant-loop decreases-loop
 add-p c =
     let a = c.before.before.before.args in
     let l = c.before.before.loop in
-    omega (arith, c.before.before.before.requires.1, next-inside a.lanes a.l a.n a.strip.now c.before.before.before.requires.0 l.t.bytes l.p l.k (omega arith) l.invariant.2)
+    omega (arith, c.before.before.before.requires.1, next_inside a.lanes a.l a.n a.strip.now c.before.before.before.requires.0 l.t.bytes l.p l.k (omega arith) l.invariant.2)
 
 add-k : tie.Need-overflow-add-k invariant-loop decreases-loop
 add-k c = search rules
@@ -48,7 +48,7 @@ loop-again c =
     let l = c.before.before.loop in (
       omega arith,
       l.invariant.1,
-      gathering-more a.lanes a.l a.n a.strip.now c.before.before.before.requires.0 l.t.bytes _ l.p l.k _ (omega arith) refl
+      gathering_more a.lanes a.l a.n a.strip.now c.before.before.before.requires.0 l.t.bytes _ l.p l.k _ (omega arith) refl
           (length-set l.t.bytes l.k _) refl l.invariant.2,
     )
 

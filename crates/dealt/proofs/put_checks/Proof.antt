@@ -3,7 +3,7 @@ use Prim.Native.Nat.{ℕ, ◌*◌, ◌-◌}
 use native.Mathlib.Omega.{arith}
 use lib.ListN.{take}
 use Rattle.remainder.specs.Remainder.{LanesCheck}
-use Rattle.dealt.proofs.CheckCells.{checks-put}
+use Rattle.dealt.proofs.CheckCells.{checks_put}
 use borrow.Author.Rules.{rules}
 use Rattle.dealt.proofs.put_checks.Statement.{statement}
 use Rattle.dealt.proofs.put_checks.Tie as tie
@@ -35,7 +35,7 @@ returns c =
     let a = s.args in
     let q = c.before.before.before.before.before.lane-checks-of in
     let e : a.lanes * a.k - 0 ≡ a.lanes * a.k = omega arith in
-    checks-put a.lanes (omega arith) a.k a.x.now c.before.before.place-checks.new.0 q.result s.requires.2
+    checks_put a.lanes (omega arith) a.k a.x.now c.before.before.place-checks.new.0 q.result s.requires.2
     (subst (λ (n : ℕ). LanesCheck a.lanes (take n a.x.now) q.result) e q.ensures) c.before.before.place-checks.ensures
 
 pub put-checks-spec : {M : Type 1} → statement M

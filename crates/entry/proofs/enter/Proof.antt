@@ -3,9 +3,9 @@ use lib.ListN.{length}
 use native.Mathlib.Omega.{arith}
 use borrow.Author.Tests.{not-true, not-false}
 use Rattle.level.specs.Strip.{LaneCount, Legal}
-use Rattle.level.proofs.Lengths.{lanes-within}
+use Rattle.level.proofs.Lengths.{lanes_within}
 use Rattle.rules.proofs.Tests.{said, denied}
-use Rattle.entry.proofs.Entering.{enters-unnamed, enters-not, enters}
+use Rattle.entry.proofs.Entering.{enters_unnamed, enters_not, enters}
 use borrow.Author.Rules.{rules}
 use Rattle.entry.proofs.enter.Statement.{statement}
 use Rattle.entry.proofs.enter.Tie as tie
@@ -17,33 +17,33 @@ returns : tie.Need-returns
 returns c =
     let a = c.before.before.before.before.args in
     let m = c.before.named in
-    enters-unnamed a.lanes a.strip.now a.marks.now a.tiles a.scratch
+    enters_unnamed a.lanes a.strip.now a.marks.now a.tiles a.scratch
     (denied (LaneCount a.lanes) m.result (not-true m.result c.if1.true) m.ensures)
 
 -- the lane count is one that can be named
-lanes-said : (c : tie.Else1) → LaneCount c.before.before.before.before.args.lanes
-lanes-said c =
+lanes_said : (c : tie.Else1) → LaneCount c.before.before.before.before.args.lanes
+lanes_said c =
     let m = c.before.named in
     said (LaneCount c.before.before.before.before.args.lanes) m.result (not-false m.result c.if1.false) m.ensures
 
 legal-requires : tie.Need-legal-requires
 legal-requires c κs =
-    let w = lanes-within c.before.before.before.before.args.lanes (lanes-said c) in record { from = omega (arith, w.from); to = w.to }
+    let w = lanes_within c.before.before.before.before.args.lanes (lanes_said c) in record { from = omega (arith, w.from); to = w.to }
 
 returns-2 : tie.Need-returns-2
 returns-2 c =
     let a = c.before.before.before.before.before.before.args in
     let l = c.before.legal in
-    let m = lanes-said c.before.before in
-    enters-not a.lanes a.strip.now a.marks.now a.tiles a.scratch m 0 1 (λ z. omega arith)
+    let m = lanes_said c.before.before in
+    enters_not a.lanes a.strip.now a.marks.now a.tiles a.scratch m 0 1 (λ z. omega arith)
     ((denied (Legal a.lanes (length a.strip.now)) l.result (not-true l.result c.if2.true) l.ensures), refl)
 
 returns-3 : tie.Need-returns-3
 returns-3 c =
     let a = c.before.before.before.before.before.before.before.args in
     let l = c.before.before.legal in
-    let m = lanes-said c.before.before.before in
-    enters-not a.lanes a.strip.now a.marks.now a.tiles a.scratch m 1 2 (λ z. omega arith)
+    let m = lanes_said c.before.before.before in
+    enters_not a.lanes a.strip.now a.marks.now a.tiles a.scratch m 1 2 (λ z. omega arith)
     ((said (Legal a.lanes (length a.strip.now)) l.result (not-false l.result c.before.if2.false) l.ensures), (c.if3.true, refl))
 
 any-requires : tie.Need-any-requires
@@ -53,8 +53,8 @@ returns-4 : tie.Need-returns-4
 returns-4 c =
     let a = c.before.before.before.before.before.before.before.before.before.args in
     let l = c.before.before.before.before.legal in
-    let m = lanes-said c.before.before.before.before.before in
-    enters-not a.lanes a.strip.now a.marks.now a.tiles a.scratch m 2 3 (λ z. omega arith) (
+    let m = lanes_said c.before.before.before.before.before in
+    enters_not a.lanes a.strip.now a.marks.now a.tiles a.scratch m 2 3 (λ z. omega arith) (
       (said (Legal a.lanes (length a.strip.now)) l.result (not-false l.result c.before.before.before.if2.false) l.ensures),
       (c.before.before.if3.false, ((λ g. omega (arith, c.before.any.ensures.bad g, c.if4.true)), refl)),
     )
@@ -63,8 +63,8 @@ returns-5 : tie.Need-returns-5
 returns-5 c =
     let a = c.before.before.before.before.before.before.before.before.before.before.args in
     let l = c.before.before.before.before.before.legal in
-    let m = lanes-said c.before.before.before.before.before.before in
-    enters-not a.lanes a.strip.now a.marks.now a.tiles a.scratch m 3 4 (λ z. omega arith) (
+    let m = lanes_said c.before.before.before.before.before.before in
+    enters_not a.lanes a.strip.now a.marks.now a.tiles a.scratch m 3 4 (λ z. omega arith) (
       (said (Legal a.lanes (length a.strip.now)) l.result (not-false l.result c.before.before.before.before.if2.false) l.ensures),
       (c.before.before.before.if3.false, ((c.before.before.any.ensures.good (omega arith)), ((λ h. omega (arith, h, c.if5.true)), refl))),
     )
@@ -73,8 +73,8 @@ returns-6 : tie.Need-returns-6
 returns-6 c =
     let a = c.before.before.before.before.before.before.before.before.before.before.before.args in
     let l = c.before.before.before.before.before.before.legal in
-    let m = lanes-said c.before.before.before.before.before.before.before in
-    enters-not a.lanes a.strip.now a.marks.now a.tiles a.scratch m 4 5 (λ z. omega arith) (
+    let m = lanes_said c.before.before.before.before.before.before.before in
+    enters_not a.lanes a.strip.now a.marks.now a.tiles a.scratch m 4 5 (λ z. omega arith) (
       (said (Legal a.lanes (length a.strip.now)) l.result (not-false l.result c.before.before.before.before.before.if2.false) l.ensures),
       (
         c.before.before.before.before.if3.false,
@@ -92,7 +92,7 @@ returns-7 : tie.Need-returns-7
 returns-7 c =
     let a = c.before.before.before.before.before.before.before.before.before.before.before.args in
     let l = c.before.before.before.before.before.before.legal in
-    let m = lanes-said c.before.before.before.before.before.before.before in
+    let m = lanes_said c.before.before.before.before.before.before.before in
     enters a.lanes a.strip.now a.marks.now a.tiles a.scratch m c.before.before.before.any.result (
       (said (Legal a.lanes (length a.strip.now)) l.result (not-false l.result c.before.before.before.before.before.if2.false) l.ensures),
       (

@@ -3,7 +3,7 @@ use mathlib.Core.List.{[], ◌∷◌}
 use Prim.Native.Nat.{ℕ}
 use lib.ListN.{take}
 use Rattle.errata.specs.Errata.{at, Bytes5}
-use Rattle.errata.proofs.Guesses.{corrects, five-drained, five-guess, same-five}
+use Rattle.errata.proofs.Guesses.{corrects, five_drained, five_guess, same_five}
 use borrow.Author.Rules.{rules}
 use Rattle.errata.proofs.find.Statement.{statement}
 use Rattle.errata.proofs.find.Tie as tie
@@ -26,14 +26,14 @@ array-read-t23 c = search rules
 unmarked-requires : tie.Need-unmarked-requires
 unmarked-requires c κs =
     let s = c.before in
-    (s.requires.0, s.requires.1.short, subst Bytes5 (sym (same-five s.args.t2 (search rules))) s.requires.2)
+    (s.requires.0, s.requires.1.short, subst Bytes5 (sym (same_five s.args.t2 (search rules))) s.requires.2)
 
 returns : tie.Need-returns
 returns c =
     let s = c.before.before in
     λ marks en G r er cr es.
     c.unmarked.ensures marks en (sym G.list ∙ ap (λ (k : ℕ). take k s.args.erased) c.before.if1.true) r er cr
-    (same-five s.args.t2 (search rules) ∙ es)
+    (same_five s.args.t2 (search rules) ∙ es)
 
 valued-requires : tie.Need-valued-requires
 valued-requires c κs = search rules
@@ -46,19 +46,19 @@ returns-2 c =
     let e = c.before.if2.true in
     λ marks en G r er cr es.
     corrects marks t t r s.args.n s.args.f s.args.erased s.requires.1
-    (five-drained s.args.n s.args.erased t s.args.f s.requires.1 e) en G er cr (same-five l (search rules) ∙ es) s.args.f s.args.erased
+    (five_drained s.args.n s.args.erased t s.args.f s.requires.1 e) en G er cr (same_five l (search rules) ∙ es) s.args.f s.args.erased
     c.valued.result
-    (five-guess s.args.n s.args.erased t s.args.f s.requires.1 e) c.valued.ensures
+    (five_guess s.args.n s.args.erased t s.args.f s.requires.1 e) c.valued.ensures
 
 marked-requires : tie.Need-marked-requires
 marked-requires c κs =
     let s = c.before.before in
-    (s.requires.0, s.requires.1, subst Bytes5 (sym (same-five s.args.t2 (search rules))) s.requires.2)
+    (s.requires.0, s.requires.1, subst Bytes5 (sym (same_five s.args.t2 (search rules))) s.requires.2)
 
 returns-3 : tie.Need-returns-3
 returns-3 c =
     let s = c.before.before.before in
-    λ marks en G r er cr es. c.marked.ensures marks en G r er cr (same-five s.args.t2 (search rules) ∙ es)
+    λ marks en G r er cr es. c.marked.ensures marks en G r er cr (same_five s.args.t2 (search rules) ∙ es)
 
 pub find_spec : {M : Type 1} → statement M
 find_spec =

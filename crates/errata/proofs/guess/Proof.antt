@@ -26,8 +26,8 @@ returns-2 c =
     let s = c2.before in
     record {
       not_none = denied (Zeros (5 - s.args.f) (at s.args.t)) c2.zeros.result c.before.if1.false c2.zeros.ensures;
-      not-one = λ h. absurd (omega (arith, c.if2.true));
-      not-two = λ h. absurd (omega (arith, c.if2.true));
+      not_one = λ h. absurd (omega (arith, c.if2.true));
+      not_two = λ h. absurd (omega (arith, c.if2.true));
     }
 
 guess-one-requires : tie.Need-guess-one-requires

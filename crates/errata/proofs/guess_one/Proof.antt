@@ -40,8 +40,8 @@ returns-2 c =
     let o = c.before.before.one in
     record {
       not_none = c.before.before.before.requires.4;
-      not-one = λ h. o.ensures.none (omega (arith, o.ensures.within, c.before.if1.false));
-      not-two = λ h. absurd (omega (arith, c.if2.true));
+      not_one = λ h. o.ensures.none (omega (arith, o.ensures.within, c.before.if1.false));
+      not_two = λ h. absurd (omega (arith, c.if2.true));
     }
 
 guess-two-requires : tie.Need-guess-two-requires

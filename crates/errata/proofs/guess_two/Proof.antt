@@ -35,8 +35,8 @@ returns c =
     let o = c.before.two in
     record {
       not_none = s.requires.4;
-      not-one = λ h. s.requires.5;
-      not-two = λ h. o.ensures.none (omega (arith, o.ensures.within, c.if1.true));
+      not_one = λ h. s.requires.5;
+      not_two = λ h. o.ensures.none (omega (arith, o.ensures.within, c.if1.true));
     }
 
 mul-cells : tie.Need-overflow-mul-cells

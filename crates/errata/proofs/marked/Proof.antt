@@ -1,6 +1,6 @@
 use borrow.Author.Tests.{not-true, not-false}
 use lib.ListN.{take}
-use Rattle.errata.proofs.Guesses.{guessed, unguessed, listed-guess, left_in, beyond, corrects}
+use Rattle.errata.proofs.Guesses.{guessed, unguessed, listed_guess, left_in, beyond, corrects}
 use borrow.Author.Rules.{rules}
 use Rattle.errata.proofs.marked.Statement.{statement}
 use Rattle.errata.proofs.marked.Tie as tie
@@ -33,7 +33,7 @@ valued-requires c κs =
     let c3 = c.before.before.before in
     let s = c3.before in (
       s.requires.0,
-      listed-guess s.args.n s.args.erased c3.drain.result s.args.f u.result.count u.result.cells s.requires.1
+      listed_guess s.args.n s.args.erased c3.drain.result s.args.f u.result.count u.result.cells s.requires.1
           (guessed u.result.good s.args.n (take s.args.f s.args.erased) c3.drain.result s.args.f u.result.count u.result.cells
           (not-false u.result.good c.if1.false) u.ensures),
     )

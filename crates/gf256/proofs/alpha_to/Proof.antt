@@ -5,7 +5,7 @@ use lib.IntN.{ℤ}
 use mir.Syntax.{w32}
 use mir.Val.{SFits, to_z, of_z}
 use mir.Facts.{to_z-of_z}
-use Rattle.account.specs.Code.{alphaTo}
+use Rattle.account.specs.Code.{alpha_to}
 use Rattle.gf256.specs.Gf256.{gf256}
 use Rattle.gf256.proofs.Signs.{Negative, Positive, negative, positive}
 use Rattle.gf256.proofs.alpha_to.Statement.{statement}
@@ -43,10 +43,10 @@ forward-requires : tie.Need-forward-requires
 forward-requires c κs = search rules
 
 returns : tie.Need-returns
-returns c = c.backward.ensures ∙ (below c.before).is ∙ ap (alphaTo gf256) (back _ c.before.before.ranges.j)
+returns c = c.backward.ensures ∙ (below c.before).is ∙ ap (alpha_to gf256) (back _ c.before.before.ranges.j)
 
 returns-2 : tie.Need-returns-2
-returns-2 c = c.forward.ensures ∙ (above c.before).is ∙ ap (alphaTo gf256) (back _ c.before.before.ranges.j)
+returns-2 c = c.forward.ensures ∙ (above c.before).is ∙ ap (alpha_to gf256) (back _ c.before.before.ranges.j)
 
 pub alpha-to-spec : {M : Type 1} → statement M
 alpha-to-spec =

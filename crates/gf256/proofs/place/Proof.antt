@@ -1,5 +1,5 @@
 use borrow.Author.Rules.{rules}
-use Rattle.gf256.proofs.Lookups.{place-by}
+use Rattle.gf256.proofs.Lookups.{place_by}
 use Rattle.gf256.proofs.place.Statement.{statement}
 use Rattle.gf256.proofs.place.Tie as tie
 
@@ -15,7 +15,7 @@ element-copy-out-result c = search rules
 returns : tie.Need-returns
 returns c =
     let s = c.before in
-    place-by s.args.tables.now s.requires.0 s.args.n s.args.p (search rules) (search rules)
+    place_by s.args.tables.now s.requires.0 s.args.n s.args.p (search rules) (search rules)
 
 pub place-spec : {M : Type 1} → statement M
 place-spec = tie.close (tie.spec add-result sub-result element-copy-out-result returns)

@@ -1,7 +1,7 @@
 use lib.ListN.{length}
 use mathlib.Core.Path.{◌≡◌}
 use native.Mathlib.Omega.{arith}
-use Rattle.host.proofs.LaneOf.{slice-holds}
+use Rattle.host.proofs.LaneOf.{slice_holds}
 use borrow.Author.Rules.{rules}
 use Rattle.host.proofs.put_back.Statement.{statement}
 use Rattle.host.proofs.put_back.Tie as tie
@@ -30,7 +30,7 @@ returns c =
     let a = c.before.before.before.before.before.before.before.before.args in
     let p = c.before.before.before.before.before.before.before.before.requires in
     let n : length a.lane.bytes ≡ 187 = search rules in
-    slice-holds a.lane.bytes a.s.now c.before.before.copy.new.1.0 a.lane.len p.0 (omega arith) c.before.before.copy.ensures
+    slice_holds a.lane.bytes a.s.now c.before.before.copy.new.1.0 a.lane.len p.0 (omega arith) c.before.before.copy.ensures
 
 pub put-back-spec : {M : Type 1} → statement M
 put-back-spec =

@@ -1,6 +1,6 @@
 use native.Mathlib.Omega.{arith}
 use borrow.Author.Rules.{rules}
-use Rattle.host.proofs.LaneOf.{export-1, export-2, export-mended, export-refused}
+use Rattle.host.proofs.LaneOf.{export_1, export_2, export_mended, export_refused}
 use Rattle.host.proofs.zav_lane_repair.Statement.{statement}
 use Rattle.host.proofs.zav_lane_repair.Tie as tie
 
@@ -10,7 +10,7 @@ pack-repaired-requires c κs = search rules
 returns : tie.Need-returns
 returns c =
     let a = c.before.before.before.before.args in
-    export-1 a.marks.now a.lane.now c.pack-repaired.result (λ w. omega (arith, w.to)) c.pack-repaired.ensures
+    export_1 a.marks.now a.lane.now c.pack-repaired.result (λ w. omega (arith, w.to)) c.pack-repaired.ensures
 
 pack-repaired-requires-2 : tie.Need-pack-repaired-requires-2
 pack-repaired-requires-2 c κs = search rules
@@ -18,7 +18,7 @@ pack-repaired-requires-2 c κs = search rules
 returns-2 : tie.Need-returns-2
 returns-2 c =
     let a = c.before.before.before.before.before.args in
-    export-1 a.marks.now a.lane.now c.pack-repaired2.result (λ w. omega (arith, w.from)) c.pack-repaired2.ensures
+    export_1 a.marks.now a.lane.now c.pack-repaired2.result (λ w. omega (arith, w.from)) c.pack-repaired2.ensures
 
 pack-repaired-requires-3 : tie.Need-pack-repaired-requires-3
 pack-repaired-requires-3 c κs = search rules
@@ -26,7 +26,7 @@ pack-repaired-requires-3 c κs = search rules
 returns-3 : tie.Need-returns-3
 returns-3 c =
     let a = c.before.before.before.before.before.before.args in
-    export-2 a.marks.now a.lane.now c.pack-repaired3.result (search rules) (search rules) c.before.if3.true c.pack-repaired3.ensures
+    export_2 a.marks.now a.lane.now c.pack-repaired3.result (search rules) (search rules) c.before.if3.true c.pack-repaired3.ensures
 
 lane-of-requires : tie.Need-lane-of-requires
 lane-of-requires c κs = search rules
@@ -64,7 +64,7 @@ returns-4 c =
     let x = c.before.before.before.before.before.before.before.before.before.repair-lane in
     let z = c.before.before.before.before.before.before.answer.given in
     let p = c.before.before.before.put_back in
-    export-mended a.marks.now a.lane.now l.result m.result x.result l.ensures.0 l.ensures.1 m.ensures.0 m.ensures.1
+    export_mended a.marks.now a.lane.now l.result m.result x.result l.ensures.0 l.ensures.1 m.ensures.0 m.ensures.1
     x.ensures
     p.new.1.0 z.0.0 z.0.1.0 c.pack-repaired4.result z.1 p.ensures c.pack-repaired4.ensures
 
@@ -78,7 +78,7 @@ returns-5 c =
     let m = c.before.before.before.before.before.before.lane-of2 in
     let x = c.before.before.before.before.before.repair-lane in
     let z = c.before.before.answer2.given in
-    export-refused a.marks.now a.lane.now l.result m.result x.result l.ensures.0 l.ensures.1 m.ensures.0 m.ensures.1
+    export_refused a.marks.now a.lane.now l.result m.result x.result l.ensures.0 l.ensures.1 m.ensures.0 m.ensures.1
     x.ensures
     z.0.0 c.pack-repaired5.result z.1 c.pack-repaired5.ensures
 

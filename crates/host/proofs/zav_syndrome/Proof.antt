@@ -1,5 +1,5 @@
 use mathlib.Core.Path.{ap}
-use Rattle.packing.specs.Packed.{packedSums}
+use Rattle.packing.specs.Packed.{packed_sums}
 use borrow.Author.Rules.{rules}
 use Rattle.host.proofs.zav_syndrome.Statement.{statement}
 use Rattle.host.proofs.zav_syndrome.Tie as tie
@@ -70,7 +70,7 @@ returns c =
       c.before.wide4.ensures.0,
       c.wide5.ensures.0,
     )
-    (ap packedSums c.before.before.before.before.before.syndrome-of.ensures)
+    (ap packed_sums c.before.before.before.before.before.syndrome-of.ensures)
 
 pub zav-syndrome-spec : {M : Type 1} → statement M
 zav-syndrome-spec =

@@ -1,5 +1,5 @@
 use native.Mathlib.Omega.{arith}
-use Rattle.lanes.proofs.Marks.{none-listed-in}
+use Rattle.lanes.proofs.Marks.{none_listed_in}
 use borrow.Author.Rules.{rules}
 use Rattle.lanes.proofs.marked_in.Statement.{statement}
 use Rattle.lanes.proofs.marked_in.Tie as tie
@@ -7,7 +7,7 @@ use Rattle.lanes.proofs.marked_in.Tie as tie
 returns : tie.Need-returns
 returns c =
     let a = c.before.before.args in
-    none-listed-in a.lanes a.marks.now a.l c.before.before.requires.0 (c.before.before.requires.3.none (omega (arith, c.if1.true))) _ (search rules)
+    none_listed_in a.lanes a.marks.now a.l c.before.before.requires.0 (c.before.before.requires.3.none (omega (arith, c.if1.true))) _ (search rules)
 
 list-requires : tie.Need-list-requires
 list-requires c κs = search rules

@@ -2,7 +2,7 @@ use Prim.Native.Nat.{◌-◌}
 use native.Mathlib.Omega.{arith}
 use borrow.Author.Tests.{not-true, not-false}
 use Rattle.gf256.specs.Tables.{Tables}
-use Rattle.lanes.proofs.Sofar.{Sofar, sofar-0, room-left, sofar-more, one-few, lost, all-mended}
+use Rattle.lanes.proofs.Sofar.{Sofar, sofar_0, room_left, sofar_more, one_few, lost, all_mended}
 use borrow.Author.Rules.{rules}
 use Rattle.lanes.proofs.mend_each.Statement.{statement}
 use Rattle.lanes.proofs.mend_each.Tie as tie
@@ -20,7 +20,7 @@ make-requires c κs = search rules
 loop-holds : tie.Need-loop-init invariant-loop decreases-loop
 loop-holds c =
     let a = c.before.before.before.args in
-    (c.make.ensures, sofar-0 a.lanes a.strip.now a.marks.now a.cells.now a.bytes.now c.before.before.before.requires.3)
+    (c.make.ensures, sofar_0 a.lanes a.strip.now a.marks.now a.cells.now a.bytes.now c.before.before.before.requires.3)
 
 mul-mend-one : tie.Need-overflow-mul-mend-one invariant-loop decreases-loop
 mul-mend-one c = search rules
@@ -36,7 +36,7 @@ mend-one-requires c κs =
       l.invariant.0,
       record { entered = p.0; inside = omega arith; remains = record { remains = p.2.each l.l (omega arith) } },
       p.1,
-      room-left a.lanes a.strip.now a.marks.now p.0.lanes.to l.cells l.bytes l.mended l.repainted l.noted l.l (omega arith) l.invariant.1,
+      room_left a.lanes a.strip.now a.marks.now p.0.lanes.to l.cells l.bytes l.mended l.repainted l.noted l.l (omega arith) l.invariant.1,
     )
 
 returns : tie.Need-returns invariant-loop decreases-loop
@@ -58,7 +58,7 @@ add-mended c =
       arith,
       l.invariant.1.small,
       p.0.lanes.to,
-      one-few a.lanes a.strip.now a.marks.now p.0 l.cells l.bytes _ _ l.mended l.repainted l.noted l.l (omega arith) l.invariant.1 o.result
+      one_few a.lanes a.strip.now a.marks.now p.0 l.cells l.bytes _ _ l.mended l.repainted l.noted l.l (omega arith) l.invariant.1 o.result
           (not-false o.result.good c.before.if1.false) o.ensures,
     )
 
@@ -72,7 +72,7 @@ add-repainted c =
       arith,
       l.invariant.1.few,
       p.0.lanes.to,
-      one-few a.lanes a.strip.now a.marks.now p.0 l.cells l.bytes _ _ l.mended l.repainted l.noted l.l (omega arith) l.invariant.1 o.result
+      one_few a.lanes a.strip.now a.marks.now p.0 l.cells l.bytes _ _ l.mended l.repainted l.noted l.l (omega arith) l.invariant.1 o.result
           (not-false o.result.good c.before.before.if1.false) o.ensures,
     )
 
@@ -89,7 +89,7 @@ loop-again c =
     let l = c.before.before.before.before.before.before.before.before.loop in
     let o = c.before.before.before.mend-one in (
       l.invariant.0,
-      sofar-more a.lanes a.strip.now a.marks.now p.0 l.cells l.bytes _ _ l.mended l.repainted l.noted l.l (omega arith) l.invariant.1 o.result
+      sofar_more a.lanes a.strip.now a.marks.now p.0 l.cells l.bytes _ _ l.mended l.repainted l.noted l.l (omega arith) l.invariant.1 o.result
           (not-false o.result.good c.before.before.if1.false) o.ensures,
     )
 
@@ -98,7 +98,7 @@ returns-2 c =
     let a = c.before.before.before.before.before.args in
     let p = c.before.before.before.before.before.requires in
     let l = c.before.loop in
-    all-mended a.lanes a.strip.now a.marks.now p.0 l.cells l.bytes l.mended l.repainted l.noted l.l (omega arith) l.invariant.1
+    all_mended a.lanes a.strip.now a.marks.now p.0 l.cells l.bytes l.mended l.repainted l.noted l.l (omega arith) l.invariant.1
 
 pub mend-each-spec : {M : Type 1} → statement M
 mend-each-spec =

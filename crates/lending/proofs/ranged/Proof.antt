@@ -13,8 +13,8 @@ version-taken-requires c κs = search rules
 returns : tie.Need-returns
 returns c =
     let a = c.before.before.args in
-    let t = c.before.version-taken in
-    λ r. denied (VersionTaken a.upto a.version) t.result (not-true t.result c.if1.true) t.ensures r.version-taken
+    let t = c.before.version_taken in
+    λ r. denied (VersionTaken a.upto a.version) t.result (not-true t.result c.if1.true) t.ensures r.version_taken
 
 sized-requires : tie.Need-sized-requires
 sized-requires c κs = search rules
@@ -26,17 +26,17 @@ returns-2 c =
     λ r. denied (Sized a.w a.h) t.result (not-true t.result c.if2.true) t.ensures r.sized
 
 returns-3 : tie.Need-returns-3
-returns-3 c = λ r. omega (arith, r.par-small, c.if3.true)
+returns-3 c = λ r. omega (arith, r.par_small, c.if3.true)
 
 returns-4 : tie.Need-returns-4
 returns-4 c =
     let a = c.before.before.before.before.before.args in
-    let t = c.before.before.before.before.version-taken in
+    let t = c.before.before.before.before.version_taken in
     let s = c.before.before.sized in
     record {
-      version-taken = said (VersionTaken a.upto a.version) t.result (not-false t.result c.before.before.before.if1.false) t.ensures;
+      version_taken = said (VersionTaken a.upto a.version) t.result (not-false t.result c.before.before.before.if1.false) t.ensures;
       sized = said (Sized a.w a.h) s.result (not-false s.result c.before.if2.false) s.ensures;
-      par-small = omega (arith, c.if3.false);
+      par_small = omega (arith, c.if3.false);
     }
 
 pub ranged-spec : {M : Type 1} → statement M

@@ -1,5 +1,5 @@
 use native.Mathlib.Omega.{arith}
-use Rattle.account.proofs.Locate.{first-none, second_none, alone-far, alone-fits, alone-fails}
+use Rattle.account.proofs.Locate.{first_none, second_none, alone_far, alone_fits, alone_fails}
 use Rattle.gf256.specs.Gf256.{gf256}
 use Rattle.gf256.proofs.Field256.{field256}
 use Rattle.values.specs.Values.{at}
@@ -15,7 +15,7 @@ array-read-if1 c = search rules
 returns : tie.Need-returns
 returns c =
     let s = c.before in
-    first-none gf256 field256 (at s.args.t2) 4 s.args.n _ s.requires.3 c.if1.true
+    first_none gf256 field256 (at s.args.t2) 4 s.args.n _ s.requires.3 c.if1.true
 
 array-read-if2 : tie.Need-array-read-if2
 array-read-if2 c = search rules
@@ -38,7 +38,7 @@ returns-3 : tie.Need-returns-3
 returns-3 c =
     let i = c.before.ratio in
     let s = c.before.before.before.before in
-    alone-far gf256 field256 (at s.args.t2) 4 s.args.n s.requires.1 (omega arith) (s.requires.2 0) c.before.before.before.if1.false
+    alone_far gf256 field256 (at s.args.t2) 4 s.args.n s.requires.1 (omega arith) (s.requires.2 0) c.before.before.before.if1.false
     i.result i.ensures.small i.ensures.is c.if3.true
 
 climbs-requires : tie.Need-climbs-requires
@@ -55,7 +55,7 @@ returns-4 c =
     let c3 = c.before.before.before in
     let i = c3.ratio in
     let s = c3.before.before.before in
-    alone-fits gf256 field256 (at s.args.t2) 4 s.args.n s.requires.1 (omega arith) (s.requires.2 0) c3.before.before.if1.false
+    alone_fits gf256 field256 (at s.args.t2) 4 s.args.n s.requires.1 (omega arith) (s.requires.2 0) c3.before.before.if1.false
     i.result i.ensures.small i.ensures.is (search rules)
     (said (Climbs s.args.t2 i.result) c.before.climbs.result c.if4.true c.before.climbs.ensures)
 
@@ -64,7 +64,7 @@ returns-5 c =
     let c3 = c.before.before.before in
     let i = c3.ratio in
     let s = c3.before.before.before in
-    alone-fails gf256 field256 (at s.args.t2) 4 s.args.n s.requires.1 (omega arith) (s.requires.2 0) c3.before.before.if1.false
+    alone_fails gf256 field256 (at s.args.t2) 4 s.args.n s.requires.1 (omega arith) (s.requires.2 0) c3.before.before.if1.false
     i.result i.ensures.small i.ensures.is (search rules)
     (denied (Climbs s.args.t2 i.result) c.before.climbs.result c.if4.false c.before.climbs.ensures)
 

@@ -4,7 +4,7 @@ use mathlib.Core.List.{◌∷◌, []}
 use Rattle.account.specs.Errata.{filt}
 use Rattle.account.specs.Search.{Zeros}
 use Rattle.account.proofs.Laws.{gone}
-use Rattle.account.proofs.Locate.{not_first, not-second, do-fit, do-not-fit}
+use Rattle.account.proofs.Locate.{not_first, not_second, do_fit, do_not_fit}
 use Rattle.gf256.specs.Gf256.{gf256}
 use Rattle.gf256.proofs.Field256.{field256}
 use Rattle.values.specs.Values.{at}
@@ -27,7 +27,7 @@ cell-requires-2 c κs = search rules
 returns-2 : tie.Need-returns-2
 returns-2 c =
     let a = c.before.before.before.before.args in
-    not-second gf256 field256 a.x (bit_xor a.x a.u) (at a.t) a.k a.n (take a.f a.erased) c.before.cell2.result c.before.cell2.ensures (search rules)
+    not_second gf256 field256 a.x (bit_xor a.x a.u) (at a.t) a.k a.n (take a.f a.erased) c.before.cell2.result c.before.cell2.ensures (search rules)
 
 joins-requires : tie.Need-joins-requires
 joins-requires c κs =
@@ -40,7 +40,7 @@ returns-3 c =
     let c5 = c3.before.before in
     let a = c5.before.args in
     let y = bit_xor a.x a.u in
-    do-fit gf256 field256 a.x y (at a.t) a.k a.n (take a.f a.erased) c5.cell.result c3.cell2.result c5.cell.ensures
+    do_fit gf256 field256 a.x y (at a.t) a.k a.n (take a.f a.erased) c5.cell.result c3.cell2.result c5.cell.ensures
     c3.cell2.ensures (search rules) (search rules)
     (said (Zeros a.k (filt gf256 (a.x ∷ y ∷ []) (at a.t))) c.before.joins.result c.if3.true c.before.joins.ensures)
 
@@ -48,7 +48,7 @@ returns-4 : tie.Need-returns-4
 returns-4 c =
     let a = c.before.before.before.before.before.before.args in
     let y = bit_xor a.x a.u in
-    do-not-fit gf256 field256 a.x y (at a.t) a.k a.n (take a.f a.erased)
+    do_not_fit gf256 field256 a.x y (at a.t) a.k a.n (take a.f a.erased)
     (denied (Zeros a.k (filt gf256 (a.x ∷ y ∷ []) (at a.t))) c.before.joins.result c.if3.false c.before.joins.ensures)
 
 pub both-spec : {M : Type 1} → statement M

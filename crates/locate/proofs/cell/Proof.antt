@@ -1,5 +1,5 @@
 use Rattle.account.specs.Errata.{Outside}
-use Rattle.account.proofs.Locate.{no_cell, far-cell, marked-cell, good-cell}
+use Rattle.account.proofs.Locate.{no_cell, far_cell, marked_cell, good_cell}
 use Rattle.gf256.specs.Gf256.{gf256}
 use Rattle.gf256.proofs.Field256.{field256}
 use Rattle.rules.proofs.Tests.{said, denied}
@@ -20,7 +20,7 @@ log-requires c κs = search rules
 returns-2 : tie.Need-returns-2
 returns-2 c =
     let a = c.before.before.before.args in
-    far-cell gf256 field256 a.n (take a.f a.erased) a.x c.before.log.result (search rules) c.before.log.ensures.small
+    far_cell gf256 field256 a.n (take a.f a.erased) a.x c.before.log.result (search rules) c.before.log.ensures.small
     c.before.log.ensures.is (search rules)
 
 add-p : tie.Need-overflow-add-p
@@ -36,7 +36,7 @@ returns-3 : tie.Need-returns-3
 returns-3 c =
     let c3 = c.before.before.before in
     let a = c3.before.before.args in
-    good-cell gf256 field256 a.n (take a.f a.erased) a.x c3.log.result (search rules) c3.log.ensures.small c3.log.ensures.is
+    good_cell gf256 field256 a.n (take a.f a.erased) a.x c3.log.result (search rules) c3.log.ensures.small c3.log.ensures.is
     (search rules)
     (said (Outside (take a.f a.erased) (a.n - (c3.log.result + 1))) c.before.free.result c.if3.true c.before.free.ensures)
 
@@ -44,7 +44,7 @@ returns-4 : tie.Need-returns-4
 returns-4 c =
     let c3 = c.before.before.before in
     let a = c3.before.before.args in
-    marked-cell gf256 field256 a.n (take a.f a.erased) a.x c3.log.result (search rules) c3.log.ensures.small c3.log.ensures.is
+    marked_cell gf256 field256 a.n (take a.f a.erased) a.x c3.log.result (search rules) c3.log.ensures.small c3.log.ensures.is
     (search rules)
     (denied (Outside (take a.f a.erased) (a.n - (c3.log.result + 1))) c.before.free.result c.if3.false c.before.free.ensures)
 

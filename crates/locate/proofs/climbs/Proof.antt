@@ -6,7 +6,7 @@ use Rattle.account.specs.Errata.{filt}
 use Rattle.account.specs.Search.{Zeros}
 use Rattle.gf256.specs.Gf256.{gf256}
 use Rattle.values.specs.Values.{at}
-use Rattle.locate.proofs.Sums.{climb-stops, climb-wrong, climb-more}
+use Rattle.locate.proofs.Sums.{climb_stops, climb_wrong, climb_more}
 use borrow.Author.Rules.{rules}
 use Rattle.locate.proofs.climbs.Statement.{statement}
 use Rattle.locate.proofs.climbs.Tie as tie
@@ -30,7 +30,7 @@ returns : tie.Need-returns invariant-loop decreases-loop
 returns c =
     let s = c.before.before.before in
     let L = c.before.before.loop in
-    climb-stops s.args.t2 s.args.i L.m s.requires.1 L.invariant.1 (search rules) c.if1.true
+    climb_stops s.args.t2 s.args.i L.m s.requires.1 L.invariant.1 (search rules) c.if1.true
 
 array-read-ratio : tie.Need-array-read-ratio invariant-loop decreases-loop
 array-read-ratio c = omega arith
@@ -48,7 +48,7 @@ returns-2 : tie.Need-returns-2 invariant-loop decreases-loop
 returns-2 c =
     let L = c.before.before.before.before.loop in
     let s = c.before.before.before.before.before in
-    climb-wrong s.args.t2 s.args.i L.m s.requires.1 L.invariant.1 (search rules) c.before.ratio.result s.requires.3 c.before.ratio.ensures
+    climb_wrong s.args.t2 s.args.i L.m s.requires.1 L.invariant.1 (search rules) c.before.ratio.result s.requires.3 c.before.ratio.ensures
     c.if2.true
 
 add-m : tie.Need-overflow-add-m invariant-loop decreases-loop
@@ -63,7 +63,7 @@ loop-again c =
     let s = c.before.before.before.before.before in (
       omega arith,
       omega (arith, c.before.before.if1.false),
-      climb-more s.args.t2 s.args.i L.m s.requires.1 L.invariant.1 (search rules) c.before.ratio.result s.requires.3 c.before.ratio.ensures
+      climb_more s.args.t2 s.args.i L.m s.requires.1 L.invariant.1 (search rules) c.before.ratio.result s.requires.3 c.before.ratio.ensures
           c.if2.false L.invariant.2,
     )
 

@@ -5,7 +5,7 @@ use borrow.Author.Rules.{rules}
 use lib.ListN.{take}
 use Rattle.locate.specs.Places.{Drained}
 use Rattle.values.proofs.Values.{cell_below}
-use Rattle.locate.proofs.Sums.{drain-starts, drain-goes}
+use Rattle.locate.proofs.Sums.{drain_starts, drain_goes}
 use Rattle.locate.proofs.drain.Statement.{statement}
 use Rattle.locate.proofs.drain.Tie as tie
 
@@ -16,7 +16,7 @@ abbrev decreases-loop : tie.decreases-loop
 decreases-loop tables k n cells t₀ i₀ t i = k - i
 
 loop-holds : tie.Need-loop-init invariant-loop decreases-loop
-loop-holds c = (search rules, drain-starts c.args.n c.args.t3 c.args.s)
+loop-holds c = (search rules, drain_starts c.args.n c.args.t3 c.args.s)
 
 mul-place : tie.Need-overflow-mul-place invariant-loop decreases-loop
 mul-place c = search rules
@@ -44,7 +44,7 @@ loop-again c =
     let s = c3.before in
     let L = c3.loop in (
       omega arith,
-      drain-goes s.args.n s.args.t3 s.args.s L.t c.filter.result L.i c.before.place.result
+      drain_goes s.args.n s.args.t3 s.args.s L.t c.filter.result L.i c.before.place.result
           (omega (arith, s.requires.1.few, s.requires.1.room)) L.invariant.1
           c.before.place.ensures c.filter.ensures,
     )

@@ -1,5 +1,5 @@
 use native.Mathlib.Omega.{arith}
-use Rattle.account.proofs.Locate.{log-less, log-around}
+use Rattle.account.proofs.Locate.{log_less, log_around}
 use Rattle.gf256.specs.Gf256.{gf256}
 use Rattle.gf256.proofs.Field256.{field256}
 use borrow.Author.Rules.{rules}
@@ -25,7 +25,7 @@ returns c =
     let s = c.before.before.before in
     record {
       small = omega (arith, c.if1.true, b.ensures.small);
-      is = log-around gf256 field256 a.result b.result s.args.x s.args.y (omega (arith, b.ensures.small)) a.ensures.is b.ensures.is;
+      is = log_around gf256 field256 a.result b.result s.args.x s.args.y (omega (arith, b.ensures.small)) a.ensures.is b.ensures.is;
     }
 
 returns-2 : tie.Need-returns-2
@@ -35,7 +35,7 @@ returns-2 c =
     let s = c.before.before.before in
     record {
       small = omega (arith, a.ensures.small);
-      is = log-less gf256 field256 a.result b.result s.args.x s.args.y (search rules) a.ensures.is b.ensures.is;
+      is = log_less gf256 field256 a.result b.result s.args.x s.args.y (search rules) a.ensures.is b.ensures.is;
     }
 
 pub ratio-spec : {M : Type 1} → statement M

@@ -4,7 +4,7 @@ use Rattle.gf256.proofs.Field256.{field256}
 use borrow.Author.Rules.{rules}
 use Rattle.locate.proofs.split.Statement.{statement}
 use Rattle.locate.proofs.split.Tie as tie
-use Rattle.gf256.specs.Tables.{inverseOf}
+use Rattle.gf256.specs.Tables.{inverse_of}
 
 quotient-requires : tie.Need-quotient-requires
 quotient-requires c κs = search rules
@@ -22,7 +22,7 @@ returns : tie.Need-returns
 returns c =
     let b = c.before.before in
     let s = b.before.before in
-    splits gf256 field256 s.args.u s.args.v (inverseOf s.args.u) b.before.quotient.result b.quotient2.result
+    splits gf256 field256 s.args.u s.args.v (inverse_of s.args.u) b.before.quotient.result b.quotient2.result
     c.before.half.result c.product.result
     c.before.half.ensures (search rules) b.quotient2.ensures.0 b.before.quotient.ensures.1 b.quotient2.ensures.1 c.product.ensures
 

@@ -3,14 +3,14 @@ use Prim.Native.Nat.{ℕ}
 use native.Mathlib.Omega.{arith}
 use lib.Bits.{bit_xor}
 use lib.ListN.{take}
-use Rattle.account.proofs.Locate.{quadratic, det-some, sum-some, nowhere, proposed, found}
+use Rattle.account.proofs.Locate.{quadratic, det_some, sum_some, nowhere, proposed, found}
 use Rattle.gf256.specs.Gf256.{gf256, times}
 use Rattle.gf256.proofs.Field256.{field256}
 use Rattle.values.specs.Values.{at}
 use borrow.Author.Rules.{rules}
 use Rattle.locate.proofs.two.Statement.{statement}
 use Rattle.locate.proofs.two.Tie as tie
-use Rattle.gf256.specs.Tables.{inverseOf}
+use Rattle.gf256.specs.Tables.{inverse_of}
 
 array-read-product : tie.Need-array-read-product
 array-read-product c = search rules
@@ -39,7 +39,7 @@ returns c =
     let n = s.args.n in
     let ps = take s.args.f s.args.erased in
     nowhere gf256 field256 t k n ps s.requires.1 s.requires.3 (s.requires.5 1 (omega arith)) s.requires.6
-    (λ p q lp lq f. det-some gf256 field256 t k n ps s.requires.1 s.requires.3 (s.requires.5 1 (omega arith)) s.requires.6 p q lp lq f
+    (λ p q lp lq f. det_some gf256 field256 t k n ps s.requires.1 s.requires.3 (s.requires.5 1 (omega arith)) s.requires.6 p q lp lq f
     (sym (ap₂ bit_xor c2.product.ensures c.before.product2.ensures) ∙ c.if1.true))
 
 array-read-product-5 : tie.Need-array-read-product-5
@@ -74,9 +74,9 @@ returns-2 c =
     let k = s.args.k in
     let n = s.args.n in
     let ps = take s.args.f s.args.erased in
-    let i = inverseOf (bit_xor c7.product.result c6.product2.result) in
+    let i = inverse_of (bit_xor c7.product.result c6.product2.result) in
     nowhere gf256 field256 t k n ps s.requires.1 s.requires.3 (s.requires.5 1 (omega arith)) s.requires.6
-    (λ p q lp lq f. sum-some gf256 field256 t k n ps s.requires.1 s.requires.3 (s.requires.5 1 (omega arith)) s.requires.6 p q lp lq f
+    (λ p q lp lq f. sum_some gf256 field256 t k n ps s.requires.1 s.requires.3 (s.requires.5 1 (omega arith)) s.requires.6 p q lp lq f
     (bit_xor c7.product.result c6.product2.result) i (ap₂ bit_xor c7.product.ensures c6.product2.ensures) c.before.quotient.ensures.0
     c.before.quotient.result (c.before.quotient.ensures.1
     ∙ ap (λ (z : ℕ). times z i) (ap₂ bit_xor c3.product3.ensures c2.product4.ensures)) c.if2.true)
@@ -116,7 +116,7 @@ both-requires c κs =
     let c11 = c8.before.before in
     let c12 = c11.before in
     let s = c12.before in
-    let i = inverseOf (bit_xor c12.product.result c11.product2.result) in (
+    let i = inverse_of (bit_xor c12.product.result c11.product2.result) in (
       s.requires.0,
       s.requires.1,
       s.requires.2,
@@ -145,7 +145,7 @@ returns-3 c =
     let k = s.args.k in
     let n = s.args.n in
     let ps = take s.args.f s.args.erased in
-    let i = inverseOf (bit_xor c12.product.result c11.product2.result) in
+    let i = inverse_of (bit_xor c12.product.result c11.product2.result) in
     let u = c6.quotient.result in
     let v = c2.quotient2.result in
     let x = c.before.split.result in

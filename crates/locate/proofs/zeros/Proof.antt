@@ -3,7 +3,7 @@ use native.Mathlib.Omega.{arith}
 use borrow.Author.Rules.{rules}
 use Rattle.account.specs.Search.{Zeros}
 use Rattle.values.specs.Values.{at}
-use Rattle.locate.proofs.Sums.{zeros-more}
+use Rattle.locate.proofs.Sums.{zeros_more}
 use Rattle.locate.proofs.zeros.Statement.{statement}
 use Rattle.locate.proofs.zeros.Tie as tie
 
@@ -31,7 +31,7 @@ loop-less c = search rules
 loop-again : tie.Need-loop-preserved invariant-loop decreases-loop
 loop-again c =
     let L = c.before.before.loop in
-    (omega arith, zeros-more (at c.before.before.before.args.t1) L.i L.invariant.1 c.if1.false)
+    (omega arith, zeros_more (at c.before.before.before.args.t1) L.i L.invariant.1 c.if1.false)
 
 returns-2 : tie.Need-returns-2 invariant-loop decreases-loop
 returns-2 c = λ m l. c.before.loop.invariant.1 m (omega arith)

@@ -2,7 +2,7 @@ use mathlib.Core.Path.{refl}
 use Prim.Native.Nat.{◌≤◌}
 use native.Mathlib.Omega.{arith}
 use borrow.Author.Rules.{rules}
-use Rattle.marks.proofs.Listing.{Listing, list-starts, some_left, one_more, word-goes, all-gathered}
+use Rattle.marks.proofs.Listing.{Listing, list_starts, some_left, one_more, word_goes, all_gathered}
 use Rattle.marks.proofs.all.Statement.{statement}
 use Rattle.marks.proofs.all.Tie as tie
 
@@ -15,7 +15,7 @@ decreases-loop marks f cells₀ k₀ i₀ cells k i = i
 
 loop-holds : tie.Need-loop-init invariant-loop decreases-loop
 loop-holds c = let a = c.before.args in
-    (list-starts a.marks.now _ _ (search rules) refl, omega arith)
+    (list_starts a.marks.now _ _ (search rules) refl, omega arith)
 
 sub-i : tie.Need-overflow-sub-i invariant-loop decreases-loop
 sub-i c = let L = c.before.loop in
@@ -46,7 +46,7 @@ loop-again c =
     let u = c.push in
     let h = some_left m L.cells L.k L.i f L.invariant.0 s.requires.0 (search rules) in
     let more = one_more m L.cells L.k L.i f L.invariant.0 s.requires.0 u.new.0 u.result h u.ensures in (
-      word-goes m L.cells L.k L.i f L.invariant.0 s.requires.0 u.new.0 u.result h u.ensures (omega (arith, more, s.requires.1)),
+      word_goes m L.cells L.k L.i f L.invariant.0 s.requires.0 u.new.0 u.result h u.ensures (omega (arith, more, s.requires.1)),
       omega (arith, more),
     )
 
@@ -69,7 +69,7 @@ returns : tie.Need-returns invariant-loop decreases-loop
 returns c =
     let L = c.before.loop in
     let s = c.before.before.before in
-    all-gathered s.args.marks.now L.cells L.k L.i s.args.f L.invariant.0 s.requires.0 (omega (arith, L.invariant.1))
+    all_gathered s.args.marks.now L.cells L.k L.i s.args.f L.invariant.0 s.requires.0 (omega (arith, L.invariant.1))
 
 pub all-spec : {M : Type 1} → statement M
 all-spec =

@@ -1,7 +1,7 @@
 use Prim.Native.Nat.{◌-◌}
 use borrow.Author.Rules.{rules}
 use lib.ListN.{length}
-use Rattle.marks.proofs.Tallying.{Oring, or-starts, or-goes, or-ends}
+use Rattle.marks.proofs.Tallying.{Oring, or_starts, or_goes, or_ends}
 use Rattle.marks.proofs.any.Statement.{statement}
 use Rattle.marks.proofs.any.Tie as tie
 
@@ -12,7 +12,7 @@ abbrev decreases-loop : tie.decreases-loop
 decreases-loop marks x₀ i₀ x i = length marks - i
 
 loop-holds : tie.Need-loop-init invariant-loop decreases-loop
-loop-holds c = or-starts c.args.marks.now
+loop-holds c = or_starts c.args.marks.now
 
 shared-slice-read-x : tie.Need-shared-slice-read-x invariant-loop decreases-loop
 shared-slice-read-x c = search rules
@@ -26,12 +26,12 @@ loop-less c = search rules
 loop-again : tie.Need-loop-preserved invariant-loop decreases-loop
 loop-again c =
     let l = c.before.before.loop in
-    or-goes c.before.before.before.args.marks.now l.x l.i (search rules) l.invariant
+    or_goes c.before.before.before.args.marks.now l.x l.i (search rules) l.invariant
 
 returns : tie.Need-returns invariant-loop decreases-loop
 returns c =
     let l = c.before.loop in
-    or-ends c.before.before.args.marks.now l.x l.i (search rules) l.invariant
+    or_ends c.before.before.args.marks.now l.x l.i (search rules) l.invariant
 
 pub any_spec : {M : Type 1} → statement M
 any_spec =

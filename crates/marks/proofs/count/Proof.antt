@@ -5,7 +5,7 @@ use borrow.Author.Rules.{rules}
 use lib.ListN.{length, take}
 use lib.Seq.{length-take-le}
 use Rattle.marks.specs.Marks.{CountsAll}
-use Rattle.marks.proofs.Counting.{counts-next, counts-few, erratum-below}
+use Rattle.marks.proofs.Counting.{counts_next, counts_few, erratum_below}
 use Rattle.marks.proofs.count.Statement.{statement}
 use Rattle.marks.proofs.count.Tie as tie
 
@@ -32,9 +32,9 @@ count-one-requires c κs =
     let a = c.before.before.before.before.before.before.args in
     let p = c.before.before.before.before.before.before.requires in
     let l = c.before.before.loop in
-    let f = counts-few a.marks.now (take l.i a.e.cells) (take l.i a.e.values) l.c l.invariant.1 in
+    let f = counts_few a.marks.now (take l.i a.e.cells) (take l.i a.e.values) l.c l.invariant.1 in
     let n : length (take l.i a.e.cells) ≤ 5 = omega (arith, length-take-le l.i a.e.cells (omega (arith, p.few, p.room)), p.few) in
-    (erratum-below (length a.marks.now) a.e p l.i (omega arith), omega (arith, f.0), omega (arith, f.1))
+    (erratum_below (length a.marks.now) a.e p l.i (omega arith), omega (arith, f.0), omega (arith, f.1))
 
 add-i : tie.Need-overflow-add-i invariant-loop decreases-loop
 add-i c = search rules
@@ -48,8 +48,8 @@ loop-again c =
     let p = c.before.before.before.before.before.before.before.requires in
     let l = c.before.before.before.loop in (
       omega arith,
-      counts-next a.marks.now a.e.cells a.e.values l.i l.c c.count-one.result (omega (arith, p.few, p.room))
-          (omega (arith, p.few, p.values-room)) l.invariant.1 c.count-one.ensures,
+      counts_next a.marks.now a.e.cells a.e.values l.i l.c c.count-one.result (omega (arith, p.few, p.room))
+          (omega (arith, p.few, p.values_room)) l.invariant.1 c.count-one.ensures,
     )
 
 returns : tie.Need-returns invariant-loop decreases-loop

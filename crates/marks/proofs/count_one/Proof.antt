@@ -6,7 +6,7 @@ use native.Mathlib.Omega.{arith}
 use lib.Dec.{eqb}
 use lib.ListN.{get_or}
 use borrow.Author.Tests.{eq-eqb, ne_eqb}
-use Rattle.account.specs.Reach.{isMarked, oneIf, and}
+use Rattle.account.specs.Reach.{is_marked, one_if, and}
 use Rattle.marks.specs.declared.Counts.{Counts}
 use Rattle.marks.specs.Marks.{CountsOne}
 use borrow.Author.Rules.{rules}
@@ -14,18 +14,18 @@ use Rattle.marks.proofs.count_one.Statement.{statement}
 use Rattle.marks.proofs.count_one.Tie as tie
 
 -- by what the tests of the mark and of the value say
-told : (marks : List ℕ) (p v : ℕ) (c r : Counts) (m z : Bool) → isMarked marks p ≡ m → eqb v 0 ≡ z
-    → r.mended ≡ c.mended + oneIf (and (not m) (not z)) → r.repainted ≡ c.repainted + oneIf (and m (not z)) → CountsOne marks p v c r
+told : (marks : List ℕ) (p v : ℕ) (c r : Counts) (m z : Bool) → is_marked marks p ≡ m → eqb v 0 ≡ z
+    → r.mended ≡ c.mended + one_if (and (not m) (not z)) → r.repainted ≡ c.repainted + one_if (and m (not z)) → CountsOne marks p v c r
 told marks p v c r m z em ez e d = record {
-  mended = e ∙ sym (ap₂ (λ (x y : Bool). c.mended + oneIf (and (not x) (not y))) em ez);
-  repainted = d ∙ sym (ap₂ (λ (x y : Bool). c.repainted + oneIf (and x (not y))) em ez);
+  mended = e ∙ sym (ap₂ (λ (x y : Bool). c.mended + one_if (and (not x) (not y))) em ez);
+  repainted = d ∙ sym (ap₂ (λ (x y : Bool). c.repainted + one_if (and x (not y))) em ez);
 }
 
 -- nothing is added
 same : (marks : List ℕ) (p v : ℕ) (c : Counts) → v ≡ 0 → CountsOne marks p v c c
-same marks p v c e = go (isMarked marks p) refl
+same marks p v c e = go (is_marked marks p) refl
   where
-    go : (m : Bool) → isMarked marks p ≡ m → CountsOne marks p v c c
+    go : (m : Bool) → is_marked marks p ≡ m → CountsOne marks p v c c
     go true q = told marks p v c c true true q (eq-eqb v 0 e) (omega arith) (omega arith)
     go false q = told marks p v c c false true q (eq-eqb v 0 e) (omega arith) (omega arith)
 

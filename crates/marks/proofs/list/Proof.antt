@@ -2,8 +2,8 @@ use mathlib.Core.Path.{sym}
 use native.Mathlib.Omega.{arith}
 use borrow.Author.Rules.{rules}
 use Rattle.account.specs.Lanes.{lane}
-use Rattle.account.proofs.Lanes.{length-lane}
-use Rattle.marks.proofs.Listing.{Listing, list-starts, read_below, lane-goes, lane-many, list-ends}
+use Rattle.account.proofs.Lanes.{length_lane}
+use Rattle.marks.proofs.Listing.{Listing, list_starts, read_below, lane_goes, lane_many, list_ends}
 use Rattle.marks.proofs.list.Statement.{statement}
 use Rattle.marks.proofs.list.Tie as tie
 
@@ -19,8 +19,8 @@ div-i c = search rules
 loop-holds : tie.Need-loop-init invariant-loop decreases-loop
 loop-holds c =
     let a = c.before.args in
-    list-starts (lane a.lanes a.l a.marks.now) _ _ (search rules)
-    (sym (length-lane a.lanes (omega (arith, c.before.requires.0)) a.l a.marks.now))
+    list_starts (lane a.lanes a.l a.marks.now) _ _ (search rules)
+    (sym (length_lane a.lanes (omega (arith, c.before.requires.0)) a.l a.marks.now))
 
 sub-i : tie.Need-overflow-sub-i invariant-loop decreases-loop
 sub-i c = search rules
@@ -52,7 +52,7 @@ returns c =
     let s = c5.before.before in
     let L = c5.loop in
     let u = c.before.push in
-    lane-many s.args.lanes s.args.l s.requires.0 s.args.marks.now L.cells L.k L.i (search rules) L.invariant u.new.0 u.result
+    lane_many s.args.lanes s.args.l s.requires.0 s.args.marks.now L.cells L.k L.i (search rules) L.invariant u.new.0 u.result
     u.ensures _ c.if1.true
 
 loop-less : tie.Need-loop-smaller invariant-loop decreases-loop
@@ -64,7 +64,7 @@ loop-again c =
     let s = c5.before.before in
     let L = c5.loop in
     let u = c.before.push in
-    lane-goes s.args.lanes s.args.l s.requires.0 s.args.marks.now L.cells L.k L.i (search rules) L.invariant u.new.0 u.result
+    lane_goes s.args.lanes s.args.l s.requires.0 s.args.marks.now L.cells L.k L.i (search rules) L.invariant u.new.0 u.result
     u.ensures (search rules)
 
 array-read-t7 : tie.Need-array-read-t7 invariant-loop decreases-loop
@@ -86,7 +86,7 @@ returns-2 : tie.Need-returns-2 invariant-loop decreases-loop
 returns-2 c =
     let s = c.before.before.before in
     let L = c.before.loop in
-    list-ends s.args.lanes s.args.l s.args.marks.now L.cells L.k L.i (search rules) L.invariant
+    list_ends s.args.lanes s.args.l s.args.marks.now L.cells L.k L.i (search rules) L.invariant
 
 pub list-spec : {M : Type 1} → statement M
 list-spec =

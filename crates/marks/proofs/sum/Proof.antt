@@ -2,7 +2,7 @@ use Prim.Native.Nat.{◌-◌}
 use native.Mathlib.Omega.{arith}
 use borrow.Author.Rules.{rules}
 use lib.ListN.{length}
-use Rattle.marks.proofs.Tallying.{Summing, sum-starts, sum_goes, sum-ends}
+use Rattle.marks.proofs.Tallying.{Summing, sum_starts, sum_goes, sum_ends}
 use Rattle.marks.proofs.sum.Statement.{statement}
 use Rattle.marks.proofs.sum.Tie as tie
 
@@ -13,7 +13,7 @@ abbrev decreases-loop : tie.decreases-loop
 decreases-loop marks x₀ i₀ x i = length marks - i
 
 loop-holds : tie.Need-loop-init invariant-loop decreases-loop
-loop-holds c = sum-starts c.args.marks.now
+loop-holds c = sum_starts c.args.marks.now
 
 shared-slice-read-x : tie.Need-shared-slice-read-x invariant-loop decreases-loop
 shared-slice-read-x c = search rules
@@ -40,7 +40,7 @@ loop-again c =
 returns : tie.Need-returns invariant-loop decreases-loop
 returns c =
     let l = c.before.loop in
-    sum-ends c.before.before.args.marks.now l.x l.i (search rules) l.invariant
+    sum_ends c.before.before.args.marks.now l.x l.i (search rules) l.invariant
 
 pub sum-spec : {M : Type 1} → statement M
 sum-spec =

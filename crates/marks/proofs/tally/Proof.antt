@@ -1,6 +1,6 @@
 use native.Mathlib.Omega.{arith}
 use borrow.Author.Rules.{rules}
-use Rattle.marks.proofs.Tallying.{tally-none, tallied}
+use Rattle.marks.proofs.Tallying.{tally_none, tallied}
 use Rattle.marks.proofs.tally.Statement.{statement}
 use Rattle.marks.proofs.tally.Tie as tie
 
@@ -8,7 +8,7 @@ any-requires : tie.Need-any-requires
 any-requires c κs = search rules
 
 returns : tie.Need-returns
-returns c = let a = c.before.before.before.args in tally-none a.marks.now c.before.any.result c.before.any.ensures (omega (arith, c.if1.true))
+returns c = let a = c.before.before.before.args in tally_none a.marks.now c.before.any.result c.before.any.ensures (omega (arith, c.if1.true))
 
 sum-requires : tie.Need-sum-requires
 sum-requires c κs = search rules

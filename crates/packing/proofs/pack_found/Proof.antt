@@ -1,7 +1,7 @@
 use mathlib.Core.Path.{sym, ap, ◌∙◌}
-use Rattle.tiny.specs.Tiny.{nextNumbers}
+use Rattle.tiny.specs.Tiny.{next_numbers}
 use Rattle.tiny.specs.declared.Found.{Found}
-use Rattle.packing.specs.Packed.{packedLength}
+use Rattle.packing.specs.Packed.{packed_length}
 use borrow.Author.Rules.{rules}
 use Rattle.packing.proofs.pack_found.Statement.{statement}
 use Rattle.packing.proofs.pack_found.Tie as tie
@@ -25,13 +25,13 @@ pack-length-requires-3 : tie.Need-pack-length-requires-3
 pack-length-requires-3 c κs = search rules
 
 returns : tie.Need-returns
-returns c = c.pack-length.ensures ∙ sym (ap (λ (a : Found). packedLength (nextNumbers a)) c.before.before.a.given.1)
+returns c = c.pack-length.ensures ∙ sym (ap (λ (a : Found). packed_length (next_numbers a)) c.before.before.a.given.1)
 
 returns-2 : tie.Need-returns-2
-returns-2 c = c.pack-length2.ensures ∙ sym (ap (λ (a : Found). packedLength (nextNumbers a)) c.before.enum_told.given.1)
+returns-2 c = c.pack-length2.ensures ∙ sym (ap (λ (a : Found). packed_length (next_numbers a)) c.before.enum_told.given.1)
 
 returns-3 : tie.Need-returns-3
-returns-3 c = c.pack-length3.ensures ∙ sym (ap (λ (a : Found). packedLength (nextNumbers a)) c.before.before.a2.given.1)
+returns-3 c = c.pack-length3.ensures ∙ sym (ap (λ (a : Found). packed_length (next_numbers a)) c.before.before.a2.given.1)
 
 pub pack-found-spec : {M : Type 1} → statement M
 pack-found-spec =

@@ -1,7 +1,7 @@
 use mathlib.Core.Path.{sym, ap, ◌∙◌}
 use Rattle.record.specs.declared.read.RecordRead.{RecordRead}
-use Rattle.record.specs.Reading.{recordNumbers}
-use Rattle.packing.specs.Packed.{packedRead}
+use Rattle.record.specs.Reading.{record_numbers}
+use Rattle.packing.specs.Packed.{packed_read}
 use borrow.Author.Rules.{rules}
 use Rattle.packing.proofs.pack_level.Statement.{statement}
 use Rattle.packing.proofs.pack_level.Tie as tie
@@ -19,10 +19,10 @@ pack-numbers-requires-2 : tie.Need-pack-numbers-requires-2
 pack-numbers-requires-2 c κs = search rules
 
 returns : tie.Need-returns
-returns c = c.pack-numbers.ensures ∙ sym (ap (λ (a : RecordRead). packedRead (recordNumbers a)) c.before.before.a.given.1)
+returns c = c.pack-numbers.ensures ∙ sym (ap (λ (a : RecordRead). packed_read (record_numbers a)) c.before.before.a.given.1)
 
 returns-2 : tie.Need-returns-2
-returns-2 c = c.pack-numbers2.ensures ∙ sym (ap (λ (a : RecordRead). packedRead (recordNumbers a)) c.before.before.a2.given.1)
+returns-2 c = c.pack-numbers2.ensures ∙ sym (ap (λ (a : RecordRead). packed_read (record_numbers a)) c.before.before.a2.given.1)
 
 pub pack-level-spec : {M : Type 1} → statement M
 pack-level-spec =

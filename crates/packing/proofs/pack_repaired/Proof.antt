@@ -1,7 +1,7 @@
 use mathlib.Core.Path.{sym, ap, ◌∙◌}
-use Rattle.code.specs.Repair.{repairedNumbers}
+use Rattle.code.specs.Repair.{repaired_numbers}
 use Rattle.code.specs.declared.repair.Repaired.{Repaired}
-use Rattle.packing.specs.Packed.{packedRepair}
+use Rattle.packing.specs.Packed.{packed_repair}
 use borrow.Author.Rules.{rules}
 use Rattle.packing.proofs.pack_repaired.Statement.{statement}
 use Rattle.packing.proofs.pack_repaired.Tie as tie
@@ -19,10 +19,10 @@ pack-numbers-requires-2 : tie.Need-pack-numbers-requires-2
 pack-numbers-requires-2 c κs = search rules
 
 returns : tie.Need-returns
-returns c = c.pack-numbers.ensures ∙ sym (ap (λ (a : Repaired). packedRepair (repairedNumbers a)) c.before.before.a.given.1)
+returns c = c.pack-numbers.ensures ∙ sym (ap (λ (a : Repaired). packed_repair (repaired_numbers a)) c.before.before.a.given.1)
 
 returns-2 : tie.Need-returns-2
-returns-2 c = c.pack-numbers2.ensures ∙ sym (ap (λ (a : Repaired). packedRepair (repairedNumbers a)) c.before.before.a2.given.1)
+returns-2 c = c.pack-numbers2.ensures ∙ sym (ap (λ (a : Repaired). packed_repair (repaired_numbers a)) c.before.before.a2.given.1)
 
 pub pack-repaired-spec : {M : Type 1} → statement M
 pack-repaired-spec =

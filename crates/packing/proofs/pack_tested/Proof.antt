@@ -1,7 +1,7 @@
 use mathlib.Core.Path.{sym, ap, ◌∙◌}
-use Rattle.code.specs.Word.{testedNumbers}
+use Rattle.code.specs.Word.{tested_numbers}
 use Rattle.code.specs.declared.word.Tested.{Tested}
-use Rattle.packing.specs.Packed.{packedLength}
+use Rattle.packing.specs.Packed.{packed_length}
 use borrow.Author.Rules.{rules}
 use Rattle.packing.proofs.pack_tested.Statement.{statement}
 use Rattle.packing.proofs.pack_tested.Tie as tie
@@ -25,13 +25,13 @@ pack-length-requires-3 : tie.Need-pack-length-requires-3
 pack-length-requires-3 c κs = search rules
 
 returns : tie.Need-returns
-returns c = c.pack-length.ensures ∙ sym (ap (λ (a : Tested). packedLength (testedNumbers a)) c.before.enum_told.given.1)
+returns c = c.pack-length.ensures ∙ sym (ap (λ (a : Tested). packed_length (tested_numbers a)) c.before.enum_told.given.1)
 
 returns-2 : tie.Need-returns-2
-returns-2 c = c.pack-length2.ensures ∙ sym (ap (λ (a : Tested). packedLength (testedNumbers a)) c.before.enum-told2.given.1)
+returns-2 c = c.pack-length2.ensures ∙ sym (ap (λ (a : Tested). packed_length (tested_numbers a)) c.before.enum-told2.given.1)
 
 returns-3 : tie.Need-returns-3
-returns-3 c = c.pack-length3.ensures ∙ sym (ap (λ (a : Tested). packedLength (testedNumbers a)) c.before.before.a.given.1)
+returns-3 c = c.pack-length3.ensures ∙ sym (ap (λ (a : Tested). packed_length (tested_numbers a)) c.before.before.a.given.1)
 
 pub pack-tested-spec : {M : Type 1} → statement M
 pack-tested-spec =

@@ -1,7 +1,7 @@
 use mathlib.Core.Path.{sym, ap, ◌∙◌}
-use Rattle.code.specs.Word.{writtenNumbers}
+use Rattle.code.specs.Word.{written_numbers}
 use Rattle.code.specs.declared.word.Written.{Written}
-use Rattle.packing.specs.Packed.{packedLength}
+use Rattle.packing.specs.Packed.{packed_length}
 use borrow.Author.Rules.{rules}
 use Rattle.packing.proofs.pack_written.Statement.{statement}
 use Rattle.packing.proofs.pack_written.Tie as tie
@@ -19,10 +19,10 @@ pack-length-requires-2 : tie.Need-pack-length-requires-2
 pack-length-requires-2 c κs = search rules
 
 returns : tie.Need-returns
-returns c = c.pack-length.ensures ∙ sym (ap (λ (a : Written). packedLength (writtenNumbers a)) c.before.before.a.given.1)
+returns c = c.pack-length.ensures ∙ sym (ap (λ (a : Written). packed_length (written_numbers a)) c.before.before.a.given.1)
 
 returns-2 : tie.Need-returns-2
-returns-2 c = c.pack-length2.ensures ∙ sym (ap (λ (a : Written). packedLength (writtenNumbers a)) c.before.before.a2.given.1)
+returns-2 c = c.pack-length2.ensures ∙ sym (ap (λ (a : Written). packed_length (written_numbers a)) c.before.before.a2.given.1)
 
 pub pack-written-spec : {M : Type 1} → statement M
 pack-written-spec =

@@ -2,7 +2,7 @@ use mathlib.Core.Path.{◌≡◌, subst}
 use Prim.Native.Nat.{ℕ, ◌-◌, ◌≤◌}
 use native.Mathlib.Omega.{arith}
 use Rattle.patches.specs.Window.{WindowPatched}
-use Rattle.patches.proofs.Windows.{window-0, window_more}
+use Rattle.patches.proofs.Windows.{window_0, window_more}
 use borrow.Author.Rules.{rules}
 use Rattle.patches.proofs.patch.Statement.{statement}
 use Rattle.patches.proofs.patch.Tie as tie
@@ -16,7 +16,7 @@ decreases-loop cells bytes count from window₀ i₀ window i = count - i
 loop-holds : tie.Need-loop-init invariant-loop decreases-loop
 loop-holds c =
     let a = c.before.args in
-    (omega arith, window-0 a.cells.now a.bytes.now a.from a.window.now)
+    (omega arith, window_0 a.cells.now a.bytes.now a.from a.window.now)
 
 mul_wide : tie.Need-overflow-mul-wide invariant-loop decreases-loop
 mul_wide c = search rules

@@ -1,4 +1,4 @@
-use Rattle.patches.proofs.Windows.{patched-one}
+use Rattle.patches.proofs.Windows.{patched_one}
 use borrow.Author.Rules.{rules}
 use Rattle.patches.proofs.patch_one.Statement.{statement}
 use Rattle.patches.proofs.patch_one.Tie as tie
@@ -27,7 +27,7 @@ returns c =
     let d = c.before.before.before.distance in
     let o = c.before.before.offset in
     let v = c.pick in
-    patched-one s.args.from s.args.p s.args.b d.result o.result v.result s.args.window.now s.requires.1 d.ensures
+    patched_one s.args.from s.args.p s.args.b d.result o.result v.result s.args.window.now s.requires.1 d.ensures
     o.ensures.0 o.ensures.1 v.ensures.0 v.ensures.1
 
 pub patch-one-spec : {M : Type 1} → statement M

@@ -1,4 +1,4 @@
-use Rattle.patches.proofs.Windows.{window-shown}
+use Rattle.patches.proofs.Windows.{window_shown}
 use borrow.Author.Rules.{rules}
 use Rattle.patches.proofs.show.Statement.{statement}
 use Rattle.patches.proofs.show.Tie as tie
@@ -31,7 +31,7 @@ returns : tie.Need-returns
 returns c =
     let a = c.before.before.before.before.before.before.before.before.before.before.before.before.args in
     let z = c.before.before.before.before.before.before.before.before.before.size in
-    window-shown a.strip.now a.cells.now a.bytes.now a.scratch.now _ _ a.count a.from a.to z.result
+    window_shown a.strip.now a.cells.now a.bytes.now a.scratch.now _ _ a.count a.from a.to z.result
     z.ensures.0 z.ensures.1 z.ensures.2 c.before.before.before.before.before.before.before.before.before.before.before.before.requires.2 c.before.before.before.before.before.before.copy.ensures c.before.before.patch.ensures
 
 pub show-spec : {M : Type 1} → statement M

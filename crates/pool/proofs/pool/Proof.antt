@@ -13,7 +13,7 @@ returns : tie.Need-returns
 returns c =
     let s = c.before.before.before.before.before.before.before.before.args in
     let a = photo s.first.now s.first_marks.now in
-    let b = photo s.second.now s.second-marks.now in
+    let b = photo s.second.now s.second_marks.now in
     let out = photo s.cells.now s.marks.now in
     let e = c.before.enter in
     refuses 4 a b out e.result e.ensures c.if1.true
@@ -22,7 +22,7 @@ pour-requires : tie.Need-pour-requires
 pour-requires c κs =
     let s = c.before.before.before.before.before.before.before.before.before.before.args in
     let a = photo s.first.now s.first_marks.now in
-    let b = photo s.second.now s.second-marks.now in
+    let b = photo s.second.now s.second_marks.now in
     let out = photo s.cells.now s.marks.now in
     let e = c.before.before.before.enter in
     lent a b out e.result e.ensures c.before.before.if1.false
@@ -46,7 +46,7 @@ sub-t20 : tie.Need-overflow-sub-t20
 sub-t20 c =
     let s = c.before.before.before.before.before.before.before.before.before.before.before.before.before.before.before.before.before.before.args in
     let a = photo s.first.now s.first_marks.now in
-    let b = photo s.second.now s.second-marks.now in
+    let b = photo s.second.now s.second_marks.now in
     let out = photo s.cells.now s.marks.now in
     let p = c.before.before.before.before.before.before.before.pour in
     let e = c.before.before.before.before.before.before.before.before.before.before.before.enter in
@@ -62,7 +62,7 @@ returns-2 : tie.Need-returns-2
 returns-2 c =
     let s = c.before.before.before.before.before.before.before.before.before.before.before.before.before.before.before.before.before.before.args in
     let a = photo s.first.now s.first_marks.now in
-    let b = photo s.second.now s.second-marks.now in
+    let b = photo s.second.now s.second_marks.now in
     let out = photo s.cells.now s.marks.now in
     let p = c.before.before.before.before.before.before.before.pour in
     let e = c.before.before.before.before.before.before.before.before.before.before.before.enter in

@@ -3,22 +3,22 @@ use native.Mathlib.Omega.{arith}
 use borrow.Author.Rules.{rules}
 use lib.ListN.{length, get_or}
 use Rattle.pool.specs.Pooled.{photo, taken, conflict, both}
-use Rattle.pool.proofs.Pouring.{Pouring, one, pour-starts, pour-goes, pour-few, pour-ends}
+use Rattle.pool.proofs.Pouring.{Pouring, one, pour_starts, pour_goes, pour_few, pour_ends}
 use Rattle.pool.proofs.pour.Statement.{statement}
 use Rattle.pool.proofs.pour.Tie as tie
 
 abbrev invariant-loop : tie.invariant-loop
-invariant-loop first first_marks second second-marks cells₀ marks₀ t₀ c₀ m₀ i₀ cells marks t c m i =
-    Pouring (photo first first_marks) (photo second second-marks) (photo cells₀ marks₀) (photo cells marks) t c m i
+invariant-loop first first_marks second second_marks cells₀ marks₀ t₀ c₀ m₀ i₀ cells marks t c m i =
+    Pouring (photo first first_marks) (photo second second_marks) (photo cells₀ marks₀) (photo cells marks) t c m i
 
 abbrev decreases-loop : tie.decreases-loop
-decreases-loop first first_marks second second-marks cells₀ marks₀ t₀ c₀ m₀ i₀ cells marks t c m i =
+decreases-loop first first_marks second second_marks cells₀ marks₀ t₀ c₀ m₀ i₀ cells marks t c m i =
     length first - i
 
 loop-holds : tie.Need-loop-init invariant-loop decreases-loop
 loop-holds c =
     let s = c.before.before.before.before.before.before in
-    pour-starts (photo s.args.first.now s.args.first_marks.now) (photo s.args.second.now s.args.second-marks.now)
+    pour_starts (photo s.args.first.now s.args.first_marks.now) (photo s.args.second.now s.args.second_marks.now)
     (photo s.args.cells.now s.args.marks.now)
 
 shared-slice-read-x : tie.Need-shared-slice-read-x invariant-loop decreases-loop
@@ -31,7 +31,7 @@ shared-slice-read-y : tie.Need-shared-slice-read-y invariant-loop decreases-loop
 shared-slice-read-y c = let s = c.before.before.before.before.before.before.before.before.before.before.before in omega (arith, s.requires.0.second)
 
 shared-slice-read-n : tie.Need-shared-slice-read-n invariant-loop decreases-loop
-shared-slice-read-n c = let s = c.before.before.before.before.before.before.before.before.before.before.before.before in omega (arith, s.requires.0.second-marks)
+shared-slice-read-n c = let s = c.before.before.before.before.before.before.before.before.before.before.before.before in omega (arith, s.requires.0.second_marks)
 
 one-conflict-requires : tie.Need-one-conflict-requires invariant-loop decreases-loop
 one-conflict-requires c κs = search rules
@@ -54,8 +54,8 @@ add-marks c =
     let L = c.before.before.before.before.before.before.before.before.loop in
     omega (
       arith,
-      one (photo s.args.first.now s.args.first_marks.now) (photo s.args.second.now s.args.second-marks.now) conflict L.i c.before.before.one-conflict.result c.before.before.one-conflict.ensures,
-      one (photo s.args.first.now s.args.first_marks.now) (photo s.args.second.now s.args.second-marks.now) both L.i c.before.one-both.result (c.before.one-both.ensures (get_or s.args.first.now L.i 0) (get_or s.args.second.now L.i 0)),
+      one (photo s.args.first.now s.args.first_marks.now) (photo s.args.second.now s.args.second_marks.now) conflict L.i c.before.before.one-conflict.result c.before.before.one-conflict.ensures,
+      one (photo s.args.first.now s.args.first_marks.now) (photo s.args.second.now s.args.second_marks.now) both L.i c.before.one-both.result (c.before.one-both.ensures (get_or s.args.first.now L.i 0) (get_or s.args.second.now L.i 0)),
     )
 
 cast-marks : tie.Need-overflow-cast-marks invariant-loop decreases-loop
@@ -64,8 +64,8 @@ cast-marks c =
     let L = c.before.before.before.before.before.before.before.before.loop in
     omega (
       arith,
-      one (photo s.args.first.now s.args.first_marks.now) (photo s.args.second.now s.args.second-marks.now) conflict L.i c.before.before.one-conflict.result c.before.before.one-conflict.ensures,
-      one (photo s.args.first.now s.args.first_marks.now) (photo s.args.second.now s.args.second-marks.now) both L.i c.before.one-both.result (c.before.one-both.ensures (get_or s.args.first.now L.i 0) (get_or s.args.second.now L.i 0)),
+      one (photo s.args.first.now s.args.first_marks.now) (photo s.args.second.now s.args.second_marks.now) conflict L.i c.before.before.one-conflict.result c.before.before.one-conflict.ensures,
+      one (photo s.args.first.now s.args.first_marks.now) (photo s.args.second.now s.args.second_marks.now) both L.i c.before.one-both.result (c.before.one-both.ensures (get_or s.args.first.now L.i 0) (get_or s.args.second.now L.i 0)),
     )
 
 slice-write-marks : tie.Need-slice-write-marks invariant-loop decreases-loop
@@ -84,9 +84,9 @@ add-taken c =
     omega (
       arith,
       L.invariant.within,
-      pour-few (photo s.args.first.now s.args.first_marks.now) (photo s.args.second.now s.args.second-marks.now) (photo s.args.cells.now s.args.marks.now) s.requires.0
+      pour_few (photo s.args.first.now s.args.first_marks.now) (photo s.args.second.now s.args.second_marks.now) (photo s.args.cells.now s.args.marks.now) s.requires.0
           (photo L.cells L.marks) L.taken L.conflict L.both L.i L.invariant,
-      one (photo s.args.first.now s.args.first_marks.now) (photo s.args.second.now s.args.second-marks.now) taken L.i c.one-taken.result (c.one-taken.ensures (get_or s.args.first.now L.i 0) (get_or s.args.second.now L.i 0)),
+      one (photo s.args.first.now s.args.first_marks.now) (photo s.args.second.now s.args.second_marks.now) taken L.i c.one-taken.result (c.one-taken.ensures (get_or s.args.first.now L.i 0) (get_or s.args.second.now L.i 0)),
       s.requires.1,
     )
 
@@ -97,9 +97,9 @@ add-conflict c =
     omega (
       arith,
       L.invariant.within,
-      pour-few (photo s.args.first.now s.args.first_marks.now) (photo s.args.second.now s.args.second-marks.now) (photo s.args.cells.now s.args.marks.now) s.requires.0
+      pour_few (photo s.args.first.now s.args.first_marks.now) (photo s.args.second.now s.args.second_marks.now) (photo s.args.cells.now s.args.marks.now) s.requires.0
           (photo L.cells L.marks) L.taken L.conflict L.both L.i L.invariant,
-      one (photo s.args.first.now s.args.first_marks.now) (photo s.args.second.now s.args.second-marks.now) conflict L.i c.before.before.before.one-conflict.result c.before.before.before.one-conflict.ensures,
+      one (photo s.args.first.now s.args.first_marks.now) (photo s.args.second.now s.args.second_marks.now) conflict L.i c.before.before.before.one-conflict.result c.before.before.before.one-conflict.ensures,
       s.requires.1,
     )
 
@@ -110,9 +110,9 @@ add-both c =
     omega (
       arith,
       L.invariant.within,
-      pour-few (photo s.args.first.now s.args.first_marks.now) (photo s.args.second.now s.args.second-marks.now) (photo s.args.cells.now s.args.marks.now) s.requires.0
+      pour_few (photo s.args.first.now s.args.first_marks.now) (photo s.args.second.now s.args.second_marks.now) (photo s.args.cells.now s.args.marks.now) s.requires.0
           (photo L.cells L.marks) L.taken L.conflict L.both L.i L.invariant,
-      one (photo s.args.first.now s.args.first_marks.now) (photo s.args.second.now s.args.second-marks.now) both L.i c.before.before.one-both.result (c.before.before.one-both.ensures (get_or s.args.first.now L.i 0) (get_or s.args.second.now L.i 0)),
+      one (photo s.args.first.now s.args.first_marks.now) (photo s.args.second.now s.args.second_marks.now) both L.i c.before.before.one-both.result (c.before.before.one-both.ensures (get_or s.args.first.now L.i 0) (get_or s.args.second.now L.i 0)),
       s.requires.1,
     )
 
@@ -126,7 +126,7 @@ loop-again : tie.Need-loop-preserved invariant-loop decreases-loop
 loop-again c =
     let s = c.before.before.before.before.before.before.before.before.before.before.before.before.before.before.before.before in
     let L = c.before.before.before.before.before.before.before.before.before.loop in
-    pour-goes (photo s.args.first.now s.args.first_marks.now) (photo s.args.second.now s.args.second-marks.now)
+    pour_goes (photo s.args.first.now s.args.first_marks.now) (photo s.args.second.now s.args.second_marks.now)
     (photo s.args.cells.now s.args.marks.now) s.requires.0 L.cells L.marks L.taken L.conflict L.both L.i c.before.byte_of.result c.one-taken.result
     c.before.before.before.one-conflict.result c.before.before.one-both.result (search rules) c.before.byte_of.ensures (c.one-taken.ensures (get_or s.args.first.now L.i 0) (get_or s.args.second.now L.i 0)) c.before.before.before.one-conflict.ensures
     (c.before.before.one-both.ensures (get_or s.args.first.now L.i 0) (get_or s.args.second.now L.i 0)) L.invariant
@@ -141,7 +141,7 @@ returns : tie.Need-returns invariant-loop decreases-loop
 returns c =
     let s = c.before.before.before.before.before.before.before.before in
     let L = c.before.loop in
-    pour-ends (photo s.args.first.now s.args.first_marks.now) (photo s.args.second.now s.args.second-marks.now)
+    pour_ends (photo s.args.first.now s.args.first_marks.now) (photo s.args.second.now s.args.second_marks.now)
     (photo s.args.cells.now s.args.marks.now) s.requires.0 L.cells L.marks L.taken L.conflict L.both L.i (search rules) L.invariant
 
 pub pour-spec : {M : Type 1} → statement M

@@ -4,7 +4,7 @@ use native.Mathlib.Omega.{arith}
 use lib.ListN.{take}
 use Rattle.account.specs.Lanes.{lane}
 use Rattle.remainder.specs.Remainder.{Remains}
-use Rattle.remainder.proofs.LanesOf.{Few, few-0, few-cell, few-more}
+use Rattle.remainder.proofs.LanesOf.{Few, few_0, few_cell, few_more}
 use borrow.Author.Rules.{rules}
 use Rattle.remainder.proofs.few.Statement.{statement}
 use Rattle.remainder.proofs.few.Tie as tie
@@ -16,7 +16,7 @@ abbrev decreases-loop : tie.decreases-loop
 decreases-loop s lanes j h x₀ p₀ i₀ x p i = h - i
 
 loop-holds : tie.Need-loop-init invariant-loop decreases-loop
-loop-holds c = (omega arith, few-0 c.before.args.lanes (omega (arith, c.before.requires.0)) c.before.args.s.now c.before.args.j)
+loop-holds c = (omega arith, few_0 c.before.args.lanes (omega (arith, c.before.requires.0)) c.before.args.s.now c.before.args.j)
 
 mul-x : tie.Need-overflow-mul-x invariant-loop decreases-loop
 mul-x c = omega (arith, c.before.loop.invariant.1.small (omega (arith, c.before.before.before.requires.1)))
@@ -26,7 +26,7 @@ shared-slice-read-wide c =
     let a = c.before.before.before.before.args in
     let p = c.before.before.before.before.requires in
     let l = c.before.before.loop in
-    few-cell a.lanes (omega (arith, p.0)) a.s.now a.j l.x l.p l.i p.0 (omega (arith, p.3)) l.invariant.1
+    few_cell a.lanes (omega (arith, p.0)) a.s.now a.j l.x l.p l.i p.0 (omega (arith, p.3)) l.invariant.1
 
 wide-requires : tie.Need-wide-requires invariant-loop decreases-loop
 wide-requires c κs = search rules
@@ -39,7 +39,7 @@ add-p c =
     let a = c.before.before.before.before.before.args in
     let p = c.before.before.before.before.before.requires in
     let l = c.before.before.before.loop in
-    omega (arith, p.2, few-cell a.lanes (omega (arith, p.0)) a.s.now a.j l.x l.p l.i p.0 (omega (arith, p.3)) l.invariant.1)
+    omega (arith, p.2, few_cell a.lanes (omega (arith, p.0)) a.s.now a.j l.x l.p l.i p.0 (omega (arith, p.3)) l.invariant.1)
 
 add-i : tie.Need-overflow-add-i invariant-loop decreases-loop
 add-i c = search rules
@@ -53,7 +53,7 @@ loop-again c =
     let p = c.before.before.before.before.before.requires in
     let l = c.before.before.before.loop in (
       omega arith,
-      few-more a.lanes (omega (arith, p.0)) a.s.now a.j l.x l.p l.i c.wide.result p.0 (omega (arith, p.3))
+      few_more a.lanes (omega (arith, p.0)) a.s.now a.j l.x l.p l.i c.wide.result p.0 (omega (arith, p.3))
           (omega (arith, p.1)) c.wide.ensures.1 c.wide.ensures.0 l.invariant.1,
     )
 

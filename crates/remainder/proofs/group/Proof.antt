@@ -3,8 +3,8 @@ use mathlib.Core.List.{List}
 use Prim.Native.Nat.{ℕ, ◌+◌, ◌-◌, ◌≤◌, ◌<◌}
 use native.Mathlib.Omega.{arith}
 use lib.ListN.{get_or, set}
-use Rattle.remainder.specs.Remainder.{Moved, fiveAt, Room, lower, RowTo}
-use Rattle.remainder.proofs.LanesOf.{row-0, row_more, row_small}
+use Rattle.remainder.specs.Remainder.{Moved, five_at, Room, lower, RowTo}
+use Rattle.remainder.proofs.LanesOf.{row_0, row_more, row_small}
 use borrow.Author.Rules.{rules}
 use Rattle.remainder.proofs.group.Statement.{statement}
 use Rattle.remainder.proofs.group.Tie as tie
@@ -21,7 +21,7 @@ loop-holds c =
     let e : a.j ≡ lower (a.j + 0) a.lanes = omega (arith, c.before.requires.2) in (
       omega arith,
       subst (λ (k : ℕ). RowTo a.lanes a.s.now a.q a.j a.out.now a.out.now k) e
-          (row-0 a.lanes (omega (arith, c.before.requires.0.some)) a.s.now a.q a.j a.out.now c.before.requires.2),
+          (row_0 a.lanes (omega (arith, c.before.requires.0.some)) a.s.now a.q a.j a.out.now c.before.requires.2),
     )
 
 add-if1 : tie.Need-overflow-add-if1 invariant-loop decreases-loop
@@ -80,7 +80,7 @@ loop-less c = search rules
 
 -- a lane more, or none is left
 taken : (R : ℕ) (s : List ℕ) (q j : ℕ) (o x : List ℕ) (i v : ℕ) → Room R o → j + i < R → RowTo R s q j o x (lower (j + i) R)
-    → Moved (get_or x (j + i) 0) (fiveAt R s (q + (j + i))) v → RowTo R s q j o (set x (j + i) v) (lower (j + (i + 1)) R)
+    → Moved (get_or x (j + i) 0) (five_at R s (q + (j + i))) v → RowTo R s q j o (set x (j + i) v) (lower (j + (i + 1)) R)
 taken R s q j o x i v room h W N =
     let e : lower (j + i) R ≡ j + i = omega (arith, h) in
     let e' : j + i + 1 ≡ lower (j + (i + 1)) R = omega (arith, h) in

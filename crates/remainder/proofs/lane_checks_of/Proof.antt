@@ -2,7 +2,7 @@ use Prim.Native.Nat.{◌*◌, ◌-◌}
 use lib.ListN.{take, replicate}
 use mathlib.Core.Path.{refl}
 use native.Mathlib.Omega.{arith}
-use Rattle.remainder.proofs.LanesOf.{zero-part, fives-whole, lanes-check}
+use Rattle.remainder.proofs.LanesOf.{zero_part, fives_whole, lanes_check}
 use borrow.Author.Rules.{rules}
 use Rattle.remainder.proofs.lane_checks_of.Statement.{statement}
 use Rattle.remainder.proofs.lane_checks_of.Tie as tie
@@ -27,16 +27,16 @@ rows-requires c κs =
     let p = c.before.before.before.before.before.requires in
     let r = c.before.before.before.remainders in (
       record { some = p.0; few = p.1; long = search rules; small = λ j l. (r.ensures j l).small },
-      fives-whole _ _
-          (zero-part _ (replicate 80 0) p.1 refl tt).0,
+      fives_whole _ _
+          (zero_part _ (replicate 80 0) p.1 refl tt).0,
     )
 
 returns : tie.Need-returns
 returns c =
     let a = c.before.before.before.before.before.before.args in
     let p = c.before.before.before.before.before.before.requires in
-    let z = zero-part a.lanes (replicate 80 0) p.1 refl tt in
-    lanes-check a.lanes (omega (arith, p.0)) a.«data».now (take (5 * a.lanes - 0) (replicate 80 0))
+    let z = zero_part a.lanes (replicate 80 0) p.1 refl tt in
+    lanes_check a.lanes (omega (arith, p.0)) a.«data».now (take (5 * a.lanes - 0) (replicate 80 0))
     c.before.before.before.before.remainders.result c.rows.new.1.1.0 z.0 z.1 c.before.before.before.before.remainders.ensures
     c.rows.ensures.0
 

@@ -2,7 +2,7 @@ use native.Mathlib.Omega.{arith}
 use mathlib.Core.Path.{◌≡◌, subst}
 use Prim.Native.Nat.{◌+◌, ◌-◌, ◌≤◌}
 use Rattle.remainder.specs.Remainder.{lower, RowTo}
-use Rattle.remainder.proofs.LanesOf.{row-0, row-after, row_keeps}
+use Rattle.remainder.proofs.LanesOf.{row_0, row_after, row_keeps}
 use borrow.Author.Rules.{rules}
 use Rattle.remainder.proofs.row.Statement.{statement}
 use Rattle.remainder.proofs.row.Tie as tie
@@ -19,7 +19,7 @@ loop-holds c =
     let e : 0 ≡ lower 0 a.lanes = omega arith in (
       omega arith,
       subst (RowTo a.lanes a.s.now a.q 0 a.out.now a.out.now) e
-          (row-0 a.lanes (omega (arith, c.before.requires.0.some)) a.s.now a.q 0 a.out.now (omega arith)),
+          (row_0 a.lanes (omega (arith, c.before.requires.0.some)) a.s.now a.q 0 a.out.now (omega arith)),
     )
 
 group-requires : tie.Need-group-requires invariant-loop decreases-loop
@@ -46,7 +46,7 @@ loop-again c =
     let l = c.before.before.before.loop in
     let e : lower l.j a.lanes ≡ l.j = omega arith in (
       omega arith,
-      row-after a.lanes (omega (arith, st.requires.0.some)) a.s.now a.q l.j (lower (l.j + 4) a.lanes) a.out.now l.out
+      row_after a.lanes (omega (arith, st.requires.0.some)) a.s.now a.q l.j (lower (l.j + 4) a.lanes) a.out.now l.out
           c.group.new.1.1.1.1.0 (subst (RowTo a.lanes a.s.now a.q 0 a.out.now l.out) e l.invariant.1) c.group.ensures,
     )
 

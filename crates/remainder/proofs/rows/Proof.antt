@@ -1,7 +1,7 @@
 use Prim.Native.Nat.{◌-◌}
 use native.Mathlib.Omega.{arith}
 use lib.ListN.{length}
-use Rattle.remainder.proofs.LanesOf.{Rows, rows-0, row_fits, row_room, rows_more, rows_all}
+use Rattle.remainder.proofs.LanesOf.{Rows, rows_0, row_fits, row_room, rows_more, rows_all}
 use Rattle.remainder.proofs.rows.Statement.{statement}
 use Rattle.remainder.proofs.rows.Tie as tie
 
@@ -15,7 +15,7 @@ loop-holds : tie.Need-loop-init invariant-loop decreases-loop
 loop-holds c =
     let a = c.before.args in
     let p = c.before.requires in
-    rows-0 a.lanes (omega (arith, p.0.some)) a.s.now a.out.now p.0 p.1
+    rows_0 a.lanes (omega (arith, p.0.some)) a.s.now a.out.now p.0 p.1
 
 row-requires : tie.Need-row-requires invariant-loop decreases-loop
 row-requires c κs =

@@ -102,10 +102,10 @@ returns c =
     let w4 = c.before.before.before.before.before.before.before.wide4 in
     let w5 = c.before.before.before.before.before.wide5 in
     stepped s.args.lanes s.args.s.now s.args.p s.args.r s.requires.0 w1.result w2.result w3.result w4.result w5.result
-    c.before.before.before.before.at_5.result c.before.before.before.at-6.result c.before.before.at_7.result c.before.at_8.result
+    c.before.before.before.before.at_5.result c.before.before.before.at_6.result c.before.before.at_7.result c.before.at_8.result
     c.at_9.result
     w1.ensures w2.ensures w3.ensures w4.ensures w5.ensures
-    c.before.before.before.before.at_5.ensures c.before.before.before.at-6.ensures c.before.before.at_7.ensures
+    c.before.before.before.before.at_5.ensures c.before.before.before.at_6.ensures c.before.before.at_7.ensures
     c.before.at_8.ensures c.at_9.ensures
 
 pub step_spec : {M : Type 1} → statement M

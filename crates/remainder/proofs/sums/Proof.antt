@@ -5,7 +5,7 @@ use lib.Bits.{bit_xor}
 use lib.ListN.{get_or}
 use Rattle.reductions.specs.Tables.{halves}
 use borrow.Author.Rules.{rules}
-use Rattle.remainder.proofs.Halves.{SumsOf, sums-start, sums_next, rest-next, sums-end}
+use Rattle.remainder.proofs.Halves.{SumsOf, sums_start, sums_next, rest_next, sums_end}
 use Rattle.remainder.proofs.sums.Statement.{statement}
 use Rattle.remainder.proofs.sums.Tie as tie
 
@@ -16,7 +16,7 @@ abbrev decreases-loop : tie.decreases-loop
 decreases-loop r x₀ rest₀ k₀ x rest k = 10 - k
 
 loop-holds : tie.Need-loop-init invariant-loop decreases-loop
-loop-holds c = (omega arith, omega arith, sums-start c.args.r)
+loop-holds c = (omega arith, omega arith, sums_start c.args.r)
 
 mul-sums-at : tie.Need-overflow-mul-sums-at invariant-loop decreases-loop
 mul-sums-at c = search rules
@@ -38,7 +38,7 @@ loop-again c =
     let L = c.before.before.loop in
     let r = c.before.before.before.args.r in (
       omega arith,
-      ap (λ (m : ℕ). m / 16) L.invariant.1 ∙ rest-next r L.k,
+      ap (λ (m : ℕ). m / 16) L.invariant.1 ∙ rest_next r L.k,
       subst (λ (e : ℕ). SumsOf (r % 2 ^ (4 * (L.k + 1))) (bit_xor L.x e))
           (ap (λ (m : ℕ). get_or halves (16 * L.k + m % 16) 0) (sym L.invariant.1) ∙ sym c.sums_at.ensures)
           (sums_next r L.k L.x (search rules) L.invariant.2),
@@ -49,7 +49,7 @@ returns c =
     let L = c.before.loop in
     let r = c.before.before.args.r in
     let e : L.k ≡ 10 = omega arith in
-    sums-end r L.x (subst (λ (k : ℕ). SumsOf (r % 2 ^ (4 * k)) L.x) e L.invariant.2)
+    sums_end r L.x (subst (λ (k : ℕ). SumsOf (r % 2 ^ (4 * k)) L.x) e L.invariant.2)
 
 pub sums-spec : {M : Type 1} → statement M
 sums-spec =

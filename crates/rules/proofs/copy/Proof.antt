@@ -1,4 +1,4 @@
-use Rattle.rules.proofs.Copying.{copy_goes, copy-long, copy-ends}
+use Rattle.rules.proofs.Copying.{copy_goes, copy_long, copy_ends}
 use mathlib.Core.Path.{◌≡◌, ap, ◌∙◌}
 use mathlib.Core.List.{List}
 use Prim.Native.Nat.{ℕ, ◌-◌, ◌≤◌}
@@ -25,7 +25,7 @@ slice-write-to : tie.Need-slice-write-to invariant-loop decreases-loop
 slice-write-to c =
     let L = c.before.before.loop in
     let s = c.before.before.before in
-    omega (arith, ap length L.invariant.1, copy-long s.args.from.now s.args.to.now L.i L.invariant.0 s.requires, s.requires)
+    omega (arith, ap length L.invariant.1, copy_long s.args.from.now s.args.to.now L.i L.invariant.0 s.requires, s.requires)
 
 add-i : tie.Need-overflow-add-i invariant-loop decreases-loop
 add-i c = search rules
@@ -46,13 +46,13 @@ same_length : tie.Need-same-length invariant-loop decreases-loop
 same_length c =
     let L = c.before.loop in
     let s = c.before.before in
-    ap length L.invariant.1 ∙ copy-long s.args.from.now s.args.to.now L.i L.invariant.0 s.requires
+    ap length L.invariant.1 ∙ copy_long s.args.from.now s.args.to.now L.i L.invariant.0 s.requires
 
 returns : tie.Need-returns invariant-loop decreases-loop
 returns c =
     let L = c.before.loop in
     let s = c.before.before in
-    L.invariant.1 ∙ copy-ends s.args.from.now s.args.to.now L.i (omega arith)
+    L.invariant.1 ∙ copy_ends s.args.from.now s.args.to.now L.i (omega arith)
 
 pub copy_spec : {M : Type 1} → statement M
 copy_spec =

@@ -2,7 +2,7 @@ use mathlib.Core.Path.{subst}
 use mathlib.Core.Bool.{Bool}
 use borrow.Author.Tests.{not-true, not-false}
 use Rattle.tiny.specs.Parts.{Seeks}
-use Rattle.tiny.proofs.Answering.{none-on, board-on}
+use Rattle.tiny.proofs.Answering.{none_on, board_on}
 use borrow.Author.Rules.{rules}
 use Rattle.tiny.proofs.answer.Statement.{statement}
 use Rattle.tiny.proofs.answer.Tie as tie
@@ -17,7 +17,7 @@ returns : tie.Need-returns
 returns c =
     let s = c.before.before.before.before.before.before.before in
     let k = c.before.before.before.seek in
-    none-on s.args.board.now s.args.tiles.now
+    none_on s.args.board.now s.args.tiles.now
     (subst (λ (b : Bool). Seeks s.args.board.now k.new.0 b) (not-true k.result c.if1.true) k.ensures)
 
 copy-requires : tie.Need-copy-requires
@@ -33,7 +33,7 @@ returns-2 : tie.Need-returns-2
 returns-2 c =
     let s = c.before.before.before.before.before.before.before.before.before.before.before.before in
     let k = c.before.before.before.before.before.before.before.before.seek in
-    board-on s.args.board.now k.new.0 s.args.tiles.now c.before.before.copy.new.1.0 s.requires.1 k.auto.0
+    board_on s.args.board.now k.new.0 s.args.tiles.now c.before.before.copy.new.1.0 s.requires.1 k.auto.0
     (subst (λ (b : Bool). Seeks s.args.board.now k.new.0 b) (not-false k.result c.before.before.before.before.before.if1.false) k.ensures) c.before.before.copy.ensures
 
 pub answer-spec : {M : Type 1} → statement M

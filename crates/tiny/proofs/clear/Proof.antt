@@ -2,7 +2,7 @@ use Prim.Native.Nat.{◌-◌, ◌≤◌}
 use native.Mathlib.Omega.{arith}
 use borrow.Author.Rules.{rules}
 use lib.ListN.{length, set, length-set}
-use Rattle.tiny.proofs.Carry.{Cleared, clear_none, clear-more, clear-end}
+use Rattle.tiny.proofs.Carry.{Cleared, clear_none, clear_more, clear_end}
 use Rattle.tiny.proofs.clear.Statement.{statement}
 use Rattle.tiny.proofs.clear.Tie as tie
 
@@ -25,13 +25,13 @@ loop-less : tie.Need-loop-smaller invariant-loop decreases-loop
 loop-less c = simp length-set (omega arith)
 
 loop-again : tie.Need-loop-preserved invariant-loop decreases-loop
-loop-again c = (omega arith, clear-more _ _ _ _ c.before.loop.invariant.0 c.loop-test.true c.before.loop.invariant.1)
+loop-again c = (omega arith, clear_more _ _ _ _ c.before.loop.invariant.0 c.loop-test.true c.before.loop.invariant.1)
 
 same_length : tie.Need-same-length invariant-loop decreases-loop
 same_length c = c.before.loop.invariant.1.long
 
 returns : tie.Need-returns invariant-loop decreases-loop
-returns c = (c.before.loop.invariant.1.front, clear-end _ _ _ _ (omega arith) c.before.loop.invariant.1)
+returns c = (c.before.loop.invariant.1.front, clear_end _ _ _ _ (omega arith) c.before.loop.invariant.1)
 
 pub clear_spec : {M : Type 1} → statement M
 clear_spec =

@@ -2,7 +2,7 @@ use Prim.Native.Nat.{ℕ, ◌-◌, ◌≤◌, ◌<◌}
 use native.Mathlib.Omega.{arith}
 use borrow.Author.Rules.{rules}
 use lib.ListN.{length, get_or}
-use Rattle.fields.proofs.Reading.{range-more}
+use Rattle.fields.proofs.Reading.{range_more}
 use Rattle.tiny.proofs.coded.Statement.{statement}
 use Rattle.tiny.proofs.coded.Tie as tie
 
@@ -30,7 +30,7 @@ loop-less c = search rules
 loop-again : tie.Need-loop-preserved invariant-loop decreases-loop
 loop-again c =
     let L = c.before.before.before.loop in
-    (omega arith, range-more (λ (j : ℕ). get_or c.before.before.before.before.args.tiles.now j 0 ≤ 6) 0 L.i L.invariant.1 (omega (arith, c.if1.false)))
+    (omega arith, range_more (λ (j : ℕ). get_or c.before.before.before.before.args.tiles.now j 0 ≤ 6) 0 L.i L.invariant.1 (omega (arith, c.if1.false)))
 
 returns-2 : tie.Need-returns-2 invariant-loop decreases-loop
 returns-2 c = λ j h. c.before.loop.invariant.1 j (omega arith) (omega (arith, h, c.loop-test.false))

@@ -7,8 +7,8 @@ use borrow.Author.Tests.{not-true, not-false}
 use lib.ListN.{length, replicate}
 use Rattle.rules.proofs.Tests.{said, denied}
 use Rattle.tiny.specs.Tiny.{Tiny, place_of, start, after, StepsAs}
-use Rattle.tiny.proofs.Given.{some-tile}
-use Rattle.tiny.proofs.Answering.{refused, given_holds, steps, floor-long, floor-first}
+use Rattle.tiny.proofs.Given.{some_tile}
+use Rattle.tiny.proofs.Answering.{refused, given_holds, steps, floor_long, floor_first}
 use borrow.Author.Rules.{rules}
 use Rattle.tiny.specs.declared.Found.TheVariants as answer
 use Rattle.tiny.proofs.next.Statement.{statement}
@@ -43,7 +43,7 @@ first-requires c κs =
     let w = s.args.w in
     let h = s.args.h in
     let t : Tiny w h = said (Tiny w h) c.before.before.before.tiny.result (not-false c.before.before.before.tiny.result c.before.before.if2.false) c.before.before.before.tiny.ensures in
-    (some-tile w h t, t.few, omega arith)
+    (some_tile w h t, t.few, omega arith)
 
 same_length : tie.Need-same-length
 same_length c = search rules
@@ -56,7 +56,7 @@ returns-3 c =
     let t : Tiny w h = said (Tiny w h) c.before.before.before.before.before.before.tiny.result (not-false c.before.before.before.before.before.before.tiny.result c.before.before.before.before.before.if2.false) c.before.before.before.before.before.before.tiny.ensures in
     let a = c.before.before.first in
     subst (λ (b : Bool). StepsAs w h (place_of b s.args.given.now) s.args.tiles.now a.new.1.0 a.result) (sym c.before.before.before.before.if3.true)
-    (steps w h t start (replicate (w * h) 0) (floor-long (w * h)) (λ d b l. floor-first w h d b) (λ d b l. tt) s.args.tiles.now a.new.1.0 a.result
+    (steps w h t start (replicate (w * h) 0) (floor_long (w * h)) (λ d b l. floor_first w h d b) (λ d b l. tt) s.args.tiles.now a.new.1.0 a.result
     (omega arith, (t, tt)) a.auto.1.0 a.ensures)
 
 given-code-requires : tie.Need-given-code-requires
@@ -86,7 +86,7 @@ go-on-requires c κs =
     let t : Tiny w h = said (Tiny w h) c.before.before.before.before.before.tiny.result (not-false c.before.before.before.before.before.tiny.result c.before.before.before.before.if2.false) c.before.before.before.before.before.tiny.ensures in
     let k = c.before.before.given-code in
     let q = given_holds w h s.args.given.now k.result k.ensures c.before.if4.false in
-    (q.1.0, omega (arith, q.0, some-tile w h t), omega (arith, q.0, t.few), omega arith)
+    (q.1.0, omega (arith, q.0, some_tile w h t), omega (arith, q.0, t.few), omega arith)
 
 same-length-2 : tie.Need-same-length-2
 same-length-2 c = search rules

@@ -1,5 +1,5 @@
 use native.Mathlib.Omega.{arith}
-use Rattle.tiny.proofs.Carry.{cleared-codes, passed}
+use Rattle.tiny.proofs.Carry.{cleared_codes, passed}
 use borrow.Author.Rules.{rules}
 use Rattle.tiny.proofs.pass.Statement.{statement}
 use Rattle.tiny.proofs.pass.Tie as tie
@@ -11,7 +11,7 @@ step-requires : tie.Need-step-requires
 step-requires c κs =
     let s = c.before.before.before.before.before.before in
     let l = c.before.before.before.clear in
-    (cleared-codes s.args.board.now l.new.0 s.args.k s.requires.0 l.ensures.0 l.ensures.1, omega (arith, l.auto.0, s.requires.1))
+    (cleared_codes s.args.board.now l.new.0 s.args.k s.requires.0 l.ensures.0 l.ensures.1, omega (arith, l.auto.0, s.requires.1))
 
 same_length : tie.Need-same-length
 same_length c = search rules

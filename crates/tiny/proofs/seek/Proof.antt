@@ -6,7 +6,7 @@ use native.Mathlib.Omega.{arith}
 use borrow.Author.Rules.{rules}
 use lib.ListN.{length}
 use Rattle.tiny.specs.Parts.{Goes}
-use Rattle.tiny.proofs.Search.{goes_on, goes_over, ahead, pass-front, fewer-ahead, stands}
+use Rattle.tiny.proofs.Search.{goes_on, goes_over, ahead, pass_front, fewer_ahead, stands}
 use Rattle.tiny.proofs.seek.Statement.{statement}
 use Rattle.tiny.proofs.seek.Tie as tie
 
@@ -67,7 +67,7 @@ loop-less c =
     let long = L.invariant.0 ∙ p.auto.0 in
     let r = goes_on s.args.board.now L.board L.going t g in
     subst (λ (a : Bool). ahead q.new.0 q.result < ahead L.board a) (sym t)
-    (fewer-ahead s.args.board.now L.board q.new.0 k.result long (q.auto.0 ∙ long) r k.ensures c.before.before.before.before.if1.false q.result q.ensures)
+    (fewer_ahead s.args.board.now L.board q.new.0 k.result long (q.auto.0 ∙ long) r k.ensures c.before.before.before.before.if1.false q.result q.ensures)
 
 loop-again : tie.Need-loop-preserved invariant-loop decreases-loop
 loop-again c =
@@ -79,7 +79,7 @@ loop-again c =
       q.auto.0 ∙ L.invariant.0,
       λ old l g.
           let long = L.invariant.0 ∙ l in
-          pass-front old L.board q.new.0 k.result long (q.auto.0 ∙ long) (goes_on old L.board L.going t (L.invariant.1 old l g)) k.ensures c.before.before.before.before.if1.false q.result q.ensures,
+          pass_front old L.board q.new.0 k.result long (q.auto.0 ∙ long) (goes_on old L.board L.going t (L.invariant.1 old l g)) k.ensures c.before.before.before.before.if1.false q.result q.ensures,
     )
 
 same-length-2 : tie.Need-same-length-2 invariant-loop decreases-loop

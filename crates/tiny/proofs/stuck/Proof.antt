@@ -5,9 +5,9 @@ use borrow.Author.Rules.{rules}
 use lib.ListN.{length, get_or, take}
 use lib.Seq.{take_all}
 use Rattle.tiles.specs.Sum.{weight}
-use Rattle.tiles.proofs.Rows.{weighed-small}
-use Rattle.tiny.proofs.Given.{is-fair, not-fair}
-use Rattle.tiny.proofs.Fronts.{weight-none, weight-front, stuck-front, stuck-whole, stuck-free}
+use Rattle.tiles.proofs.Rows.{weighed_small}
+use Rattle.tiny.proofs.Given.{is_fair, not_fair}
+use Rattle.tiny.proofs.Fronts.{weight_none, weight_front, stuck_front, stuck_whole, stuck_free}
 use Rattle.tiny.proofs.stuck.Statement.{statement}
 use Rattle.tiny.proofs.stuck.Tie as tie
 
@@ -18,7 +18,7 @@ abbrev decreases-loop : tie.decreases-loop
 decreases-loop rows board n x₀ i₀ x i = length board - i
 
 loop-holds : tie.Need-loop-init invariant-loop decreases-loop
-loop-holds c = (search rules, weight-none c.before.args.board.now, search rules)
+loop-holds c = (search rules, weight_none c.before.args.board.now, search rules)
 
 shared-slice-read-weigh : tie.Need-shared-slice-read-weigh invariant-loop decreases-loop
 shared-slice-read-weigh c = search rules
@@ -30,7 +30,7 @@ add-x : tie.Need-overflow-add-x invariant-loop decreases-loop
 add-x c =
     let l = c.before.before.before.loop in
     let s = c.before.before.before.before.before in
-    omega (arith, weighed-small (get_or s.args.board.now l.i 0), c.weigh.ensures, s.requires.3)
+    omega (arith, weighed_small (get_or s.args.board.now l.i 0), c.weigh.ensures, s.requires.3)
 
 add-i : tie.Need-overflow-add-i invariant-loop decreases-loop
 add-i c = search rules
@@ -46,8 +46,8 @@ returns c =
     let s = c.before.before.before.before.before.before.before in
     let b = s.args.board.now in
     let l = c.before.before.before.before.before.loop in
-    stuck-front b s.requires.1 s.requires.3 (l.i + 1) (l.x + c.before.before.weigh.result) (length b - (l.i + 1)) (omega arith) (omega arith)
-    (omega (arith, l.invariant.1, weight-front b l.i (omega arith), c.before.before.weigh.ensures)) (omega arith) (c.before.lost.ensures c.if1.true)
+    stuck_front b s.requires.1 s.requires.3 (l.i + 1) (l.x + c.before.before.weigh.result) (length b - (l.i + 1)) (omega arith) (omega arith)
+    (omega (arith, l.invariant.1, weight_front b l.i (omega arith), c.before.before.weigh.ensures)) (omega arith) (c.before.lost.ensures c.if1.true)
 
 loop-less : tie.Need-loop-smaller invariant-loop decreases-loop
 loop-less c = search rules
@@ -58,8 +58,8 @@ loop-again c =
     let l = c.before.before.before.before.before.loop in
     let w = c.before.before.weigh in (
       omega arith,
-      omega (arith, l.invariant.1, weight-front b l.i (omega arith), w.ensures),
-      omega (arith, l.invariant.2, weighed-small (get_or b l.i 0), w.ensures),
+      omega (arith, l.invariant.1, weight_front b l.i (omega arith), w.ensures),
+      omega (arith, l.invariant.2, weighed_small (get_or b l.i 0), w.ensures),
     )
 
 sum-code-requires : tie.Need-sum-code-requires invariant-loop decreases-loop
@@ -71,8 +71,8 @@ returns-2 c =
     let b = s.args.board.now in
     let l = c.before.before.before.loop in
     let whole : l.x ≡ weight b = l.invariant.1 ∙ ap weight (take_all l.i b (omega arith)) in
-    stuck-whole b s.requires.1 s.requires.3 (length b) s.requires.2 refl
-    (not-fair b c.before.sum-code.result (c.before.sum-code.ensures.code_of b (omega (arith, s.requires.3)) whole) s.requires.1 c.if2.true)
+    stuck_whole b s.requires.1 s.requires.3 (length b) s.requires.2 refl
+    (not_fair b c.before.sum-code.result (c.before.sum-code.ensures.code_of b (omega (arith, s.requires.3)) whole) s.requires.1 c.if2.true)
 
 returns-3 : tie.Need-returns-3 invariant-loop decreases-loop
 returns-3 c =
@@ -80,7 +80,7 @@ returns-3 c =
     let b = s.args.board.now in
     let l = c.before.before.before.loop in
     let whole : l.x ≡ weight b = l.invariant.1 ∙ ap weight (take_all l.i b (omega arith)) in
-    stuck-free b s.requires.1 s.requires.3 (is-fair b c.before.sum-code.result (c.before.sum-code.ensures.code_of b (omega (arith, s.requires.3)) whole) c.if2.false)
+    stuck_free b s.requires.1 s.requires.3 (is_fair b c.before.sum-code.result (c.before.sum-code.ensures.code_of b (omega (arith, s.requires.3)) whole) c.if2.false)
 
 pub stuck-spec : {M : Type 1} → statement M
 stuck-spec =

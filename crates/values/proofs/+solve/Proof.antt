@@ -1,7 +1,7 @@
 use Prim.Native.Nat.{◌-◌}
 use native.Mathlib.Omega.{arith}
 use borrow.Author.Rules.{rules}
-use Rattle.values.proofs.Values.{cell_below, solve-last, solve-step}
+use Rattle.values.proofs.Values.{cell_below, solve_last, solve_step}
 use Prim.Native.Nat.{ℕ, ◌<◌}
 use borrow.Fn.Kinds.{In}
 use borrow.Fn.PlainCycle.{Measures, is, falls, and}
@@ -14,187 +14,187 @@ use Rattle.gf256.proofs.place.Reads as place-reads
 use Rattle.values.proofs.+solve.{statement}
 use Rattle.values.proofs.+solve.Tie.{close}
 
-abbrev μ-solve : Measures 3 solve-kinds.ps ℕ
-μ-solve κs a = a.1.1.1.1.0 - a.1.1.1.0
+abbrev μ_solve : Measures 3 solve-kinds.ps ℕ
+μ_solve κs a = a.1.1.1.1.0 - a.1.1.1.0
 
-abbrev solve-at : ℕ → In 3 solve-kinds.ps
-solve-at t = and 3 solve-kinds.ps (is 3 solve-kinds.ps μ-solve t) solve.Pre
+abbrev solve_at : ℕ → In 3 solve-kinds.ps
+solve_at t = and 3 solve-kinds.ps (is 3 solve-kinds.ps μ_solve t) solve.Pre
 
-abbrev solve-below : ℕ → In 3 solve-kinds.ps
-solve-below t = and 3 solve-kinds.ps (falls 3 solve-kinds.ps ◌<◌ μ-solve t) solve.Pre
+abbrev solve_below : ℕ → In 3 solve-kinds.ps
+solve_below t = and 3 solve-kinds.ps (falls 3 solve-kinds.ps ◌<◌ μ_solve t) solve.Pre
 
-solve-add-if1 : (t : ℕ) → solve-lts.Need-overflow-add-if1 (
+solve_add_if1 : (t : ℕ) → solve-lts.Need-overflow-add-if1 (
   place-reads.Asked,
   place-reads.Learnt,
   sieve-reads.Asked,
   sieve-reads.Learnt,
-  solve-below t,
+  solve_below t,
   solve.Post,
   divide-reads.Asked,
   divide-reads.Learnt,
-) (solve-at t) solve.Post
-solve-add-if1 t c = omega (arith, c.requires.1.1.few, c.requires.1.2)
+) (solve_at t) solve.Post
+solve_add_if1 t c = omega (arith, c.requires.1.1.few, c.requires.1.2)
 
-solve-returns : (t : ℕ) → solve-lts.Need-returns (
+solve_returns : (t : ℕ) → solve-lts.Need-returns (
   place-reads.Asked,
   place-reads.Learnt,
   sieve-reads.Asked,
   sieve-reads.Learnt,
-  solve-below t,
+  solve_below t,
   solve.Post,
   divide-reads.Asked,
   divide-reads.Learnt,
-) (solve-at t) solve.Post
-solve-returns t c =
+) (solve_at t) solve.Post
+solve_returns t c =
     let s = c.before in
-    (solve-last s.args.n s.args.cells.now s.args.k s.requires.1.1 s.args.i s.args.v.now c.if1.true s.requires.1.2 s.requires.1.3, s.requires.1.3)
+    (solve_last s.args.n s.args.cells.now s.args.k s.requires.1.1 s.args.i s.args.v.now c.if1.true s.requires.1.2 s.requires.1.3, s.requires.1.3)
 
-solve-mul-place : (t : ℕ) → solve-lts.Need-overflow-mul-place (
+solve_mul_place : (t : ℕ) → solve-lts.Need-overflow-mul-place (
   place-reads.Asked,
   place-reads.Learnt,
   sieve-reads.Asked,
   sieve-reads.Learnt,
-  solve-below t,
+  solve_below t,
   solve.Post,
   divide-reads.Asked,
   divide-reads.Learnt,
-) (solve-at t) solve.Post
-solve-mul-place t c = search rules
+) (solve_at t) solve.Post
+solve_mul_place t c = search rules
 
-solve-element-copy-out-place : (t : ℕ) → solve-lts.Need-element-copy-out-place (
+solve_element_copy_out_place : (t : ℕ) → solve-lts.Need-element-copy-out-place (
   place-reads.Asked,
   place-reads.Learnt,
   sieve-reads.Asked,
   sieve-reads.Learnt,
-  solve-below t,
+  solve_below t,
   solve.Post,
   divide-reads.Asked,
   divide-reads.Learnt,
-) (solve-at t) solve.Post
-solve-element-copy-out-place t c = omega (arith, c.before.requires.1.1.few)
+) (solve_at t) solve.Post
+solve_element_copy_out_place t c = omega (arith, c.before.requires.1.1.few)
 
-solve-place-requires : (t : ℕ) → solve-lts.Need-place-requires (
+solve_place_requires : (t : ℕ) → solve-lts.Need-place-requires (
   place-reads.Asked,
   place-reads.Learnt,
   sieve-reads.Asked,
   sieve-reads.Learnt,
-  solve-below t,
+  solve_below t,
   solve.Post,
   divide-reads.Asked,
   divide-reads.Learnt,
-) (solve-at t) solve.Post
-solve-place-requires t c κs =
+) (solve_at t) solve.Post
+solve_place_requires t c κs =
     let s = c.before.before in
     (s.requires.1.0, cell_below s.args.n s.args.cells.now s.args.k s.requires.1.1 s.args.i (search rules), s.requires.1.1.short)
 
-solve-element-copy-out-s0 : (t : ℕ) → solve-lts.Need-element-copy-out-s0 (
+solve_element_copy_out_s0 : (t : ℕ) → solve-lts.Need-element-copy-out-s0 (
   place-reads.Asked,
   place-reads.Learnt,
   sieve-reads.Asked,
   sieve-reads.Learnt,
-  solve-below t,
+  solve_below t,
   solve.Post,
   divide-reads.Asked,
   divide-reads.Learnt,
-) (solve-at t) solve.Post
-solve-element-copy-out-s0 t c = omega (arith, c.before.before.before.requires.1.1.few)
+) (solve_at t) solve.Post
+solve_element_copy_out_s0 t c = omega (arith, c.before.before.before.requires.1.1.few)
 
-solve-sieve-requires : (t : ℕ) → solve-lts.Need-sieve-requires (
+solve_sieve_requires : (t : ℕ) → solve-lts.Need-sieve-requires (
   place-reads.Asked,
   place-reads.Learnt,
   sieve-reads.Asked,
   sieve-reads.Learnt,
-  solve-below t,
+  solve_below t,
   solve.Post,
   divide-reads.Asked,
   divide-reads.Learnt,
-) (solve-at t) solve.Post
-solve-sieve-requires t c κs =
+) (solve_at t) solve.Post
+solve_sieve_requires t c κs =
     let s = c.before.before.before.before.before in
     (s.requires.1.0, omega arith, s.requires.1.1.few, s.requires.1.3)
 
-solve-add-solve : (t : ℕ) → solve-lts.Need-overflow-add-solve (
+solve_add_solve : (t : ℕ) → solve-lts.Need-overflow-add-solve (
   place-reads.Asked,
   place-reads.Learnt,
   sieve-reads.Asked,
   sieve-reads.Learnt,
-  solve-below t,
+  solve_below t,
   solve.Post,
   divide-reads.Asked,
   divide-reads.Learnt,
-) (solve-at t) solve.Post
-solve-add-solve t c = omega (arith, c.before.before.before.before.before.before.requires.1.1.few)
+) (solve_at t) solve.Post
+solve_add_solve t c = omega (arith, c.before.before.before.before.before.before.requires.1.1.few)
 
-solve-solve-requires : (t : ℕ) → solve-lts.Need-solve-requires (
+solve_solve_requires : (t : ℕ) → solve-lts.Need-solve-requires (
   place-reads.Asked,
   place-reads.Learnt,
   sieve-reads.Asked,
   sieve-reads.Learnt,
-  solve-below t,
+  solve_below t,
   solve.Post,
   divide-reads.Asked,
   divide-reads.Learnt,
-) (solve-at t) solve.Post
-solve-solve-requires t c κs =
+) (solve_at t) solve.Post
+solve_solve_requires t c κs =
     let s = c.before.before.before.before.before.before.before in
     (omega (arith, s.requires.0), (s.requires.1.0, s.requires.1.1, omega arith, c.before.sieve.ensures.room))
 
-solve-divide-requires : (t : ℕ) → solve-lts.Need-divide-requires (
+solve_divide_requires : (t : ℕ) → solve-lts.Need-divide-requires (
   place-reads.Asked,
   place-reads.Learnt,
   sieve-reads.Asked,
   sieve-reads.Learnt,
-  solve-below t,
+  solve_below t,
   solve.Post,
   divide-reads.Asked,
   divide-reads.Learnt,
-) (solve-at t) solve.Post
-solve-divide-requires t c κs =
+) (solve_at t) solve.Post
+solve_divide_requires t c κs =
     let s = c.before.before.before.before.before.before.before.before.before in
     (s.requires.1.0, s.requires.1.1, omega arith, c.before.solve.ensures.1)
 
-solve-returns-2 : (t : ℕ) → solve-lts.Need-returns-2 (
+solve_returns_2 : (t : ℕ) → solve-lts.Need-returns-2 (
   place-reads.Asked,
   place-reads.Learnt,
   sieve-reads.Asked,
   sieve-reads.Learnt,
-  solve-below t,
+  solve_below t,
   solve.Post,
   divide-reads.Asked,
   divide-reads.Learnt,
-) (solve-at t) solve.Post
-solve-returns-2 t c =
+) (solve_at t) solve.Post
+solve_returns_2 t c =
     let c2 = c.before.before in
     let c4 = c2.before.before in
     let c7 = c4.before.before.before in
     let s = c7.before.before.before in (
-      solve-step s.args.n s.args.cells.now s.args.k s.requires.1.1 s.args.i c7.place.result s.args.v.now
+      solve_step s.args.n s.args.cells.now s.args.k s.requires.1.1 s.args.i c7.place.result s.args.v.now
           c4.sieve.new.1.1.1.1.0 c2.solve.new.1.1.1.1.1.0 c.divide.new.1.1.1.1.1.1.0
           (omega arith) c7.place.ensures c4.sieve.ensures c2.solve.ensures.0 c.divide.ensures.0,
       c.divide.ensures.1,
     )
 
 pub +solve-spec : {M : Type 1} → statement M
-+solve-spec = close μ-solve λ t. solve-lts.spec (
++solve-spec = close μ_solve λ t. solve-lts.spec (
   place-reads.Asked,
   place-reads.Learnt,
   sieve-reads.Asked,
   sieve-reads.Learnt,
-  solve-below t,
+  solve_below t,
   solve.Post,
   divide-reads.Asked,
   divide-reads.Learnt,
 )
-    (solve-at t)
+    (solve_at t)
     solve.Post
-    (solve-add-if1 t)
-    (solve-returns t)
-    (solve-mul-place t)
-    (solve-element-copy-out-place t)
-    (solve-place-requires t)
-    (solve-element-copy-out-s0 t)
-    (solve-sieve-requires t)
-    (solve-add-solve t)
-    (solve-solve-requires t)
-    (solve-divide-requires t)
-    (solve-returns-2 t)
+    (solve_add_if1 t)
+    (solve_returns t)
+    (solve_mul_place t)
+    (solve_element_copy_out_place t)
+    (solve_place_requires t)
+    (solve_element_copy_out_s0 t)
+    (solve_sieve_requires t)
+    (solve_add_solve t)
+    (solve_solve_requires t)
+    (solve_divide_requires t)
+    (solve_returns_2 t)

@@ -3,11 +3,11 @@ use lib.ListN.{length-set}
 use Prim.Native.Nat.{◌-◌}
 use native.Mathlib.Omega.{arith}
 use borrow.Author.Rules.{rules}
-use Rattle.values.proofs.Values.{cell_below, Dividing, apart_by, divide-starts, divide-goes, divide-ends}
+use Rattle.values.proofs.Values.{cell_below, Dividing, apart_by, divide_starts, divide_goes, divide_ends}
 use Rattle.values.proofs.divide.Statement.{statement}
 use Rattle.values.proofs.divide.Tie as tie
 use lib.Bits.{bit_xor}
-use Rattle.gf256.specs.Tables.{inverseOf}
+use Rattle.gf256.specs.Tables.{inverse_of}
 
 abbrev invariant-loop : tie.invariant-loop
 invariant-loop tables cells n i k s0 v₀ x sum₀ j₀ v sum j = Dividing n cells k i v₀ s0 v sum j
@@ -32,7 +32,7 @@ add-j c = omega (arith, c.before.before.requires.1.few)
 loop-holds : tie.Need-loop-init invariant-loop decreases-loop
 loop-holds c =
     let s = c.before.before in
-    divide-starts s.args.n s.args.cells.now s.args.k s.requires.1 s.args.i s.args.v.now s.args.s0 s.requires.2 s.requires.3
+    divide_starts s.args.n s.args.cells.now s.args.k s.requires.1 s.args.i s.args.v.now s.args.s0 s.requires.2 s.requires.3
 
 mul-place-2 : tie.Need-overflow-mul-place-2 invariant-loop decreases-loop
 mul-place-2 c = search rules
@@ -76,8 +76,8 @@ loop-again c =
     let c7 = c6.before in
     let s = c7.before.before in
     let L = c6.loop in
-    divide-goes s.args.n s.args.cells.now s.args.k s.requires.1 s.args.i s.args.v.now s.args.s0 L.v L.sum L.j
-    c7.place.result c3.place2.result (inverseOf (bit_xor c3.place2.result c7.place.result)) c.quotient.result
+    divide_goes s.args.n s.args.cells.now s.args.k s.requires.1 s.args.i s.args.v.now s.args.s0 L.v L.sum L.j
+    c7.place.result c3.place2.result (inverse_of (bit_xor c3.place2.result c7.place.result)) c.quotient.result
     (search rules) L.invariant c7.place.ensures c3.place2.ensures c.quotient.ensures.0 c.quotient.ensures.1
 
 element-write-v-2 : tie.Need-element-write-v-2 invariant-loop decreases-loop
@@ -87,7 +87,7 @@ returns : tie.Need-returns invariant-loop decreases-loop
 returns c =
     let s = c.before.before.before.before in
     let L = c.before.loop in (
-      divide-ends s.args.n s.args.cells.now s.args.k s.requires.1 s.args.i s.args.v.now s.args.s0 L.v L.sum L.j s.requires.2
+      divide_ends s.args.n s.args.cells.now s.args.k s.requires.1 s.args.i s.args.v.now s.args.s0 L.v L.sum L.j s.requires.2
           (search rules) L.invariant,
       length-set L.v s.args.i L.sum ∙ L.invariant.room,
     )

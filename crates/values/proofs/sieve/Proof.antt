@@ -1,7 +1,7 @@
 use Prim.Native.Nat.{◌-◌}
 use native.Mathlib.Omega.{arith}
 use borrow.Author.Rules.{rules}
-use Rattle.values.proofs.Values.{Sieving, sieve-starts, sieve-goes, sieve-ends}
+use Rattle.values.proofs.Values.{Sieving, sieve_starts, sieve_goes, sieve_ends}
 use Rattle.values.proofs.sieve.Statement.{statement}
 use Rattle.values.proofs.sieve.Tie as tie
 
@@ -12,7 +12,7 @@ abbrev decreases-loop : tie.decreases-loop
 decreases-loop tables x i k v₀ m₀ v m = m
 
 loop-holds : tie.Need-loop-init invariant-loop decreases-loop
-loop-holds c = sieve-starts c.args.x c.args.i c.args.k c.args.v.now c.requires.1 c.requires.3
+loop-holds c = sieve_starts c.args.x c.args.i c.args.k c.args.v.now c.requires.1 c.requires.3
 
 add-loop : tie.Need-overflow-add-loop invariant-loop decreases-loop
 add-loop c = omega (arith, c.before.requires.1, c.before.requires.2)
@@ -43,14 +43,14 @@ loop-again c =
     let c4 = c.before.before.before.before in
     let s = c4.before in
     let L = c4.loop in
-    sieve-goes s.args.x s.args.i s.args.k s.args.v.now L.v L.m (L.m - 1) (L.m - 1 - 1) c.product.result s.requires.2
+    sieve_goes s.args.x s.args.i s.args.k s.args.v.now L.v L.m (L.m - 1) (L.m - 1 - 1) c.product.result s.requires.2
     (search rules) (search rules) (search rules) L.invariant c.product.ensures
 
 returns : tie.Need-returns invariant-loop decreases-loop
 returns c =
     let s = c.before.before in
     let L = c.before.loop in
-    sieve-ends s.args.x s.args.i s.args.k s.args.v.now L.v L.m (search rules) L.invariant
+    sieve_ends s.args.x s.args.i s.args.k s.args.v.now L.v L.m (search rules) L.invariant
 
 pub sieve-spec : {M : Type 1} → statement M
 sieve-spec =

@@ -1,7 +1,7 @@
 use Prim.Native.Nat.{◌-◌}
 use native.Mathlib.Omega.{arith}
 use borrow.Author.Rules.{rules}
-use Rattle.values.proofs.Values.{cell_below, Unweighing, unweigh-starts, unweigh-goes, unweigh-ends}
+use Rattle.values.proofs.Values.{cell_below, Unweighing, unweigh_starts, unweigh_goes, unweigh_ends}
 use Rattle.values.proofs.unweigh.Statement.{statement}
 use Rattle.values.proofs.unweigh.Tie as tie
 
@@ -12,7 +12,7 @@ abbrev decreases-loop : tie.decreases-loop
 decreases-loop tables cells n k v₀ j₀ v j = k - j
 
 loop-holds : tie.Need-loop-init invariant-loop decreases-loop
-loop-holds c = unweigh-starts c.args.n c.args.cells.now c.args.k c.requires.1 c.args.v.now c.requires.2
+loop-holds c = unweigh_starts c.args.n c.args.cells.now c.args.k c.requires.1 c.args.v.now c.requires.2
 
 mul-place : tie.Need-overflow-mul-place invariant-loop decreases-loop
 mul-place c = search rules
@@ -49,7 +49,7 @@ loop-again c =
     let c6 = c3.before.before.before in
     let s = c6.before in
     let L = c6.loop in
-    unweigh-goes s.args.n s.args.cells.now s.args.k s.requires.1 s.args.v.now L.v L.j c3.place.result
+    unweigh_goes s.args.n s.args.cells.now s.args.k s.requires.1 s.args.v.now L.v L.j c3.place.result
     c.before.product.result c.product2.result
     (search rules) L.invariant c3.place.ensures c.before.product.ensures c.product2.ensures
 
@@ -57,7 +57,7 @@ returns : tie.Need-returns invariant-loop decreases-loop
 returns c =
     let s = c.before.before in
     let L = c.before.loop in
-    (unweigh-ends s.args.n s.args.cells.now s.args.k s.requires.1 s.args.v.now L.v L.j (search rules) L.invariant, L.invariant.room)
+    (unweigh_ends s.args.n s.args.cells.now s.args.k s.requires.1 s.args.v.now L.v L.j (search rules) L.invariant, L.invariant.room)
 
 pub unweigh-spec : {M : Type 1} → statement M
 unweigh-spec =

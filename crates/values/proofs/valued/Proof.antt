@@ -4,7 +4,7 @@ use lib.ListN.{take}
 use Rattle.account.specs.Errata.{unweighed}
 use Rattle.gf256.specs.Gf256.{gf256}
 use Rattle.gf256.specs.Tables.{place_of}
-use Rattle.values.proofs.Values.{solve-all}
+use Rattle.values.proofs.Values.{solve_all}
 use borrow.Author.Rules.{rules}
 use Rattle.values.proofs.valued.Statement.{statement}
 use Rattle.values.proofs.valued.Tie as tie
@@ -21,12 +21,12 @@ returns c =
     let s = c3.before.before.before in
     record {
       count = refl;
-      same-cells = refl;
+      same_cells = refl;
       room = c.unweigh.ensures.1;
       values =
           c.unweigh.ensures.0
           ∙ ap (unweighed gf256 (map (place_of s.args.n) (take s.args.k s.args.cells)))
-          (solve-all s.args.n s.args.cells s.args.k s.requires.1 s.args.s c3.solve.new.1.1.1.1.1.0 c3.solve.ensures.0);
+          (solve_all s.args.n s.args.cells s.args.k s.requires.1 s.args.s c3.solve.new.1.1.1.1.1.0 c3.solve.ensures.0);
     }
 
 pub valued-spec : {M : Type 1} → statement M

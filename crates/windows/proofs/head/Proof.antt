@@ -1,5 +1,5 @@
 use native.Mathlib.Omega.{arith}
-use Rattle.windows.proofs.Weighing.{head-seen}
+use Rattle.windows.proofs.Weighing.{head_seen}
 use borrow.Author.Rules.{rules}
 use Rattle.windows.proofs.head.Statement.{statement}
 use Rattle.windows.proofs.head.Tie as tie
@@ -18,7 +18,7 @@ returns c =
     let a = c.before.before.before.before.before.before.before.before.args in
     let p = c.before.before.before.before.before.before.before.before.requires in
     let o = c.before.before.before.before.show in
-    head-seen a.strip.now a.cells.now a.bytes.now _ a.count a.to o.result (omega (arith, p.some)) p.inside o.ensures
+    head_seen a.strip.now a.cells.now a.bytes.now _ a.count a.to o.result (omega (arith, p.some)) p.inside o.ensures
     c.head_of.result c.head_of.ensures
 
 pub head_spec : {M : Type 1} → statement M

@@ -6,15 +6,15 @@ use borrow.Author.Rules.{rules}
 use borrow.Rule.Slice.PartMut.{post_of}
 use lib.ListN.{length, take, drop, length-drop}
 use lib.Seq.{length-take-le}
-use Rattle.rules.proofs.Numbers.{lt-or-ge}
-use Rattle.windows.proofs.Weighing.{recordIn, sees}
-use Rattle.windows.proofs.Unpacking.{window-holds, Unpacking, unpacking-0, unpacking-more, unpacked-all}
+use Rattle.rules.proofs.Numbers.{lt_or_ge}
+use Rattle.windows.proofs.Weighing.{record_in, sees}
+use Rattle.windows.proofs.Unpacking.{window_holds, Unpacking, unpacking_0, unpacking_more, unpacked_all}
 use Rattle.windows.proofs.unpack.Statement.{statement}
 use Rattle.windows.proofs.unpack.Tie as tie
 
 abbrev invariant-loop : tie.invariant-loop
 invariant-loop strip cells bytes count to m tiles₀ scratch₀ from₀ t₀ tiles scratch from t =
-    (length scratch ≡ length scratch₀) × Unpacking (recordIn strip cells bytes count to) m tiles₀ tiles from t
+    (length scratch ≡ length scratch₀) × Unpacking (record_in strip cells bytes count to) m tiles₀ tiles from t
 
 abbrev decreases-loop : tie.decreases-loop
 decreases-loop strip cells bytes count to m tiles₀ scratch₀ from₀ t₀ tiles scratch from t = m - t
@@ -22,7 +22,7 @@ decreases-loop strip cells bytes count to m tiles₀ scratch₀ from₀ t₀ til
 loop-holds : tie.Need-loop-init invariant-loop decreases-loop
 loop-holds c =
     let a = c.before.before.before.args in
-    (refl, unpacking-0 (recordIn a.strip.now a.cells.now a.bytes.now a.count a.to) a.m a.tiles.now)
+    (refl, unpacking_0 (record_in a.strip.now a.cells.now a.bytes.now a.count a.to) a.m a.tiles.now)
 
 show-requires : tie.Need-show-requires invariant-loop decreases-loop
 show-requires c κs =
@@ -70,7 +70,7 @@ unpack-requires c κs =
       p.0.room,
       l.invariant.0,
     )) ∙ omega arith in
-    let h = window-holds a.to l.from a.m l.t o.result k.result (l.invariant.1.on (omega arith)) p.2 o.ensures.most o.ensures.before
+    let h = window_holds a.to l.from a.m l.t o.result k.result (l.invariant.1.on (omega arith)) p.2 o.ensures.most o.ensures.before
     o.ensures.full (omega arith) (omega (arith, k.ensures.0)) k.ensures.1 k.ensures.2 in (
       omega (arith, k.ensures.0),
       omega (arith, long, h.0),
@@ -94,7 +94,7 @@ loop-less : tie.Need-loop-smaller invariant-loop decreases-loop
 loop-less c =
     let l = c.before.before.before.before.before.before.before.before.before.before.before.before.loop in
     let k = c.before.before.before.before.before.before.least in
-    ⊎_elim (λ h. omega (arith, k.ensures.2 h)) (λ h. omega arith) (lt-or-ge k.result (c.before.before.before.before.before.before.before.before.before.before.before.before.before.before.before.before.args.m - l.t))
+    ⊎_elim (λ h. omega (arith, k.ensures.2 h)) (λ h. omega arith) (lt_or_ge k.result (c.before.before.before.before.before.before.before.before.before.before.before.before.before.before.before.before.args.m - l.t))
 
 loop-again : tie.Need-loop-preserved invariant-loop decreases-loop
 loop-again c =
@@ -105,11 +105,11 @@ loop-again c =
     let k = c.before.before.before.before.before.before.least in
     let u = c.before.before.unpack in
     let x = o.new.1.1.1.1.1.1.0 in
-    let bs = recordIn a.strip.now a.cells.now a.bytes.now a.count a.to in
-    let h = window-holds a.to l.from a.m l.t o.result k.result (l.invariant.1.on (omega arith)) p.2 o.ensures.most o.ensures.before
+    let bs = record_in a.strip.now a.cells.now a.bytes.now a.count a.to in
+    let h = window_holds a.to l.from a.m l.t o.result k.result (l.invariant.1.on (omega arith)) p.2 o.ensures.most o.ensures.before
     o.ensures.full (omega arith) (omega (arith, k.ensures.0)) k.ensures.1 k.ensures.2 in (
       search rules,
-      unpacking-more bs a.m a.tiles.now l.tiles u.new.1.1.0 (post_of l.t (length l.tiles - l.t) l.tiles)
+      unpacking_more bs a.m a.tiles.now l.tiles u.new.1.1.0 (post_of l.t (length l.tiles - l.t) l.tiles)
           (take (o.result - 0) x) l.from l.t o.result k.result l.invariant.1 (omega arith)
           (sees a.strip.now a.cells.now a.bytes.now x a.count l.from a.to o.result p.0.inside o.ensures)
           (omega (arith, k.ensures.1)) h.0 h.1 (omega (arith, l.invariant.1.long, p.3)) u.ensures (search rules),
@@ -125,7 +125,7 @@ returns : tie.Need-returns invariant-loop decreases-loop
 returns c =
     let a = c.before.before.before.before.before.args in
     let l = c.before.loop in
-    unpacked-all (recordIn a.strip.now a.cells.now a.bytes.now a.count a.to) a.m a.tiles.now l.tiles l.from l.t
+    unpacked_all (record_in a.strip.now a.cells.now a.bytes.now a.count a.to) a.m a.tiles.now l.tiles l.from l.t
     c.before.before.before.before.before.requires.3 (omega arith) l.invariant.1
 
 pub unpack-spec : {M : Type 1} → statement M

@@ -6,13 +6,13 @@ use borrow.Author.Rules.{rules}
 use lib.ListN.{length, take}
 use lib.Seq.{length-take-le}
 use Rattle.rules.proofs.Tests.{said, denied}
-use Rattle.windows.proofs.Weighing.{BlankFrom, recordIn, length-record, sees, Weighing, weighing-0, weighing-more, some-seen, not-blank, weighed-all}
+use Rattle.windows.proofs.Weighing.{BlankFrom, record_in, length_record, sees, Weighing, weighing_0, weighing_more, some_seen, not_blank, weighed_all}
 use Rattle.windows.proofs.weigh.Statement.{statement}
 use Rattle.windows.proofs.weigh.Tie as tie
 
 abbrev invariant-loop : tie.invariant-loop
 invariant-loop strip cells bytes count to bits scratch₀ sum₀ from₀ scratch sum from =
-    (length scratch ≡ length scratch₀) × Weighing (recordIn strip cells bytes count to) bits from sum
+    (length scratch ≡ length scratch₀) × Weighing (record_in strip cells bytes count to) bits from sum
 
 abbrev decreases-loop : tie.decreases-loop
 decreases-loop strip cells bytes count to bits scratch₀ sum₀ from₀ scratch sum from = to - from
@@ -21,8 +21,8 @@ loop-holds : tie.Need-loop-init invariant-loop decreases-loop
 loop-holds c =
     let a = c.before.before.args in
     let p = c.before.before.requires in
-    let e = length-record a.strip.now a.cells.now a.bytes.now a.count a.to p.0.inside in
-    (refl, weighing-0 (recordIn a.strip.now a.cells.now a.bytes.now a.count a.to) a.bits p.1 (omega (arith, e, p.0.some)))
+    let e = length_record a.strip.now a.cells.now a.bytes.now a.count a.to p.0.inside in
+    (refl, weighing_0 (record_in a.strip.now a.cells.now a.bytes.now a.count a.to) a.bits p.1 (omega (arith, e, p.0.some)))
 
 show-requires : tie.Need-show-requires invariant-loop decreases-loop
 show-requires c κs = search rules
@@ -55,11 +55,11 @@ returns c =
     let l = c.before.before.before.before.before.before.before.before.before.before.loop in
     let o = c.before.before.before.before.before.before.before.show in
     let x = o.new.1.1.1.1.1.1.0 in
-    let bs = recordIn a.strip.now a.cells.now a.bytes.now a.count a.to in
-    let e = length-record a.strip.now a.cells.now a.bytes.now a.count a.to p.0.inside in
+    let bs = record_in a.strip.now a.cells.now a.bytes.now a.count a.to in
+    let e = length_record a.strip.now a.cells.now a.bytes.now a.count a.to p.0.inside in
     let long : length (take (o.result - 0) x) ≡ o.result = length-take-le (o.result - 0) x (omega (arith, o.auto.1.1.1.1.1.1.0, o.ensures.most, p.0.room, l.invariant.0)) ∙
     omega arith in
-    not-blank bs a.bits l.from l.sum o.result 0 (take (o.result - 0) x) l.invariant.1 (omega (arith, e))
+    not_blank bs a.bits l.from l.sum o.result 0 (take (o.result - 0) x) l.invariant.1 (omega (arith, e))
     (sees a.strip.now a.cells.now a.bytes.now x a.count l.from a.to o.result p.0.inside o.ensures) long
     (λ h. o.ensures.full (omega (arith, e))) c.before.before.less.result c.before.before.less.ensures
     (denied (BlankFrom c.before.before.less.result (take (o.result - 0) x)) c.before.blank.result (not-true c.before.blank.result c.if1.true)
@@ -90,14 +90,14 @@ loop-less c =
     let l = c.before.before.before.before.before.before.before.before.before.before.before.before.before.loop in
     let o = c.before.before.before.before.before.before.before.before.before.before.show in
     let x = o.new.1.1.1.1.1.1.0 in
-    let bs = recordIn a.strip.now a.cells.now a.bytes.now a.count a.to in
-    let e = length-record a.strip.now a.cells.now a.bytes.now a.count a.to p.0.inside in
+    let bs = record_in a.strip.now a.cells.now a.bytes.now a.count a.to in
+    let e = length_record a.strip.now a.cells.now a.bytes.now a.count a.to p.0.inside in
     let long : length (take (o.result - 0) x) ≡ o.result = length-take-le (o.result - 0) x (omega (arith, o.auto.1.1.1.1.1.1.0, o.ensures.most, p.0.room, l.invariant.0)) ∙
     omega arith in
     omega (
       arith,
       e,
-      some-seen bs a.bits l.from l.sum o.result 0 (take (o.result - 0) x) l.invariant.1 (omega (arith, e))
+      some_seen bs a.bits l.from l.sum o.result 0 (take (o.result - 0) x) l.invariant.1 (omega (arith, e))
           (sees a.strip.now a.cells.now a.bytes.now x a.count l.from a.to o.result p.0.inside o.ensures) long
           (λ h. o.ensures.full (omega (arith, e))) _ refl,
     )
@@ -109,12 +109,12 @@ loop-again c =
     let l = c.before.before.before.before.before.before.before.before.before.before.before.before.before.loop in
     let o = c.before.before.before.before.before.before.before.before.before.before.show in
     let x = o.new.1.1.1.1.1.1.0 in
-    let bs = recordIn a.strip.now a.cells.now a.bytes.now a.count a.to in
-    let e = length-record a.strip.now a.cells.now a.bytes.now a.count a.to p.0.inside in
+    let bs = record_in a.strip.now a.cells.now a.bytes.now a.count a.to in
+    let e = length_record a.strip.now a.cells.now a.bytes.now a.count a.to p.0.inside in
     let long : length (take (o.result - 0) x) ≡ o.result = length-take-le (o.result - 0) x (omega (arith, o.auto.1.1.1.1.1.1.0, o.ensures.most, p.0.room, l.invariant.0)) ∙
     omega arith in (
       search rules,
-      weighing-more bs a.bits l.from l.sum o.result c.tally.result (take (o.result - 0) x) l.invariant.1 (omega (arith, e))
+      weighing_more bs a.bits l.from l.sum o.result c.tally.result (take (o.result - 0) x) l.invariant.1 (omega (arith, e))
           (sees a.strip.now a.cells.now a.bytes.now x a.count l.from a.to o.result p.0.inside o.ensures) long
           (λ h. o.ensures.full (omega (arith, e))) c.before.before.before.before.before.less.result c.before.before.before.before.before.less.ensures
           (said (BlankFrom c.before.before.before.before.before.less.result (take (o.result - 0) x)) c.before.before.before.before.blank.result (not-false c.before.before.before.before.blank.result c.before.before.before.if1.false)
@@ -129,8 +129,8 @@ returns-2 c =
     let a = c.before.before.before.before.args in
     let p = c.before.before.before.before.requires in
     let l = c.before.loop in
-    let e = length-record a.strip.now a.cells.now a.bytes.now a.count a.to p.0.inside in
-    weighed-all (recordIn a.strip.now a.cells.now a.bytes.now a.count a.to) a.bits l.from l.sum (omega (arith, e)) l.invariant.1
+    let e = length_record a.strip.now a.cells.now a.bytes.now a.count a.to p.0.inside in
+    weighed_all (record_in a.strip.now a.cells.now a.bytes.now a.count a.to) a.bits l.from l.sum (omega (arith, e)) l.invariant.1
 
 pub weigh-spec : {M : Type 1} → statement M
 weigh-spec =

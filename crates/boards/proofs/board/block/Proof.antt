@@ -2,20 +2,20 @@ use mathlib.Core.Path.{◌≡◌, sym, ap, ◌∙◌}
 use Prim.Native.Nat.{◌+◌, ◌-◌, ◌≤◌}
 use native.Mathlib.Omega.{arith}
 use borrow.Author.Rules.{rules}
-use Rattle.boards.proofs.Codes.{tilesAt, left_of, addedBy, left-next, left-all, added_none, added-small, sum-small, row_next, row_last}
+use Rattle.boards.proofs.Codes.{tiles_at, left_of, added_by, left_next, left_all, added_none, added_small, sum_small, row_next, row_last}
 use Rattle.boards.proofs.board.block.Statement.{statement}
 use Rattle.boards.proofs.board.block.Tie as tie
 
 abbrev invariant-loop : tie.invariant-loop
-invariant-loop rows tiles k x₀ others₀ c₀ x others c = (c ≤ 8) × (x ≡ addedBy (tilesAt tiles k) 64 c) × (others ≡ left_of (tilesAt tiles k) 64 c)
+invariant-loop rows tiles k x₀ others₀ c₀ x others c = (c ≤ 8) × (x ≡ added_by (tiles_at tiles k) 64 c) × (others ≡ left_of (tiles_at tiles k) 64 c)
 
 abbrev decreases-loop : tie.decreases-loop
 decreases-loop rows tiles k x₀ others₀ c₀ x others c = 8 - c
 
 loop-holds : tie.Need-loop-init invariant-loop decreases-loop
 loop-holds c =
-    let t = tilesAt c.before.args.tiles.now c.before.args.k in
-    (omega arith, sym (added_none t 64), sym (left-all t 64))
+    let t = tiles_at c.before.args.tiles.now c.before.args.k in
+    (omega arith, sym (added_none t 64), sym (left_all t 64))
 
 count-requires : tie.Need-count-requires invariant-loop decreases-loop
 count-requires c κs = search rules
@@ -36,25 +36,25 @@ mul-x-2 : tie.Need-overflow-mul-x-2 invariant-loop decreases-loop
 mul-x-2 c =
     let o = c.before.before.before.before.before.before in
     let l = c.before.before.before.before.loop in
-    let t = tilesAt o.args.tiles.now o.args.k in
+    let t = tiles_at o.args.tiles.now o.args.k in
     let e = row_next t o.args.rows.now o.requires.0 64 l.x c.before.wide.result l.c (omega arith) l.invariant.1
     (c.before.wide.ensures ∙ c.before.before.count.ensures) in
-    omega (arith, e, added-small t 64 (l.c + 1))
+    omega (arith, e, added_small t 64 (l.c + 1))
 
 add-x : tie.Need-overflow-add-x invariant-loop decreases-loop
 add-x c =
     let o = c.before.before.before.before.before.before in
     let l = c.before.before.before.before.loop in
-    let t = tilesAt o.args.tiles.now o.args.k in
+    let t = tiles_at o.args.tiles.now o.args.k in
     let e = row_next t o.args.rows.now o.requires.0 64 l.x c.before.wide.result l.c (omega arith) l.invariant.1
     (c.before.wide.ensures ∙ c.before.before.count.ensures) in
-    omega (arith, e, added-small t 64 (l.c + 1))
+    omega (arith, e, added_small t 64 (l.c + 1))
 
 sub-others : tie.Need-overflow-sub-others invariant-loop decreases-loop
 sub-others c =
     let o = c.before.before.before.before.before.before in
     let l = c.before.before.before.before.loop in
-    omega (arith, left-next (tilesAt o.args.tiles.now o.args.k) 64 l.c, l.invariant.2, c.before.wide.ensures, c.before.before.count.ensures)
+    omega (arith, left_next (tiles_at o.args.tiles.now o.args.k) 64 l.c, l.invariant.2, c.before.wide.ensures, c.before.before.count.ensures)
 
 add-c : tie.Need-overflow-add-c invariant-loop decreases-loop
 add-c c = search rules
@@ -66,10 +66,10 @@ loop-again : tie.Need-loop-preserved invariant-loop decreases-loop
 loop-again c =
     let o = c.before.before.before.before.before.before in
     let l = c.before.before.before.before.loop in
-    let t = tilesAt o.args.tiles.now o.args.k in
+    let t = tiles_at o.args.tiles.now o.args.k in
     let e = row_next t o.args.rows.now o.requires.0 64 l.x c.before.wide.result l.c (omega arith) l.invariant.1
     (c.before.wide.ensures ∙ c.before.before.count.ensures) in
-    (omega arith, e, omega (arith, left-next t 64 l.c, l.invariant.2, c.before.wide.ensures, c.before.before.count.ensures))
+    (omega arith, e, omega (arith, left_next t 64 l.c, l.invariant.2, c.before.wide.ensures, c.before.before.count.ensures))
 
 element-copy-out-result : tie.Need-element-copy-out-result invariant-loop decreases-loop
 element-copy-out-result c = search rules
@@ -78,27 +78,27 @@ mul-result : tie.Need-overflow-mul-result invariant-loop decreases-loop
 mul-result c =
     let o = c.before.before.before.before in
     let l = c.before.before.loop in
-    let t = tilesAt o.args.tiles.now o.args.k in
+    let t = tiles_at o.args.tiles.now o.args.k in
     let z : l.c ≡ 8 = omega arith in
-    let e = row_last t o.args.rows.now o.requires.0 64 l.x l.others (l.invariant.1 ∙ ap (addedBy t 64) z) (l.invariant.2 ∙ ap (left_of t 64) z) in
-    omega (arith, e, sum-small t 64)
+    let e = row_last t o.args.rows.now o.requires.0 64 l.x l.others (l.invariant.1 ∙ ap (added_by t 64) z) (l.invariant.2 ∙ ap (left_of t 64) z) in
+    omega (arith, e, sum_small t 64)
 
 add-result : tie.Need-overflow-add-result invariant-loop decreases-loop
 add-result c =
     let o = c.before.before.before.before in
     let l = c.before.before.loop in
-    let t = tilesAt o.args.tiles.now o.args.k in
+    let t = tiles_at o.args.tiles.now o.args.k in
     let z : l.c ≡ 8 = omega arith in
-    let e = row_last t o.args.rows.now o.requires.0 64 l.x l.others (l.invariant.1 ∙ ap (addedBy t 64) z) (l.invariant.2 ∙ ap (left_of t 64) z) in
-    omega (arith, e, sum-small t 64)
+    let e = row_last t o.args.rows.now o.requires.0 64 l.x l.others (l.invariant.1 ∙ ap (added_by t 64) z) (l.invariant.2 ∙ ap (left_of t 64) z) in
+    omega (arith, e, sum_small t 64)
 
 returns : tie.Need-returns invariant-loop decreases-loop
 returns c =
     let o = c.before.before.before.before in
     let l = c.before.before.loop in
-    let t = tilesAt o.args.tiles.now o.args.k in
+    let t = tiles_at o.args.tiles.now o.args.k in
     let z : l.c ≡ 8 = omega arith in
-    let e = row_last t o.args.rows.now o.requires.0 64 l.x l.others (l.invariant.1 ∙ ap (addedBy t 64) z) (l.invariant.2 ∙ ap (left_of t 64) z) in
+    let e = row_last t o.args.rows.now o.requires.0 64 l.x l.others (l.invariant.1 ∙ ap (added_by t 64) z) (l.invariant.2 ∙ ap (left_of t 64) z) in
     e
 
 pub block_spec : {M : Type 1} → statement M

@@ -3,12 +3,12 @@ use Prim.Native.Nat.{ℕ, ◌+◌, ◌-◌, ◌≤◌}
 use native.Mathlib.Omega.{arith}
 use borrow.Author.Rules.{rules}
 use Rattle.account.specs.Lists.{sum_of}
-use Rattle.boards.proofs.Codes.{tilesAt, count_of, count_next, few}
+use Rattle.boards.proofs.Codes.{tiles_at, count_of, count_next, few}
 use Rattle.boards.proofs.board.count.Statement.{statement}
 use Rattle.boards.proofs.board.count.Tie as tie
 
 abbrev invariant-loop : tie.invariant-loop
-invariant-loop tiles k c n₀ i₀ n i = (i ≤ 64) × (n ≡ count_of (tilesAt tiles k) i c)
+invariant-loop tiles k c n₀ i₀ n i = (i ≤ 64) × (n ≡ count_of (tiles_at tiles k) i c)
 
 abbrev decreases-loop : tie.decreases-loop
 decreases-loop tiles k c n₀ i₀ n i = 64 - i
@@ -30,7 +30,7 @@ add-n : tie.Need-overflow-add-n invariant-loop decreases-loop
 add-n c =
     let a = c.before.before.before.before.before.args in
     let l = c.before.before.before.loop in
-    let t = tilesAt a.tiles.now a.k in
+    let t = tiles_at a.tiles.now a.k in
     omega (arith, few t (l.i + 1) a.c, count_next t l.i a.c, l.invariant.1, c.is.ensures)
 
 add-i : tie.Need-overflow-add-i invariant-loop decreases-loop
@@ -43,14 +43,14 @@ loop-again : tie.Need-loop-preserved invariant-loop decreases-loop
 loop-again c =
     let a = c.before.before.before.before.before.args in
     let l = c.before.before.before.loop in
-    (omega arith, omega (arith, count_next (tilesAt a.tiles.now a.k) l.i a.c, l.invariant.1, c.is.ensures))
+    (omega arith, omega (arith, count_next (tiles_at a.tiles.now a.k) l.i a.c, l.invariant.1, c.is.ensures))
 
 returns : tie.Need-returns invariant-loop decreases-loop
 returns c =
     let a = c.before.before.before.args in
     let l = c.before.loop in
     let e : l.i ≡ 64 = omega arith in
-    l.invariant.1 ∙ ap (λ (n : ℕ). count_of (tilesAt a.tiles.now a.k) n a.c) e
+    l.invariant.1 ∙ ap (λ (n : ℕ). count_of (tiles_at a.tiles.now a.k) n a.c) e
 
 pub count_spec : {M : Type 1} → statement M
 count_spec = tie.close (tie.spec invariant-loop decreases-loop loop-holds add_is shared-slice-read-is is-requires add-n add-i loop-less loop-again returns)

@@ -1,5 +1,5 @@
-use Rattle.boards.proofs.Codes.{weight-next, weight-end}
-use Rattle.tiles.proofs.Rows.{weighed-small}
+use Rattle.boards.proofs.Codes.{weight_next, weight_end}
+use Rattle.tiles.proofs.Rows.{weighed_small}
 use Rattle.tiles.specs.Sum.{weight}
 use borrow.Author.Rules.{rules}
 use lib.ListN.{length, get_or, drop}
@@ -28,7 +28,7 @@ weigh-requires c κs = c.before.before.before.before.requires.0
 add-x : tie.Need-overflow-add-x invariant-loop decreases-loop
 add-x c =
     let l = c.before.before.before.loop in
-    omega (arith, weighed-small (get_or c.before.before.before.before.before.args.tiles.now l.i 0), c.weigh.ensures)
+    omega (arith, weighed_small (get_or c.before.before.before.before.before.args.tiles.now l.i 0), c.weigh.ensures)
 
 add-i : tie.Need-overflow-add-i invariant-loop decreases-loop
 add-i c = search rules
@@ -40,13 +40,13 @@ loop-again : tie.Need-loop-preserved invariant-loop decreases-loop
 loop-again c =
     let l = c.before.before.before.loop in
     let ts = c.before.before.before.before.before.args.tiles.now in
-    let w = weighed-small (get_or ts l.i 0) in
-    (omega arith, omega arith, omega (arith, w, c.weigh.ensures), omega (arith, weight-next ts l.i (omega arith), c.weigh.ensures, l.invariant.3))
+    let w = weighed_small (get_or ts l.i 0) in
+    (omega arith, omega arith, omega (arith, w, c.weigh.ensures), omega (arith, weight_next ts l.i (omega arith), c.weigh.ensures, l.invariant.3))
 
 returns : tie.Need-returns invariant-loop decreases-loop
 returns c =
     let l = c.before.loop in
-    (omega (arith, weight-end c.before.before.before.args.tiles.now l.i (omega arith), l.invariant.3), omega (arith, l.invariant.2))
+    (omega (arith, weight_end c.before.before.before.args.tiles.now l.i (omega arith), l.invariant.3), omega (arith, l.invariant.2))
 
 pub rest-spec : {M : Type 1} → statement M
 rest-spec =

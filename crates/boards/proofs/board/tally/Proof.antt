@@ -4,7 +4,7 @@ use native.Mathlib.Omega.{arith}
 use borrow.Author.Rules.{rules}
 use lib.ListN.{length, drop}
 use Rattle.tiles.specs.Sum.{weight}
-use Rattle.boards.proofs.Codes.{tilesAt, sum-small, weight-run}
+use Rattle.boards.proofs.Codes.{tiles_at, sum_small, weight_run}
 use Rattle.boards.proofs.board.tally.Statement.{statement}
 use Rattle.boards.proofs.board.tally.Tie as tie
 
@@ -30,7 +30,7 @@ add-x : tie.Need-overflow-add-x invariant-loop decreases-loop
 add-x c =
     let ts = c.before.before.before.before.before.before.args.tiles.now in
     let l = c.before.before.before.loop in
-    omega (arith, sum-small (tilesAt ts (64 * l.g)) 64, c.block.ensures, l.invariant.1)
+    omega (arith, sum_small (tiles_at ts (64 * l.g)) 64, c.block.ensures, l.invariant.1)
 
 add-g : tie.Need-overflow-add-g invariant-loop decreases-loop
 add-g c = search rules
@@ -44,10 +44,10 @@ loop-again c =
     let l = c.before.before.before.loop in
     let e : 64 * l.g + 64 ≡ 64 * (l.g + 1) = omega arith in (
       omega arith,
-      omega (arith, sum-small (tilesAt ts (64 * l.g)) 64, c.block.ensures, l.invariant.1),
+      omega (arith, sum_small (tiles_at ts (64 * l.g)) 64, c.block.ensures, l.invariant.1),
       omega (
         arith,
-        weight-run ts (64 * l.g) 64 (omega arith),
+        weight_run ts (64 * l.g) 64 (omega arith),
         ap (λ (k : ℕ). weight (drop k ts)) e,
         c.block.ensures,
         l.invariant.2,

@@ -5,7 +5,7 @@ use borrow.Author.Rules.{rules}
 use lib.Bits.{bit_and, and_le_r}
 use lib.ListN.{get_or}
 use Rattle.boards.proofs.Squeezing.{word_small, squeeze, squeezed}
-use Rattle.boards.proofs.Packing.{joined-eight}
+use Rattle.boards.proofs.Packing.{joined_eight}
 use Rattle.boards.proofs.pack.full.Statement.{statement}
 use Rattle.boards.proofs.pack.full.Tie as tie
 
@@ -46,7 +46,7 @@ returns c =
     (get_or ts k 0) (get_or ts (k + 1) 0) (get_or ts (k + 2) 0) (get_or ts (k + 3) 0)
     (get_or ts (k + 4) 0) (get_or ts (k + 5) 0) (get_or ts (k + 6) 0) (get_or ts (k + 7) 0)
     (m k) (m (k + 1)) (m (k + 2)) (m (k + 3)) (m (k + 4)) (m (k + 5)) (m (k + 6)) (m (k + 7))
-    ∙ omega (arith, joined-eight (λ j. get_or ts (k + j) 0), ap (λ (n : ℕ). get_or ts n 0) z)
+    ∙ omega (arith, joined_eight (λ j. get_or ts (k + j) 0), ap (λ (n : ℕ). get_or ts n 0) z)
 
 pub full-spec : {M : Type 1} → statement M
 full-spec = tie.close (tie.spec mul-word word-requires add_a add-b add-result returns)

@@ -4,7 +4,7 @@ use native.Mathlib.Omega.{arith}
 use borrow.Author.Rules.{rules}
 use lib.ListN.{get_or}
 use Rattle.boards.specs.Pack.{joined}
-use Rattle.boards.proofs.Packing.{joined-next, joined-none, room}
+use Rattle.boards.proofs.Packing.{joined_next, joined_none, room}
 use Rattle.boards.proofs.pack.last.Statement.{statement}
 use Rattle.boards.proofs.pack.last.Tie as tie
 
@@ -15,7 +15,7 @@ abbrev decreases-loop : tie.decreases-loop
 decreases-loop tiles g v₀ j₀ v j = 8 - j
 
 loop-holds : tie.Need-loop-init invariant-loop decreases-loop
-loop-holds c = let a = c.before.args in (omega arith, sym (joined-none (λ i. get_or a.tiles.now (8 * a.g + i) 0)))
+loop-holds c = let a = c.before.args in (omega arith, sym (joined_none (λ i. get_or a.tiles.now (8 * a.g + i) 0)))
 
 mul-cell : tie.Need-overflow-mul-cell invariant-loop decreases-loop
 mul-cell c = search rules
@@ -43,7 +43,7 @@ loop-again : tie.Need-loop-preserved invariant-loop decreases-loop
 loop-again c =
     let a = c.before.before.before.before.before.args in
     let l = c.before.before.before.loop in
-    (omega arith, omega (arith, c.push.ensures, c.before.cell.ensures, l.invariant.1, joined-next (λ i. get_or a.tiles.now (8 * a.g + i) 0) l.j))
+    (omega arith, omega (arith, c.push.ensures, c.before.cell.ensures, l.invariant.1, joined_next (λ i. get_or a.tiles.now (8 * a.g + i) 0) l.j))
 
 returns : tie.Need-returns invariant-loop decreases-loop
 returns c =

@@ -3,7 +3,7 @@ use Prim.Native.Nat.{ℕ, ◌+◌, ◌*◌, ◌-◌, ◌/◌, ◌≤◌, ◌<◌
 use native.Mathlib.Omega.{arith}
 use borrow.Author.Rules.{rules}
 use lib.ListN.{length, get_or}
-use Rattle.boards.specs.Pack.{tileByte, turnedOf}
+use Rattle.boards.specs.Pack.{tile_byte, turned_of}
 use Rattle.boards.proofs.Packing.{joined_small, bytes_next}
 use Rattle.boards.proofs.pack.pack.Statement.{statement}
 use Rattle.boards.proofs.pack.pack.Tie as tie
@@ -12,7 +12,7 @@ abbrev invariant-loop : tie.invariant-loop
 invariant-loop tiles out₀ n g₀ out g =
     (g ≤ n)
     × (length out ≡ length out₀)
-    × ((b : ℕ) → b < 3 * g → get_or out (3 + b) 0 ≡ tileByte tiles b)
+    × ((b : ℕ) → b < 3 * g → get_or out (3 + b) 0 ≡ tile_byte tiles b)
     × ((i : ℕ) → i < 3 → get_or out i 0 ≡ get_or out₀ i 0)
     × ((i : ℕ) → 3 + 3 * g ≤ i → get_or out i 0 ≡ get_or out₀ i 0)
 
@@ -63,7 +63,7 @@ loop-again c =
       omega arith,
       p.auto.0 ∙ l.invariant.1,
       λ b h. bytes_next o.args.tiles.now l.out p.new.0 l.g (6 + 3 * l.g) w.result o.requires.1
-          (w.ensures ∙ ap turnedOf t.ensures) p.ensures (λ q x y. l.invariant.2 q x) b h (omega arith),
+          (w.ensures ∙ ap turned_of t.ensures) p.ensures (λ q x y. l.invariant.2 q x) b h (omega arith),
       λ i h. p.ensures.before i (omega arith) ∙ l.invariant.3 i h,
       λ i h. p.ensures.past i (omega arith) ∙ l.invariant.4 i (omega arith),
     )
@@ -109,7 +109,7 @@ returns c =
     let n = length o.args.tiles.now / 8 in
     record {
       put = λ b h. bytes_next o.args.tiles.now l.out p.new.0 n (3 + (3 * length o.args.tiles.now + 7) / 8) w.result o.requires.1
-          (w.ensures ∙ ap turnedOf t.ensures) p.ensures (λ q x y. l.invariant.2 q (omega arith)) b (omega arith) (omega arith);
+          (w.ensures ∙ ap turned_of t.ensures) p.ensures (λ q x y. l.invariant.2 q (omega arith)) b (omega arith) (omega arith);
       before = λ i h. p.ensures.before i (omega arith) ∙ l.invariant.3 i h;
       past = λ i h. p.ensures.past i (omega arith) ∙ l.invariant.4 i (omega arith);
     }

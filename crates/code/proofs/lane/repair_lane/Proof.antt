@@ -4,24 +4,24 @@ use Prim.Native.Nat.{ℕ, ◌-◌}
 use native.Mathlib.Omega.{arith}
 use lib.ListN.{length, take, drop}
 use Rattle.gf256.specs.Gf256.{gf256}
-use Rattle.code.specs.Word.{wordMost}
-use Rattle.code.specs.Lane.{laneMost, LaneRepairsAs}
+use Rattle.code.specs.Word.{word_most}
+use Rattle.code.specs.Lane.{lane_most, LaneRepairsAs}
 use Rattle.code.specs.Repair.{RepairsAs}
-use Rattle.code.proofs.LaneRepairs.{lane-1, lane-2, lane-repaired}
+use Rattle.code.proofs.LaneRepairs.{lane_1, lane_2, lane_repaired}
 use borrow.Author.Rules.{rules}
 use Rattle.code.proofs.lane.repair_lane.Statement.{statement}
 use Rattle.code.proofs.lane.repair_lane.Tie as tie
 
 returns : tie.Need-returns
-returns c = lane-1 c.before.args.lane c.before.args.marks (λ w. omega (arith, w.to, c.if1.true))
+returns c = lane_1 c.before.args.lane c.before.args.marks (λ w. omega (arith, w.to, c.if1.true))
 
 returns-2 : tie.Need-returns-2
-returns-2 c = lane-1 c.before.before.args.lane c.before.before.args.marks (λ w. omega (arith, w.from, c.if2.true))
+returns-2 c = lane_1 c.before.before.args.lane c.before.before.args.marks (λ w. omega (arith, w.from, c.if2.true))
 
 returns-3 : tie.Need-returns-3
 returns-3 c =
     let a = c.before.before.before.before.args in
-    lane-2 a.lane a.marks (search rules) (search rules) (λ e. omega (arith, e, c.if3.true))
+    lane_2 a.lane a.marks (search rules) (search rules) (λ e. omega (arith, e, c.if3.true))
 
 sub-repair : tie.Need-overflow-sub-repair
 sub-repair c = search rules
@@ -31,7 +31,7 @@ part-bytes-start c = search rules
 
 part-bytes-end : tie.Need-slice-bounds-bytes-end
 part-bytes-end c =
-    let n : length c.before.before.before.before.before.before.args.lane.bytes ≡ laneMost = search rules in
+    let n : length c.before.before.before.before.before.before.args.lane.bytes ≡ lane_most = search rules in
     omega arith
 
 sub-repair-2 : tie.Need-overflow-sub-repair-2
@@ -42,7 +42,7 @@ part-repair-start c = search rules
 
 part-repair-end : tie.Need-slice-bounds-repair-end
 part-repair-end c =
-    let n : length c.before.before.before.before.before.before.before.before.args.marks.bytes ≡ laneMost = search rules in
+    let n : length c.before.before.before.before.before.before.before.before.args.marks.bytes ≡ lane_most = search rules in
     omega arith
 
 repair-requires : tie.Need-repair-requires
@@ -58,8 +58,8 @@ returns-4 c =
     (λ (k : ℕ). LaneRepairsAs a.lane a.marks
     (record { lane = record { bytes = r.new.0 ++ drop k a.lane.bytes; len = a.lane.len }; answer = r.result }))
     (sym e)
-    (lane-repaired a.lane a.marks (search rules) (search rules) r.new.0 r.result (omega (arith, m)) (search rules) (search rules)
-    (subst (λ (k : ℕ). RepairsAs gf256 wordMost (take k a.marks.bytes) (take k a.lane.bytes) r.new.0 r.result) e r.ensures))
+    (lane_repaired a.lane a.marks (search rules) (search rules) r.new.0 r.result (omega (arith, m)) (search rules) (search rules)
+    (subst (λ (k : ℕ). RepairsAs gf256 word_most (take k a.marks.bytes) (take k a.lane.bytes) r.new.0 r.result) e r.ensures))
 
 pub repair-lane-spec : {M : Type 1} → statement M
 repair-lane-spec =

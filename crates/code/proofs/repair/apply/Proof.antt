@@ -6,8 +6,8 @@ use lib.ListN.{length}
 use lib.Seq.{slice}
 use Rattle.account.specs.Errata.{Applied}
 use Rattle.gf256.specs.Gf256.{gf256}
-use Rattle.marks.proofs.Counting.{erratum-below}
-use Rattle.code.proofs.Applying.{apply-starts, apply-goes}
+use Rattle.marks.proofs.Counting.{erratum_below}
+use Rattle.code.proofs.Applying.{apply_starts, apply_goes}
 use Rattle.code.proofs.repair.apply.Statement.{statement}
 use Rattle.code.proofs.repair.apply.Tie as tie
 
@@ -20,7 +20,7 @@ decreases-loop word₀ cells values k₀ word k = k
 loop-holds : tie.Need-loop-init invariant-loop decreases-loop
 loop-holds c =
     let s = c.before.before in
-    (search rules, apply-starts s.args.e.cells s.args.e.values s.args.word.now s.args.e.count)
+    (search rules, apply_starts s.args.e.cells s.args.e.values s.args.word.now s.args.e.count)
 
 sub-k : tie.Need-overflow-sub-k invariant-loop decreases-loop
 sub-k c = search rules
@@ -35,7 +35,7 @@ slice-read-word : tie.Need-slice-read-word invariant-loop decreases-loop
 slice-read-word c =
     let s = c.before.before.before.before.before in
     let L = c.before.before.loop in
-    omega (arith, L.invariant.1.same_length, erratum-below (length s.args.word.now) s.args.e s.requires (L.k - 1) (omega arith))
+    omega (arith, L.invariant.1.same_length, erratum_below (length s.args.word.now) s.args.e s.requires (L.k - 1) (omega arith))
 
 array-read-word : tie.Need-array-read-word invariant-loop decreases-loop
 array-read-word c = omega (arith, c.before.before.before.before.before.requires.few)
@@ -44,7 +44,7 @@ slice-write-word : tie.Need-slice-write-word invariant-loop decreases-loop
 slice-write-word c =
     let s = c.before.before.before.before.before in
     let L = c.before.before.loop in
-    omega (arith, L.invariant.1.same_length, erratum-below (length s.args.word.now) s.args.e s.requires (L.k - 1) (omega arith))
+    omega (arith, L.invariant.1.same_length, erratum_below (length s.args.word.now) s.args.e s.requires (L.k - 1) (omega arith))
 
 loop-less : tie.Need-loop-smaller invariant-loop decreases-loop
 loop-less c = search rules
@@ -54,9 +54,9 @@ loop-again c =
     let s = c.before.before.before.before.before in
     let L = c.before.before.loop in (
       omega arith,
-      apply-goes s.args.e.cells s.args.e.values s.args.word.now L.word s.args.e.count L.k (search rules) L.invariant.0
-          (omega (arith, s.requires.few, s.requires.room)) (omega (arith, s.requires.few, s.requires.values-room))
-          (erratum-below (length s.args.word.now) s.args.e s.requires (L.k - 1) (omega arith)) L.invariant.1,
+      apply_goes s.args.e.cells s.args.e.values s.args.word.now L.word s.args.e.count L.k (search rules) L.invariant.0
+          (omega (arith, s.requires.few, s.requires.room)) (omega (arith, s.requires.few, s.requires.values_room))
+          (erratum_below (length s.args.word.now) s.args.e s.requires (L.k - 1) (omega arith)) L.invariant.1,
     )
 
 same_length : tie.Need-same-length invariant-loop decreases-loop

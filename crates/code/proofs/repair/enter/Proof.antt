@@ -1,19 +1,19 @@
 use native.Mathlib.Omega.{arith}
-use Rattle.code.proofs.Repairing.{enters-1, enters-2, enters-3, enters}
+use Rattle.code.proofs.Repairing.{enters_1, enters_2, enters_3, enters}
 use borrow.Author.Rules.{rules}
 use Rattle.code.proofs.repair.enter.Statement.{statement}
 use Rattle.code.proofs.repair.enter.Tie as tie
 
 returns : tie.Need-returns
-returns c = enters-1 c.before.before.args.n c.before.before.args.marks.now (λ w. omega (arith, w.from, c.if1.true))
+returns c = enters_1 c.before.before.args.n c.before.before.args.marks.now (λ w. omega (arith, w.from, c.if1.true))
 
 returns-2 : tie.Need-returns-2
-returns-2 c = enters-1 c.before.before.before.args.n c.before.before.before.args.marks.now (λ w. omega (arith, w.to, c.if2.true))
+returns-2 c = enters_1 c.before.before.before.args.n c.before.before.before.args.marks.now (λ w. omega (arith, w.to, c.if2.true))
 
 returns-3 : tie.Need-returns-3
 returns-3 c =
     let a = c.before.before.before.before.args in
-    enters-2 a.n a.marks.now (search rules) (search rules) (λ e. omega (arith, e, c.if3.true))
+    enters_2 a.n a.marks.now (search rules) (search rules) (λ e. omega (arith, e, c.if3.true))
 
 tally-requires : tie.Need-tally-requires
 tally-requires c κs = search rules
@@ -21,7 +21,7 @@ tally-requires c κs = search rules
 returns-4 : tie.Need-returns-4
 returns-4 c =
     let a = c.before.before.before.before.before.before.args in
-    enters-3 a.n a.marks.now (search rules) (search rules) (omega (arith, c.before.before.if3.false))
+    enters_3 a.n a.marks.now (search rules) (search rules) (omega (arith, c.before.before.if3.false))
     (c.before.tally.ensures.bad (λ h. omega (arith, c.if4.true)))
 
 returns-5 : tie.Need-returns-5

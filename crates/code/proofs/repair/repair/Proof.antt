@@ -3,7 +3,7 @@ use Prim.Native.Nat.{ℕ}
 use Rattle.errata.specs.Errata.{ErrataFor}
 use native.Mathlib.Omega.{arith}
 use borrow.Author.Tests.{not-true, not-false}
-use Rattle.code.proofs.Repairing.{entry_of, repair-refused, repair-beyond, too_many, searchable, repair-mends, searched, unsearched}
+use Rattle.code.proofs.Repairing.{entry_of, repair_refused, repair_beyond, too_many, searchable, repair_mends, searched, unsearched}
 use borrow.Author.Rules.{rules}
 use Rattle.code.proofs.repair.repair.Statement.{statement}
 use Rattle.code.proofs.repair.repair.Tie as tie
@@ -15,7 +15,7 @@ returns : tie.Need-returns
 returns c =
     let s = c.before.before.before.before in
     let e = c.before.enter in
-    repair-refused s.args.marks.now s.args.word.now e.result e.ensures c.if1.true
+    repair_refused s.args.marks.now s.args.word.now e.result e.ensures c.if1.true
 
 returns-2 : tie.Need-returns-2
 returns-2 c =
@@ -23,7 +23,7 @@ returns-2 c =
     let e = c.before.before.enter in
     let z = c.before.if1.false in
     let E = entry_of s.args.marks.now s.args.word.now e.result e.ensures z in
-    repair-beyond s.args.marks.now s.args.word.now E
+    repair_beyond s.args.marks.now s.args.word.now E
     (too_many s.args.marks.now s.args.word.now e.result.marked E (e.ensures.count z) (omega (arith, c.if2.true)))
 
 search-requires : tie.Need-search-requires
@@ -43,7 +43,7 @@ returns-3 c =
     let e = c.before.before.before.before.before.enter in
     let z = c.before.before.before.before.if1.false in
     let f = c.before.search in
-    repair-beyond s.args.marks.now s.args.word.now (entry_of s.args.marks.now s.args.word.now e.result e.ensures z)
+    repair_beyond s.args.marks.now s.args.word.now (entry_of s.args.marks.now s.args.word.now e.result e.ensures z)
     (unsearched f.result.good s.args.marks.now s.args.word.now f.result.errata (not-true f.result.good c.if3.true) f.ensures)
 
 count-requires : tie.Need-count-requires
@@ -75,7 +75,7 @@ returns-4 c =
     let f = c.before.before.before.before.before.before.before.search in
     let good = not-false f.result.good c.before.before.before.before.before.before.if3.false in
     let n = c.before.before.before.before.count in
-    repair-mends s.args.marks.now s.args.word.now c.before.before.apply.new.1.0 f.result.errata n.result
+    repair_mends s.args.marks.now s.args.word.now c.before.before.apply.new.1.0 f.result.errata n.result
     (entry_of s.args.marks.now s.args.word.now e.result e.ensures z)
     (searched f.result.good s.args.marks.now s.args.word.now f.result.errata good f.ensures)
     c.before.before.apply.ensures

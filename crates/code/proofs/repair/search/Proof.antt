@@ -1,5 +1,5 @@
 use native.Mathlib.Omega.{arith}
-use Rattle.remainder.proofs.Whole.{none-is-clean}
+use Rattle.remainder.proofs.Whole.{none_is_clean}
 use Rattle.code.proofs.Repairing.{as_is}
 use borrow.Author.Rules.{rules}
 use Rattle.code.proofs.repair.search.Statement.{statement}
@@ -14,7 +14,7 @@ returns c =
     let w = s.args.word.now in
     as_is s.args.marks.now w s.args.f _ _ s.requires.matched s.requires.count s.requires.few
     (record { cell = λ j l. omega (arith, c.before.before.before.shared-slice-known.given j) })
-    (none-is-clean w c.before.remainder_of.result c.before.remainder_of.ensures c.if1.true) (search rules) (search rules)
+    (none_is_clean w c.before.remainder_of.result c.before.remainder_of.ensures c.if1.true) (search rules) (search rules)
 
 errata-of-requires : tie.Need-errata-of-requires
 errata-of-requires c κs = search rules

@@ -1,5 +1,5 @@
 use mathlib.Core.Path.{◌∙◌}
-use Rattle.remainder.proofs.Whole.{syndrome-same}
+use Rattle.remainder.proofs.Whole.{syndrome_same}
 use borrow.Author.Rules.{rules}
 use Rattle.code.proofs.word.syndrome_of.Statement.{statement}
 use Rattle.code.proofs.word.syndrome_of.Tie as tie
@@ -12,7 +12,7 @@ syndrome-of-requires c κs = search rules
 
 returns : tie.Need-returns
 returns c =
-    c.syndrome-of.ensures ∙ syndrome-same c.before.before.before.args.word.now c.before.remainder_of.result
+    c.syndrome-of.ensures ∙ syndrome_same c.before.before.before.args.word.now c.before.remainder_of.result
     c.before.remainder_of.ensures
 
 pub syndrome-of-spec : {M : Type 1} → statement M

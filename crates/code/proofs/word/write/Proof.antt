@@ -1,5 +1,5 @@
 use native.Mathlib.Omega.{arith}
-use Rattle.code.proofs.Writing.{wrote, refused-1, refused-4}
+use Rattle.code.proofs.Writing.{wrote, refused_1, refused_4}
 use borrow.Author.Rules.{rules}
 use Rattle.code.proofs.word.write.Statement.{statement}
 use Rattle.code.proofs.word.write.Tie as tie
@@ -7,12 +7,12 @@ use Rattle.code.proofs.word.write.Tie as tie
 returns : tie.Need-returns
 returns c =
     let a = c.before.before.before.args in
-    refused-1 a.«data».now a.word.now (λ w. omega (arith, w.from, c.if1.true))
+    refused_1 a.«data».now a.word.now (λ w. omega (arith, w.from, c.if1.true))
 
 returns-2 : tie.Need-returns-2
 returns-2 c =
     let a = c.before.before.before.before.args in
-    refused-1 a.«data».now a.word.now (λ w. omega (arith, w.to, c.if2.true))
+    refused_1 a.«data».now a.word.now (λ w. omega (arith, w.to, c.if2.true))
 
 add-if3 : tie.Need-overflow-add-if3
 add-if3 c = search rules
@@ -20,7 +20,7 @@ add-if3 c = search rules
 returns-3 : tie.Need-returns-3
 returns-3 c =
     let a = c.before.before.before.before.before.args in
-    refused-4 a.«data».now a.word.now (search rules) (search rules) (λ e. omega (arith, e, c.if3.true))
+    refused_4 a.«data».now a.word.now (search rules) (search rules) (λ e. omega (arith, e, c.if3.true))
 
 checks-of-requires : tie.Need-checks-of-requires
 checks-of-requires c κs = search rules

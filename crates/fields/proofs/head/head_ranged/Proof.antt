@@ -12,8 +12,8 @@ version-taken-requires c κs = search rules
 returns : tie.Need-returns
 returns c =
     let a = c.before.before.args in
-    let t = c.before.version-taken in
-    λ r. denied (VersionTaken a.upto a.version) t.result (not-true t.result c.if1.true) t.ensures r.version-taken
+    let t = c.before.version_taken in
+    λ r. denied (VersionTaken a.upto a.version) t.result (not-true t.result c.if1.true) t.ensures r.version_taken
 
 returns-2 : tie.Need-returns-2
 returns-2 c = λ r. omega (arith, r.wide, c.if2.true)
@@ -24,9 +24,9 @@ returns-3 c = λ r. omega (arith, r.high, c.if3.true)
 returns-4 : tie.Need-returns-4
 returns-4 c =
     let a = c.before.before.before.before.args in
-    let t = c.before.before.before.version-taken in
+    let t = c.before.before.before.version_taken in
     record {
-      version-taken = said (VersionTaken a.upto a.version) t.result (not-false t.result c.before.before.if1.false) t.ensures;
+      version_taken = said (VersionTaken a.upto a.version) t.result (not-false t.result c.before.before.if1.false) t.ensures;
       wide = omega (arith, c.before.if2.false);
       high = omega (arith, c.if3.false);
     }

@@ -1,4 +1,4 @@
-use Rattle.fields.proofs.Filling.{shifted, shifted-some}
+use Rattle.fields.proofs.Filling.{shifted, shifted_some}
 use mathlib.Core.Path.{ap, ◌∙◌}
 use Prim.Native.Nat.{ℕ, ◌-◌}
 use lib.Bits.{bit_and, and_mask}
@@ -10,7 +10,7 @@ shr-result : tie.Need-overflow-shr-result
 shr-result c = search rules
 
 sub-result : tie.Need-overflow-sub-result
-sub-result c = shifted-some c.args.k c.requires
+sub-result c = shifted_some c.args.k c.requires
 
 returns : tie.Need-returns
 returns c =

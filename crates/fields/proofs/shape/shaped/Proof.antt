@@ -5,7 +5,7 @@ use borrow.Author.Rules.{rules}
 use lib.ListN.{length}
 use Rattle.rules.proofs.Tests.{said, denied}
 use Rattle.level.specs.Strip.{columns}
-use Rattle.fields.proofs.Reading.{blank-is, misfits}
+use Rattle.fields.proofs.Reading.{blank_is, misfits}
 use Rattle.fields.proofs.shape.shaped.Statement.{statement}
 use Rattle.fields.proofs.shape.shaped.Tie as tie
 
@@ -34,7 +34,7 @@ returns-2 c =
     let s = c.before.before.before.before in
     let a = s.args in
     let f = c.before.before.fits2 in
-    blank-is c.blank.result a.lanes a.m a.bs.now s.requires.1
+    blank_is c.blank.result a.lanes a.m a.bs.now s.requires.1
     (said (length a.bs.now ≡ a.lanes * columns a.lanes (3 + (3 * a.m + 7) / 8)) f.result (not-false f.result c.before.if1.false) f.ensures)
     c.blank.ensures
 

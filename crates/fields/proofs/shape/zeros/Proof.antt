@@ -1,5 +1,5 @@
 use borrow.Author.Rules.{rules}
-use Rattle.fields.proofs.Reading.{range-more}
+use Rattle.fields.proofs.Reading.{range_more}
 use lib.ListN.{length, get_or}
 use native.Mathlib.Omega.{arith}
 use Prim.Native.Nat.{ℕ, ◌-◌, ◌≤◌, ◌<◌}
@@ -32,7 +32,7 @@ loop-again : tie.Need-loop-preserved invariant-loop decreases-loop
 loop-again c =
     let a = c.before.before.before.before.args in
     let l = c.before.before.before.loop in
-    (omega arith, range-more (λ i. get_or a.bs.now i 0 ≡ 0) a.from l.q l.invariant.1 (omega (arith, c.if1.false)))
+    (omega arith, range_more (λ i. get_or a.bs.now i 0 ≡ 0) a.from l.q l.invariant.1 (omega (arith, c.if1.false)))
 
 returns-2 : tie.Need-returns-2 invariant-loop decreases-loop
 returns-2 c = λ i a b. c.before.loop.invariant.1 i a (omega arith)

@@ -1,9 +1,9 @@
 use native.Mathlib.Omega.{arith}
 use Prim.Native.Nat.{◌<◌}
 use borrow.Author.Rules.{rules}
-use Rattle.rules.proofs.Tests.{says-as}
+use Rattle.rules.proofs.Tests.{says_as}
 use Rattle.level.specs.Level.{AllTiles}
-use Rattle.fields.proofs.Tiles.{early-tiles, late-tiles}
+use Rattle.fields.proofs.Tiles.{early_tiles, late_tiles}
 use Rattle.fields.proofs.tile.coded.Statement.{statement}
 use Rattle.fields.proofs.tile.coded.Tie as tie
 
@@ -14,8 +14,8 @@ returns : tie.Need-returns
 returns c = record {
   says = λ ts h e. (
       let a = c.before.before.args in
-      let q = early-tiles ts a.x h e a.version c.before.if1.true in
-      says-as (a.x < 1099511627776) (AllTiles a.version ts) c.below.result q.0 q.1 c.below.ensures);
+      let q = early_tiles ts a.x h e a.version c.before.if1.true in
+      says_as (a.x < 1099511627776) (AllTiles a.version ts) c.below.result q.0 q.1 c.below.ensures);
 }
 
 below-requires-2 : tie.Need-below-requires-2
@@ -25,8 +25,8 @@ returns-2 : tie.Need-returns-2
 returns-2 c = record {
   says = λ ts h e. (
       let a = c.before.before.args in
-      let q = late-tiles ts a.x h e a.version (omega (arith, c.before.if1.false)) in
-      says-as (a.x < 1125899906842624) (AllTiles a.version ts) c.below2.result q.0 q.1 c.below2.ensures);
+      let q = late_tiles ts a.x h e a.version (omega (arith, c.before.if1.false)) in
+      says_as (a.x < 1125899906842624) (AllTiles a.version ts) c.below2.result q.0 q.1 c.below2.ensures);
 }
 
 pub coded-spec : {M : Type 1} → statement M

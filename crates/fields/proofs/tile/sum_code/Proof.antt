@@ -34,7 +34,7 @@ returns-2 c = record {
       let s = sums ts a.x h e in
       inr (
         said (AllTiles a.version ts) k.result (not-false k.result c.before.if1.false) (k.ensures.says ts h e),
-        inl (λ p. omega (arith, p.one-player, s.player-is, c.if2.true), refl),
+        inl (λ p. omega (arith, p.one_player, s.player_is, c.if2.true), refl),
       ));
 }
 
@@ -49,8 +49,8 @@ returns-3 c = record {
         said (AllTiles a.version ts) k.result (not-false k.result c.before.before.if1.false) (k.ensures.says ts h e),
         inl (
           (λ p. denied (Matched a.version (a.x / 1024 % 1024) (a.x / 1048576 % 1024)) m.result (not-true m.result c.if3.true) m.ensures (record {
-            enough = omega (arith, p.enough, s.crate-is, s.goal-is);
-            as_many = λ early. s.crate-is ∙ p.as_many early ∙ sym s.goal-is;
+            enough = omega (arith, p.enough, s.crate_is, s.goal_is);
+            as_many = λ early. s.crate_is ∙ p.as_many early ∙ sym s.goal_is;
           })),
           refl,
         ),
@@ -65,7 +65,7 @@ returns-4 c = record {
       let s = sums ts a.x h e in
       inr (
         said (AllTiles a.version ts) k.result (not-false k.result c.before.before.before.if1.false) (k.ensures.says ts h e),
-        inl (λ p. omega (arith, p.unfinished, s.off-is, c.if4.true), refl),
+        inl (λ p. omega (arith, p.unfinished, s.off_is, c.if4.true), refl),
       ));
 }
 
@@ -78,11 +78,11 @@ returns-5 c = record {
       let s = sums ts a.x h e in
       let g = said (Matched a.version (a.x / 1024 % 1024) (a.x / 1048576 % 1024)) m.result (not-false m.result c.before.if3.false) m.ensures in
       let p : Playable a.version (totals ts) = record {
-        one-player = omega (arith, s.player-is, c.before.before.if2.false);
-        some-crate = omega (arith, s.off-is, s.off-crates, c.if4.false);
-        enough = omega (arith, s.crate-is, s.goal-is, g.enough);
-        as_many = λ early. sym s.crate-is ∙ g.as_many early ∙ s.goal-is;
-        unfinished = omega (arith, s.off-is, c.if4.false);
+        one_player = omega (arith, s.player_is, c.before.before.if2.false);
+        some_crate = omega (arith, s.off_is, s.off_crates, c.if4.false);
+        enough = omega (arith, s.crate_is, s.goal_is, g.enough);
+        as_many = λ early. sym s.crate_is ∙ g.as_many early ∙ s.goal_is;
+        unfinished = omega (arith, s.off_is, c.if4.false);
       } in
       inr (
         said (AllTiles a.version ts) k.result (not-false k.result c.before.before.before.if1.false) (k.ensures.says ts h e),

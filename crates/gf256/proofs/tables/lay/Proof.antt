@@ -1,5 +1,5 @@
 use borrow.Author.Rules.{rules}
-use Rattle.rules.proofs.Placing.{laid-copy}
+use Rattle.rules.proofs.Placing.{laid_copy}
 use Rattle.gf256.proofs.tables.lay.Statement.{statement}
 use Rattle.gf256.proofs.tables.lay.Tie as tie
 
@@ -21,7 +21,7 @@ same_length c = search rules
 returns : tie.Need-returns
 returns c =
     let s = c.before.before.before.before.before.before in
-    laid-copy s.args.at s.args.table.now s.args.bytes.now s.requires c.before.before.copy.new.1.0 c.before.before.copy.ensures
+    laid_copy s.args.at s.args.table.now s.args.bytes.now s.requires c.before.before.copy.new.1.0 c.before.before.copy.ensures
 
 pub lay-spec : {M : Type 1} → statement M
 lay-spec =

@@ -3,7 +3,7 @@ use Prim.Native.Nat.{ℕ, ◌-◌, ◌≤◌}
 use native.Mathlib.Omega.{arith}
 use borrow.Author.Rules.{rules}
 use Rattle.lanes.specs.Fixes.{Noted}
-use Rattle.lanes.proofs.Noting.{noted-0, noted_more, counts-small, cell_below, cell-small, cell-inside}
+use Rattle.lanes.proofs.Noting.{noted_0, noted_more, counts_small, cell_below, cell_small, cell_inside}
 use Rattle.lanes.proofs.fixes.note.Statement.{statement}
 use Rattle.lanes.proofs.fixes.note.Tie as tie
 
@@ -17,7 +17,7 @@ decreases-loop marks lanes l k cells₀ bytes₀ w e c₀ i₀ cells bytes c i =
 loop-holds : tie.Need-loop-init invariant-loop decreases-loop
 loop-holds c =
     let a = c.before.args in
-    (omega arith, noted-0 a.lanes a.l a.k a.t1 a.t2 a.marks.now a.cells.now a.bytes.now c.before.requires)
+    (omega arith, noted_0 a.lanes a.l a.k a.t1 a.t2 a.marks.now a.cells.now a.bytes.now c.before.requires)
 
 mul-p : tie.Need-overflow-mul-p invariant-loop decreases-loop
 mul-p c = search rules
@@ -29,13 +29,13 @@ mul-q : tie.Need-overflow-mul-q invariant-loop decreases-loop
 mul-q c =
     let a = c.before.before.before.before.args in
     let l = c.before.before.loop in
-    omega (arith, cell-small a.lanes a.l a.k a.t1 a.t2 a.marks.now a.cells.now a.bytes.now c.before.before.before.before.requires l.i (omega arith))
+    omega (arith, cell_small a.lanes a.l a.k a.t1 a.t2 a.marks.now a.cells.now a.bytes.now c.before.before.before.before.requires l.i (omega arith))
 
 add-q : tie.Need-overflow-add-q invariant-loop decreases-loop
 add-q c =
     let a = c.before.before.before.before.args in
     let l = c.before.before.loop in
-    omega (arith, cell-small a.lanes a.l a.k a.t1 a.t2 a.marks.now a.cells.now a.bytes.now c.before.before.before.before.requires l.i (omega arith))
+    omega (arith, cell_small a.lanes a.l a.k a.t1 a.t2 a.marks.now a.cells.now a.bytes.now c.before.before.before.before.requires l.i (omega arith))
 
 element-copy-out-v : tie.Need-element-copy-out-v invariant-loop decreases-loop
 element-copy-out-v c = search rules
@@ -44,7 +44,7 @@ cast-cells : tie.Need-overflow-cast-cells invariant-loop decreases-loop
 cast-cells c =
     let a = c.before.before.before.before.before.args in
     let l = c.before.before.before.loop in
-    omega (arith, cell-small a.lanes a.l a.k a.t1 a.t2 a.marks.now a.cells.now a.bytes.now c.before.before.before.before.before.requires l.i (omega arith))
+    omega (arith, cell_small a.lanes a.l a.k a.t1 a.t2 a.marks.now a.cells.now a.bytes.now c.before.before.before.before.before.requires l.i (omega arith))
 
 add-cells : tie.Need-overflow-add-cells invariant-loop decreases-loop
 add-cells c = search rules
@@ -72,9 +72,9 @@ count-one-requires c κs =
     let a = c.before.before.before.before.before.before.args in
     let p = c.before.before.before.before.before.before.requires in
     let l = c.before.before.before.before.loop in
-    let s = counts-small a.lanes a.l a.k a.t1 a.t2 a.marks.now a.cells.now a.bytes.now p l.i (omega arith) l.cells l.bytes l.c
+    let s = counts_small a.lanes a.l a.k a.t1 a.t2 a.marks.now a.cells.now a.bytes.now p l.i (omega arith) l.cells l.bytes l.c
     l.invariant.1 in (
-      cell-inside a.lanes a.l a.k a.t1 a.t2 a.marks.now a.cells.now a.bytes.now p l.i (omega arith),
+      cell_inside a.lanes a.l a.k a.t1 a.t2 a.marks.now a.cells.now a.bytes.now p l.i (omega arith),
       s.0,
       s.1,
     )

@@ -3,8 +3,8 @@ use borrow.Author.Tests.{not-true, not-false}
 use borrow.Author.Rules.{rules}
 use Rattle.rules.proofs.Tests.{said, denied}
 use Rattle.level.specs.Reading.{Shaped}
-use Rattle.tiles.proofs.Counting.{counted-summed}
-use Rattle.fields.proofs.Judging.{Opens, judged-7, judged-8, judged-answer, area-is, area-few, headed, head-of-level, judged-by-tiles}
+use Rattle.tiles.proofs.Counting.{counted_summed}
+use Rattle.fields.proofs.Judging.{Opens, judged_7, judged_8, judged_answer, area_is, area_few, headed, head_of_level, judged_by_tiles}
 use Rattle.record.proofs.read.judge.Statement.{statement}
 use Rattle.record.proofs.read.judge.Tie as tie
 
@@ -17,14 +17,14 @@ head-ranged-requires c κs = search rules
 mul-shaped : tie.Need-overflow-mul-shaped
 mul-shaped c =
     let f = c.before.before.head_of in
-    omega (arith, area-few c.before.before.before.before.args.bs.now f.result f.ensures)
+    omega (arith, area_few c.before.before.before.before.args.bs.now f.result f.ensures)
 
 shaped-requires : tie.Need-shaped-requires
 shaped-requires c κs =
     let f = c.before.before.head_of in
     let o = c.before.before.before.before in
     let bs = o.args.bs.now in
-    (o.requires.1, area-is bs f.result f.ensures, area-few bs f.result f.ensures)
+    (o.requires.1, area_is bs f.result f.ensures, area_few bs f.result f.ensures)
 
 refused-requires : tie.Need-refused-requires
 refused-requires c κs = search rules
@@ -34,8 +34,8 @@ returns c =
     let t = c.before.before.before.before.head-ranged in
     let f = c.before.before.before.before.before.head_of in
     let a = c.before.before.before.before.before.before.before.args in
-    judged-7 a.upto a.lanes a.bs.now c.refused.result c.refused.ensures
-    (λ h. denied (Opens a.upto f.result) t.result (not-true t.result c.before.if1.true) t.ensures (head-of-level a.bs.now f.result f.ensures a.upto h))
+    judged_7 a.upto a.lanes a.bs.now c.refused.result c.refused.ensures
+    (λ h. denied (Opens a.upto f.result) t.result (not-true t.result c.before.if1.true) t.ensures (head_of_level a.bs.now f.result f.ensures a.upto h))
 
 refused-requires-2 : tie.Need-refused-requires-2
 refused-requires-2 c κs = search rules
@@ -46,7 +46,7 @@ returns-2 c =
     let t = q.before.before.head-ranged in
     let f = q.before.before.before.head_of in
     let a = q.before.before.before.before.before.args in
-    judged-8 a.upto a.lanes a.bs.now c.refused2.result c.refused2.ensures
+    judged_8 a.upto a.lanes a.bs.now c.refused2.result c.refused2.ensures
     (headed a.bs.now f.result f.ensures a.upto (said (Opens a.upto f.result) t.result (not-false t.result c.before.before.if1.false) t.ensures))
     (denied (Shaped a.lanes a.bs.now) q.shaped.result (not-true q.shaped.result c.before.if2.true) q.shaped.ensures)
 
@@ -76,11 +76,11 @@ returns-3 c =
     let t = q.before.before.head-ranged in
     let f = q.before.before.before.head_of in
     let o = q.before.before.before.before.before in
-    judged-answer o.args.bs.now f.result f.ensures o.args.upto o.args.lanes b.result c.answer.result c.answer.ensures
-    (judged-by-tiles o.args.bs.now f.result f.ensures o.args.upto o.args.lanes s.tally.result b.result o.requires.1.from
+    judged_answer o.args.bs.now f.result f.ensures o.args.upto o.args.lanes b.result c.answer.result c.answer.ensures
+    (judged_by_tiles o.args.bs.now f.result f.ensures o.args.upto o.args.lanes s.tally.result b.result o.requires.1.from
     (said (Opens o.args.upto f.result) t.result (not-false t.result s.before.before.before.if1.false) t.ensures)
     (said (Shaped o.args.lanes o.args.bs.now) q.shaped.result (not-false q.shaped.result s.before.before.if2.false) q.shaped.ensures)
-    (counted-summed _ s.tally.result s.tally.ensures) b.ensures)
+    (counted_summed _ s.tally.result s.tally.ensures) b.ensures)
 
 pub judge-spec : {M : Type 1} → statement M
 judge-spec =

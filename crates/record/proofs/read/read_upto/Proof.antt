@@ -1,5 +1,5 @@
 use native.Mathlib.Omega.{arith}
-use Rattle.record.proofs.Reader.{not-read-1, not-read-4, not-read-later, reads}
+use Rattle.record.proofs.Reader.{not_read_1, not_read_4, not_read_later, reads}
 use borrow.Author.Rules.{rules}
 use Rattle.record.proofs.read.read_upto.Statement.{statement}
 use Rattle.record.proofs.read.read_upto.Tie as tie
@@ -7,17 +7,17 @@ use Rattle.record.proofs.read.read_upto.Tie as tie
 returns : tie.Need-returns
 returns c =
     let a = c.before.before.before.args in
-    not-read-1 a.upto a.bytes.now a.tiles.now (λ w. omega (arith, w.from, c.if1.true))
+    not_read_1 a.upto a.bytes.now a.tiles.now (λ w. omega (arith, w.from, c.if1.true))
 
 returns-2 : tie.Need-returns-2
 returns-2 c =
     let a = c.before.before.before.before.args in
-    not-read-1 a.upto a.bytes.now a.tiles.now (λ w. omega (arith, w.to, c.if2.true))
+    not_read_1 a.upto a.bytes.now a.tiles.now (λ w. omega (arith, w.to, c.if2.true))
 
 returns-3 : tie.Need-returns-3
 returns-3 c =
     let a = c.before.before.before.before.before.args in
-    not-read-4 a.upto a.bytes.now a.tiles.now
+    not_read_4 a.upto a.bytes.now a.tiles.now
     (record { from = omega (arith, c.before.before.if1.false); to = omega (arith, c.before.if2.false) }) (λ w. omega (arith, w, c.if3.true))
 
 accept-requires : tie.Need-accept-requires
@@ -30,7 +30,7 @@ returns-4 : tie.Need-returns-4
 returns-4 c =
     let a = c.before.before.before.before.before.before.before.before.before.before.args in
     let j = c.before.before.before.accept in
-    not-read-later a.upto a.bytes.now a.tiles.now j.result _ c.if4.true j.ensures
+    not_read_later a.upto a.bytes.now a.tiles.now j.result _ c.if4.true j.ensures
     (record {
       from = omega (arith, c.before.before.before.before.before.before.before.if1.false);
       to = omega (arith, c.before.before.before.before.before.before.if2.false);

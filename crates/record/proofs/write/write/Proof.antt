@@ -1,6 +1,6 @@
 use Rattle.lending.proofs.Lent.{lent_level}
-use Rattle.record.proofs.Answers.{refused-4, refused-later, wrote}
-use Rattle.fields.proofs.Tiles.{record-short}
+use Rattle.record.proofs.Answers.{refused_4, refused_later, wrote}
+use Rattle.fields.proofs.Tiles.{record_short}
 use Rattle.level.specs.Writing.{lent}
 use native.Mathlib.Omega.{arith}
 use borrow.Author.Rules.{rules}
@@ -10,7 +10,7 @@ use Rattle.record.proofs.write.write.Tie as tie
 returns : tie.Need-returns
 returns c =
     let a = c.before.before.before.args in
-    refused-4 (lent a.version a.w a.h a.par a.tiles.now) a.out.now (λ k. omega (arith, k, c.if1.true))
+    refused_4 (lent a.version a.w a.h a.par a.tiles.now) a.out.now (λ k. omega (arith, k, c.if1.true))
 
 check-requires : tie.Need-check-requires
 check-requires c κs = search rules
@@ -18,14 +18,14 @@ check-requires c κs = search rules
 returns-2 : tie.Need-returns-2
 returns-2 c =
     let a = c.before.before.before.before.before.args in
-    refused-later (lent a.version a.w a.h a.par a.tiles.now) a.out.now c.before.check.result (omega arith)
+    refused_later (lent a.version a.w a.h a.par a.tiles.now) a.out.now c.before.check.result (omega arith)
     (λ z. omega (arith, z, c.if2.true)) c.before.check.ensures
 
 put-record-requires : tie.Need-put-record-requires
 put-record-requires c κs =
     let a = c.before.before.before.before.before.before.args in
     let l = lent_level 2 (lent a.version a.w a.h a.par a.tiles.now) c.before.before.check.result (omega arith) c.before.before.check.ensures in
-    (l.0, omega (arith, record-short a.w a.h l.0.ranged.sized))
+    (l.0, omega (arith, record_short a.w a.h l.0.ranged.sized))
 
 same_length : tie.Need-same-length
 same_length c = search rules

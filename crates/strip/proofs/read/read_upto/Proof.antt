@@ -3,10 +3,10 @@ use Prim.Native.Nat.{◌≤◌}
 use mathlib.Core.Path.{refl}
 use native.Mathlib.Omega.{arith}
 use Rattle.patches.specs.Patched.{patched}
-use Rattle.level.proofs.Lengths.{lanes-within, cells-most}
-use Rattle.level.proofs.Counts.{legal-some}
+use Rattle.level.proofs.Lengths.{lanes_within, cells_most}
+use Rattle.level.proofs.Counts.{legal_some}
 use Rattle.strip.proofs.Entering.{entered, ready}
-use Rattle.strip.proofs.Reader.{early-as, lane-as, finished_as}
+use Rattle.strip.proofs.Reader.{early_as, lane_as, finished_as}
 use borrow.Author.Rules.{rules}
 use Rattle.strip.proofs.read.read_upto.Statement.{statement}
 use Rattle.strip.proofs.read.read_upto.Tie as tie
@@ -17,7 +17,7 @@ enter-requires c κs = search rules
 returns : tie.Need-returns
 returns c =
     let a = c.before.before.before.before.before.before.args in
-    early-as a.upto a.lanes a.strip.now a.marks.now a.tiles.now a.scratch.now c.before.enter.result.code c.if1.true
+    early_as a.upto a.lanes a.strip.now a.marks.now a.tiles.now a.scratch.now c.before.enter.result.code c.if1.true
     c.before.enter.ensures.first
 
 mend-requires : tie.Need-mend-requires
@@ -27,7 +27,7 @@ mend-requires c κs =
     let z = c.before.before.if1.false in
     let h = entered a.lanes a.strip.now a.marks.now (length a.tiles.now) (length a.scratch.now) g.result.code z g.ensures.first in
     let r = ready a.lanes a.strip.now a.marks.now (length a.tiles.now) (length a.scratch.now) h in
-    (r, record { none = g.ensures.none z }, record { left = omega arith; cells-long = refl; bytes-long = refl })
+    (r, record { none = g.ensures.none z }, record { left = omega arith; cells_long = refl; bytes_long = refl })
 
 returns-2 : tie.Need-returns-2
 returns-2 c =
@@ -36,7 +36,7 @@ returns-2 c =
     let z = c.before.before.before.before.if1.false in
     let h = entered a.lanes a.strip.now a.marks.now (length a.tiles.now) (length a.scratch.now) g.result.code z g.ensures.first in
     let r = ready a.lanes a.strip.now a.marks.now (length a.tiles.now) (length a.scratch.now) h in
-    lane-as a.upto a.lanes a.strip.now a.marks.now a.tiles.now a.scratch.now _ h
+    lane_as a.upto a.lanes a.strip.now a.marks.now a.tiles.now a.scratch.now _ h
     c.before.mend.result.beyond (c.before.mend.ensures.lost (omega arith))
 
 accept-requires : tie.Need-accept-requires
@@ -55,11 +55,11 @@ finish-requires c κs =
     let z = c.before.before.before.before.before.before.before.before.before.before.before.before.before.if1.false in
     let h = entered a.lanes a.strip.now a.marks.now (length a.tiles.now) (length a.scratch.now) g.result.code z g.ensures.first in
     let r = ready a.lanes a.strip.now a.marks.now (length a.tiles.now) (length a.scratch.now) h in
-    let w = lanes-within a.lanes h.0 in (
+    let w = lanes_within a.lanes h.0 in (
       omega (arith, w.to, c.before.before.before.before.before.before.before.before.before.before.mend.ensures.small),
       record {
-        from = legal-some a.lanes (omega (arith, w.from)) r.legal;
-        to = cells-most a.lanes h.0 (length a.strip.now) r.legal;
+        from = legal_some a.lanes (omega (arith, w.from)) r.legal;
+        to = cells_most a.lanes h.0 (length a.strip.now) r.legal;
       },
     )
 

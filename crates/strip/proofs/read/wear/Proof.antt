@@ -1,7 +1,7 @@
 use Prim.Native.Nat.{◌*◌, ◌<◌}
 use native.Mathlib.Nat.{mod-lt, div-le_self}
 use native.Mathlib.Omega.{arith}
-use Rattle.level.proofs.Nearest.{nearest-down, nearest-up}
+use Rattle.level.proofs.Nearest.{nearest_down, nearest_up}
 use borrow.Author.Rules.{rules}
 use Rattle.strip.proofs.read.wear.Statement.{statement}
 use Rattle.strip.proofs.read.wear.Tie as tie
@@ -25,10 +25,10 @@ add-result : tie.Need-overflow-add-result
 add-result c = let a = c.before.args in record { fits = omega (arith, div-le_self (100 * a.mended) a.n) }
 
 returns : tie.Need-returns
-returns c = let a = c.before.args in nearest-up (100 * a.mended) a.n (omega arith) (omega (arith, c.if1.true))
+returns c = let a = c.before.args in nearest_up (100 * a.mended) a.n (omega arith) (omega (arith, c.if1.true))
 
 returns-2 : tie.Need-returns-2
-returns-2 c = let a = c.before.args in nearest-down (100 * a.mended) a.n (omega arith) (omega (arith, c.if1.false))
+returns-2 c = let a = c.before.args in nearest_down (100 * a.mended) a.n (omega arith) (omega (arith, c.if1.false))
 
 pub wear-spec : {M : Type 1} → statement M
 wear-spec = tie.close (tie.spec mul-percents div-down rem-if1 mul-if1 add-if1 add-result returns returns-2)

@@ -3,7 +3,7 @@ use Prim.Native.Nat.{ℕ, ◌-◌, ◌≤◌}
 use native.Mathlib.Omega.{arith}
 use borrow.Author.Rules.{rules}
 use Rattle.rules.specs.Placed.{Placed}
-use Rattle.rules.proofs.Placing.{placed-0, placed-more}
+use Rattle.rules.proofs.Placing.{placed_0, placed_more}
 use Rattle.strip.proofs.write.fill.Statement.{statement}
 use Rattle.strip.proofs.write.fill.Tie as tie
 
@@ -14,7 +14,7 @@ abbrev decreases-loop : tie.decreases-loop
 decreases-loop x₀ from to p₀ x p = to - p
 
 loop-holds : tie.Need-loop-init invariant-loop decreases-loop
-loop-holds c = (omega arith, omega arith, placed-0 c.args.from (λ q. 0) c.args.x.now)
+loop-holds c = (omega arith, omega arith, placed_0 c.args.from (λ q. 0) c.args.x.now)
 
 slice-write-x : tie.Need-slice-write-x invariant-loop decreases-loop
 slice-write-x c = omega (arith, c.before.loop.invariant.2.long)
@@ -29,7 +29,7 @@ loop-again : tie.Need-loop-preserved invariant-loop decreases-loop
 loop-again c =
     let l = c.before.loop in
     let a = c.before.before.args in
-    (omega arith, omega arith, placed-more a.from (λ q. 0) a.x.now l.x l.p 0 (omega arith) (omega arith) refl l.invariant.2)
+    (omega arith, omega arith, placed_more a.from (λ q. 0) a.x.now l.x l.p 0 (omega arith) (omega arith) refl l.invariant.2)
 
 same_length : tie.Need-same-length invariant-loop decreases-loop
 same_length c = c.before.loop.invariant.2.long

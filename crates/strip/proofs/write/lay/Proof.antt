@@ -1,7 +1,7 @@
 use mathlib.Core.Path.{refl}
 use native.Mathlib.Omega.{arith}
 use Rattle.level.specs.Writing.{lent}
-use Rattle.strip.proofs.Laid.{laid_as, record-fits, strip-fits}
+use Rattle.strip.proofs.Laid.{laid_as, record_fits, strip_fits}
 use borrow.Author.Rules.{rules}
 use Rattle.strip.proofs.write.lay.Statement.{statement}
 use Rattle.strip.proofs.write.lay.Tie as tie
@@ -10,14 +10,14 @@ put-record-requires : tie.Need-put-record-requires
 put-record-requires c κs =
     let a = c.before.before.before.args in
     let p = c.before.before.before.requires in
-    (p.1, omega (arith, p.2, record-fits (lent a.version a.w a.h a.par a.tiles.now) p.1))
+    (p.1, omega (arith, p.2, record_fits (lent a.version a.w a.h a.par a.tiles.now) p.1))
 
 sub-k : tie.Need-overflow-sub-k
 sub-k c =
     let s = c.before.before.before.before.before.before in
     let a = s.args in
     let r = c.before.before.put_record in
-    let f = strip-fits a.lanes s.requires.0 (lent a.version a.w a.h a.par a.tiles.now) s.requires.1 r.result r.ensures.size in
+    let f = strip_fits a.lanes s.requires.0 (lent a.version a.w a.h a.par a.tiles.now) s.requires.1 r.result r.ensures.size in
     omega (arith, f.lanes)
 
 add-k : tie.Need-overflow-add-k
@@ -25,7 +25,7 @@ add-k c =
     let s = c.before.before.before.before.before.before in
     let a = s.args in
     let r = c.before.before.put_record in
-    let f = strip-fits a.lanes s.requires.0 (lent a.version a.w a.h a.par a.tiles.now) s.requires.1 r.result r.ensures.size in
+    let f = strip_fits a.lanes s.requires.0 (lent a.version a.w a.h a.par a.tiles.now) s.requires.1 r.result r.ensures.size in
     omega (arith, f.lanes, f.bytes)
 
 div-k : tie.Need-nonzero-div-k
@@ -33,7 +33,7 @@ div-k c =
     let s = c.before.before.before.before.before.before in
     let a = s.args in
     let r = c.before.before.put_record in
-    let f = strip-fits a.lanes s.requires.0 (lent a.version a.w a.h a.par a.tiles.now) s.requires.1 r.result r.ensures.size in
+    let f = strip_fits a.lanes s.requires.0 (lent a.version a.w a.h a.par a.tiles.now) s.requires.1 r.result r.ensures.size in
     omega (arith, f.lanes)
 
 mul-fill : tie.Need-overflow-mul-fill
@@ -41,7 +41,7 @@ mul-fill c =
     let s = c.before.before.before.before.before.before.before in
     let a = s.args in
     let r = c.before.before.before.put_record in
-    let f = strip-fits a.lanes s.requires.0 (lent a.version a.w a.h a.par a.tiles.now) s.requires.1 r.result r.ensures.size in
+    let f = strip_fits a.lanes s.requires.0 (lent a.version a.w a.h a.par a.tiles.now) s.requires.1 r.result r.ensures.size in
     omega (arith, f.front)
 
 fill-requires : tie.Need-fill-requires
@@ -49,7 +49,7 @@ fill-requires c κs =
     let s = c.before.before.before.before.before.before.before in
     let a = s.args in
     let r = c.before.before.before.put_record in
-    let f = strip-fits a.lanes s.requires.0 (lent a.version a.w a.h a.par a.tiles.now) s.requires.1 r.result r.ensures.size in
+    let f = strip_fits a.lanes s.requires.0 (lent a.version a.w a.h a.par a.tiles.now) s.requires.1 r.result r.ensures.size in
     (f.holds, omega (arith, f.front, s.requires.2))
 
 put-checks-requires : tie.Need-put-checks-requires
@@ -57,7 +57,7 @@ put-checks-requires c κs =
     let s = c.before.before.before.before.before.before.before.before.before.before.before in
     let a = s.args in
     let r = c.before.before.before.before.before.before.before.put_record in
-    let f = strip-fits a.lanes s.requires.0 (lent a.version a.w a.h a.par a.tiles.now) s.requires.1 r.result r.ensures.size in
+    let f = strip_fits a.lanes s.requires.0 (lent a.version a.w a.h a.par a.tiles.now) s.requires.1 r.result r.ensures.size in
     (f.lanes, omega (arith, f.few), omega (arith, f.cells, s.requires.2))
 
 add-result : tie.Need-overflow-add-result
@@ -65,7 +65,7 @@ add-result c =
     let s = c.before.before.before.before.before.before.before.before.before.before.before.before.before.before in
     let a = s.args in
     let r = c.before.before.before.before.before.before.before.before.before.before.put_record in
-    let f = strip-fits a.lanes s.requires.0 (lent a.version a.w a.h a.par a.tiles.now) s.requires.1 r.result r.ensures.size in
+    let f = strip_fits a.lanes s.requires.0 (lent a.version a.w a.h a.par a.tiles.now) s.requires.1 r.result r.ensures.size in
     omega (arith, f.few)
 
 mul-result : tie.Need-overflow-mul-result
@@ -73,7 +73,7 @@ mul-result c =
     let s = c.before.before.before.before.before.before.before.before.before.before.before.before.before.before in
     let a = s.args in
     let r = c.before.before.before.before.before.before.before.before.before.before.put_record in
-    let f = strip-fits a.lanes s.requires.0 (lent a.version a.w a.h a.par a.tiles.now) s.requires.1 r.result r.ensures.size in
+    let f = strip_fits a.lanes s.requires.0 (lent a.version a.w a.h a.par a.tiles.now) s.requires.1 r.result r.ensures.size in
     omega (arith, f.cells)
 
 same_length : tie.Need-same-length
@@ -84,7 +84,7 @@ returns c =
     let s = c.before.before.before.before.before.before.before.before.before.before.before.before.before.before in
     let a = s.args in
     let r = c.before.before.before.before.before.before.before.before.before.before.put_record in
-    let f = strip-fits a.lanes s.requires.0 (lent a.version a.w a.h a.par a.tiles.now) s.requires.1 r.result r.ensures.size in
+    let f = strip_fits a.lanes s.requires.0 (lent a.version a.w a.h a.par a.tiles.now) s.requires.1 r.result r.ensures.size in
     let q = c.before.before.before.before.before.before.fill in
     let k = c.before.before.put-checks in
     laid_as a.lanes (omega (arith, f.lanes)) (lent a.version a.w a.h a.par a.tiles.now) a.out.now r.new.1.1.1.1.1.0

@@ -4,7 +4,7 @@ use mathlib.Core.Logic.{inl, inr}
 use borrow.Author.Tests.{not-true, not-false}
 use Rattle.rules.proofs.Tests.{said, denied}
 use Rattle.level.specs.Strip.{LaneCount}
-use Rattle.strip.proofs.Laid.{wrote_none, wrote-strip}
+use Rattle.strip.proofs.Laid.{wrote_none, wrote_strip}
 use Rattle.level.specs.Writing.{lent}
 use Rattle.lending.proofs.Lent.{lent_level}
 use borrow.Author.Rules.{rules}
@@ -22,8 +22,8 @@ returns c =
     (inl (denied (LaneCount a.lanes) m.result (not-true m.result c.if1.true) m.ensures, refl))
 
 -- the lane count is one that can be named
-lanes-said : (c : tie.Else1) → LaneCount c.before.before.before.before.args.lanes
-lanes-said c =
+lanes_said : (c : tie.Else1) → LaneCount c.before.before.before.before.args.lanes
+lanes_said c =
     let m = c.before.named in
     said (LaneCount c.before.before.before.before.args.lanes) m.result (not-false m.result c.if1.false) m.ensures
 
@@ -31,7 +31,7 @@ returns-2 : tie.Need-returns-2
 returns-2 c =
     let a = c.before.before.before.before.before.args in
     wrote_none a.lanes (lent a.version a.w a.h a.par a.tiles.now) a.out.now 4 (λ z. omega arith)
-    (inr (lanes-said c.before, inl ((λ k. omega (arith, k, c.if2.true)), refl)))
+    (inr (lanes_said c.before, inl ((λ k. omega (arith, k, c.if2.true)), refl)))
 
 check-requires : tie.Need-check-requires
 check-requires c κs = search rules
@@ -40,12 +40,12 @@ returns-3 : tie.Need-returns-3
 returns-3 c =
     let a = c.before.before.before.before.before.before.before.args in
     wrote_none a.lanes (lent a.version a.w a.h a.par a.tiles.now) a.out.now c.before.check.result c.if3.true
-    (inr (lanes-said c.before.before.before, inr (omega (arith, c.before.before.if2.false), c.before.check.ensures)))
+    (inr (lanes_said c.before.before.before, inr (omega (arith, c.before.before.if2.false), c.before.check.ensures)))
 
 lay-requires : tie.Need-lay-requires
 lay-requires c κs =
     let a = c.before.before.before.before.before.before.before.before.args in (
-      lanes-said c.before.before.before.before,
+      lanes_said c.before.before.before.before,
       (lent_level 2 (lent a.version a.w a.h a.par a.tiles.now) c.before.before.check.result c.before.if3.false
           c.before.before.check.ensures).0,
       omega (arith, c.before.before.before.if2.false),
@@ -57,8 +57,8 @@ same_length c = search rules
 returns-4 : tie.Need-returns-4
 returns-4 c =
     let a = c.before.before.before.before.before.before.before.before.before.before.before.args in
-    wrote-strip a.lanes (lent a.version a.w a.h a.par a.tiles.now) a.out.now c.before.before.lay.new.1.1.1.1.1.1.0
-    c.before.before.before.before.before.check.result c.before.before.lay.result (lanes-said c.before.before.before.before.before.before.before)
+    wrote_strip a.lanes (lent a.version a.w a.h a.par a.tiles.now) a.out.now c.before.before.lay.new.1.1.1.1.1.1.0
+    c.before.before.before.before.before.check.result c.before.before.lay.result (lanes_said c.before.before.before.before.before.before.before)
     (omega (arith, c.before.before.before.before.before.before.if2.false)) c.before.before.before.before.if3.false
     c.before.before.before.before.before.check.ensures c.before.before.lay.ensures
 

@@ -2,7 +2,7 @@ use borrow.Author.Tests.{not-true, not-false}
 use borrow.Author.Rules.{rules}
 use Rattle.rules.proofs.Tests.{said, denied}
 use Rattle.level.specs.Level.{Sized}
-use Rattle.text.proofs.Judging.{rows-12}
+use Rattle.text.proofs.Judging.{rows_12}
 use Rattle.text.proofs.read.accept.Statement.{statement}
 use Rattle.text.proofs.read.accept.Tie as tie
 
@@ -13,7 +13,7 @@ returns : tie.Need-returns
 returns c =
     let o = c.before.before.before.before in
     let t = c.before.sized in
-    rows-12 o.args.body.now o.args.w o.args.h o.args.par o.requires.0 o.args.tiles.now
+    rows_12 o.args.body.now o.args.w o.args.h o.args.par o.requires.0 o.args.tiles.now
     (denied (Sized o.args.w o.args.h) t.result (not-true t.result c.if1.true) t.ensures)
 
 judge-requires : tie.Need-judge-requires

@@ -3,7 +3,7 @@ use Prim.Native.Nat.{◌*◌, ◌-◌}
 use native.Mathlib.Omega.{arith}
 use lib.ListN.{length, length-take}
 use borrow.Author.Rules.{rules}
-use Rattle.text.proofs.Judging.{few, layable, rows-refused, rows-read}
+use Rattle.text.proofs.Judging.{few, layable, rows_refused, rows_read}
 use Rattle.text.proofs.read.judge.Statement.{statement}
 use Rattle.text.proofs.read.judge.Tie as tie
 
@@ -35,7 +35,7 @@ returns : tie.Need-returns
 returns c =
     let o = c.before.before.before.before.before.before.before.before.before in
     let k = c.before.check in
-    rows-refused o.args.body.now o.args.w o.args.h o.args.par o.requires.0 o.requires.1 o.requires.2 _ c.before.before.before.before.before.put.ensures k.result k.ensures o.args.tiles.now
+    rows_refused o.args.body.now o.args.w o.args.h o.args.par o.requires.0 o.requires.1 o.requires.2 _ c.before.before.before.before.before.put.ensures k.result k.ensures o.args.tiles.now
     c.if1.true
 
 sub-copy : tie.Need-overflow-sub-copy
@@ -64,7 +64,7 @@ returns-2 : tie.Need-returns-2
 returns-2 c =
     let o = c.before.before.before.before.before.before.before.before.before.before.before.before.before.before.before in
     let k = c.before.before.before.before.before.before.before.check in
-    rows-read o.args.body.now o.args.w o.args.h o.args.par o.requires.0 o.requires.1 o.requires.2 _ c.before.before.before.before.before.before.before.before.before.before.before.put.ensures k.result k.ensures o.args.tiles.now _
+    rows_read o.args.body.now o.args.w o.args.h o.args.par o.requires.0 o.requires.1 o.requires.2 _ c.before.before.before.before.before.before.before.before.before.before.before.put.ensures k.result k.ensures o.args.tiles.now _
     c.before.before.before.before.before.before.if1.false c.before.before.copy.ensures
 
 pub judge-spec : {M : Type 1} → statement M

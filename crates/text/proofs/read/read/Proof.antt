@@ -1,11 +1,11 @@
 use native.Mathlib.Omega.{arith}
 use borrow.Author.Rules.{rules}
-use Rattle.text.proofs.Reading.{not-read-4, no_line, from-inside, not-rows, text-read}
+use Rattle.text.proofs.Reading.{not_read_4, no_line, from_inside, not_rows, text_read}
 use Rattle.text.proofs.read.read.Statement.{statement}
 use Rattle.text.proofs.read.read.Tie as tie
 
 returns : tie.Need-returns
-returns c = let a = c.before.before.before.args in not-read-4 a.text.now a.tiles.now (λ w. omega (arith, w, c.if1.true))
+returns c = let a = c.before.before.before.args in not_read_4 a.text.now a.tiles.now (λ w. omega (arith, w, c.if1.true))
 
 head-of-requires : tie.Need-head-of-requires
 head-of-requires c κs = search rules
@@ -20,13 +20,13 @@ sub-see : tie.Need-overflow-sub-see
 sub-see c =
     let a = c.before.before.before.before.before.args in
     let h = c.before.head_of in
-    omega (arith, from-inside a.text.now a.tiles.now (omega (arith, c.before.before.if1.false)) h.result h.ensures c.if2.false)
+    omega (arith, from_inside a.text.now a.tiles.now (omega (arith, c.before.before.if1.false)) h.result h.ensures c.if2.false)
 
 part-see-start : tie.Need-slice-bounds-see-start
 part-see-start c =
     let a = c.before.before.before.before.before.args in
     let h = c.before.head_of in
-    omega (arith, from-inside a.text.now a.tiles.now (omega (arith, c.before.before.if1.false)) h.result h.ensures c.if2.false)
+    omega (arith, from_inside a.text.now a.tiles.now (omega (arith, c.before.before.if1.false)) h.result h.ensures c.if2.false)
 
 part-see-end : tie.Need-slice-bounds-see-end
 part-see-end c = search rules
@@ -39,7 +39,7 @@ returns-3 c =
     let a = c.before.before.before.before.before.before.before.before.before.args in
     let h = c.before.before.before.before.before.head_of in
     let s = c.before.before.see in
-    not-rows a.text.now a.tiles.now (omega (arith, c.before.before.before.before.before.before.if1.false)) h.result h.ensures c.before.before.before.before.if2.false s.result s.ensures
+    not_rows a.text.now a.tiles.now (omega (arith, c.before.before.before.before.before.before.if1.false)) h.result h.ensures c.before.before.before.before.if2.false s.result s.ensures
     (λ z. omega (arith, z.0, c.if3.true))
 
 returns-4 : tie.Need-returns-4
@@ -47,20 +47,20 @@ returns-4 c =
     let a = c.before.before.before.before.before.before.before.before.before.before.before.args in
     let h = c.before.before.before.before.before.before.before.head_of in
     let s = c.before.before.before.before.see in
-    not-rows a.text.now a.tiles.now (omega (arith, c.before.before.before.before.before.before.before.before.if1.false)) h.result h.ensures c.before.before.before.before.before.before.if2.false s.result s.ensures
+    not_rows a.text.now a.tiles.now (omega (arith, c.before.before.before.before.before.before.before.before.if1.false)) h.result h.ensures c.before.before.before.before.before.before.if2.false s.result s.ensures
     (λ z. omega (arith, z.1, c.if4.true))
 
 sub-accept : tie.Need-overflow-sub-accept
 sub-accept c =
     let a = c.before.before.before.before.before.before.before.before.before.before.before.args in
     let h = c.before.before.before.before.before.before.before.head_of in
-    omega (arith, from-inside a.text.now a.tiles.now (omega (arith, c.before.before.before.before.before.before.before.before.if1.false)) h.result h.ensures c.before.before.before.before.before.before.if2.false)
+    omega (arith, from_inside a.text.now a.tiles.now (omega (arith, c.before.before.before.before.before.before.before.before.if1.false)) h.result h.ensures c.before.before.before.before.before.before.if2.false)
 
 part-accept-start : tie.Need-slice-bounds-accept-start
 part-accept-start c =
     let a = c.before.before.before.before.before.before.before.before.before.before.before.args in
     let h = c.before.before.before.before.before.before.before.head_of in
-    omega (arith, from-inside a.text.now a.tiles.now (omega (arith, c.before.before.before.before.before.before.before.before.if1.false)) h.result h.ensures c.before.before.before.before.before.before.if2.false)
+    omega (arith, from_inside a.text.now a.tiles.now (omega (arith, c.before.before.before.before.before.before.before.before.if1.false)) h.result h.ensures c.before.before.before.before.before.before.if2.false)
 
 part-accept-end : tie.Need-slice-bounds-accept-end
 part-accept-end c = search rules
@@ -81,7 +81,7 @@ returns-5 : tie.Need-returns-5
 returns-5 c =
     let a = c.before.before.before.before.before.before.before.before.before.before.before.before.before.before.before.before.args in
     let h = c.before.before.before.before.before.before.before.before.before.before.before.before.head_of in
-    text-read a.text.now a.tiles.now (omega (arith, c.before.before.before.before.before.before.before.before.before.before.before.before.before.if1.false)) h.result h.ensures c.before.before.before.before.before.before.before.before.before.before.before.if2.false _ c.before.before.accept.result
+    text_read a.text.now a.tiles.now (omega (arith, c.before.before.before.before.before.before.before.before.before.before.before.before.before.if1.false)) h.result h.ensures c.before.before.before.before.before.before.before.before.before.before.before.if2.false _ c.before.before.accept.result
     c.before.before.accept.ensures
 
 pub read_spec : {M : Type 1} → statement M

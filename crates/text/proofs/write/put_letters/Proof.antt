@@ -1,4 +1,4 @@
-use Rattle.text.proofs.Writing.{lettered, letters-next, letters-end}
+use Rattle.text.proofs.Writing.{lettered, letters_next, letters_end}
 use mathlib.Core.Path.{◌≡◌, refl, ap, ap₂, ◌∙◌}
 use mathlib.Core.List.{List}
 use Prim.Native.Nat.{ℕ, ◌+◌, ◌-◌, ◌≤◌}
@@ -50,7 +50,7 @@ loop-again c =
     let a = c.before.before.before.before.before.before.args in (
       omega arith,
       ap₂ (λ (t : List ℕ) (v : ℕ). set t (a.j + L.x) v) L.invariant.1 c.letter-of.ensures
-          ∙ letters-next a.tiles.now a.k a.text.now a.j L.x (omega arith),
+          ∙ letters_next a.tiles.now a.k a.text.now a.j L.x (omega arith),
     )
 
 add-text-2 : tie.Need-overflow-add-text-2 invariant-loop decreases-loop
@@ -74,7 +74,7 @@ returns c =
     let a = c.before.before.before.before.args in
     let e : L.x ≡ a.w = omega arith in
     ap (λ (t : List ℕ). set t (a.j + a.w) 10) (L.invariant.1 ∙ ap (λ (n : ℕ). sets a.text.now a.j (lettered a.tiles.now a.k n)) e)
-    ∙ letters-end a.tiles.now a.k a.text.now a.j a.w (omega arith)
+    ∙ letters_end a.tiles.now a.k a.text.now a.j a.w (omega arith)
 
 pub put-letters-spec : {M : Type 1} → statement M
 put-letters-spec =

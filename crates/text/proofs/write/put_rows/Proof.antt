@@ -1,4 +1,4 @@
-use Rattle.text.proofs.Writing.{row-tiles, row-bytes, rows_next}
+use Rattle.text.proofs.Writing.{row_tiles, row_bytes, rows_next}
 use Rattle.fields.proofs.Tiles.{area_small}
 use Rattle.text.proofs.Written.{rows_few}
 use Rattle.typed.specs.Text.{joined, rows_of}
@@ -25,7 +25,7 @@ mul-put-letters c =
     let a = c.before.before.before.before.args in
     let p = c.before.before.before.before.requires in
     let L = c.before.loop in
-    omega (arith, row-tiles a.w a.h L.y (omega arith), area_small a.w a.h p.2 p.3)
+    omega (arith, row_tiles a.w a.h L.y (omega arith), area_small a.w a.h p.2 p.3)
 
 add-put-letters : tie.Need-overflow-add-put-letters invariant-loop decreases-loop
 add-put-letters c = search rules
@@ -35,14 +35,14 @@ mul-put-letters-2 c =
     let a = c.before.before.before.before.before.args in
     let p = c.before.before.before.before.before.requires in
     let L = c.before.before.loop in
-    omega (arith, row-bytes a.w a.h L.y (omega arith), rows_few a.w a.h p.2 p.3)
+    omega (arith, row_bytes a.w a.h L.y (omega arith), rows_few a.w a.h p.2 p.3)
 
 add-put-letters-2 : tie.Need-overflow-add-put-letters-2 invariant-loop decreases-loop
 add-put-letters-2 c =
     let a = c.before.before.before.before.before.args in
     let p = c.before.before.before.before.before.requires in
     let L = c.before.before.loop in
-    omega (arith, row-bytes a.w a.h L.y (omega arith))
+    omega (arith, row_bytes a.w a.h L.y (omega arith))
 
 put-letters-requires : tie.Need-put-letters-requires invariant-loop decreases-loop
 put-letters-requires c κs =
@@ -51,8 +51,8 @@ put-letters-requires c κs =
     let L = c.before.before.loop in
     let long = ap length L.invariant.1 ∙ length-sets a.text.now a.j (joined (rows_of a.w L.y a.tiles.now)) in (
       p.0,
-      omega (arith, p.1, row-tiles a.w a.h L.y (omega arith)),
-      omega (arith, long, row-bytes a.w a.h L.y (omega arith)),
+      omega (arith, p.1, row_tiles a.w a.h L.y (omega arith)),
+      omega (arith, long, row_bytes a.w a.h L.y (omega arith)),
       omega (arith, p.1, area_small a.w a.h p.2 p.3),
     )
 
@@ -69,7 +69,7 @@ loop-again c =
     let L = c.before.before.before.before.before.loop in (
       omega arith,
       rows_next a.w a.text.now a.tiles.now L.text _ a.j L.y
-          (omega (arith, p.1, row-tiles a.w a.h L.y (omega arith))) L.invariant.1 c.before.before.put-letters.ensures,
+          (omega (arith, p.1, row_tiles a.w a.h L.y (omega arith))) L.invariant.1 c.before.before.put-letters.ensures,
     )
 
 same_length : tie.Need-same-length invariant-loop decreases-loop

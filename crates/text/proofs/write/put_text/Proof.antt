@@ -1,4 +1,4 @@
-use Rattle.text.proofs.Writing.{rows_fit, text-put}
+use Rattle.text.proofs.Writing.{rows_fit, text_put}
 use mathlib.Core.Path.{◌≡◌}
 use native.Mathlib.Omega.{arith}
 use lib.ListN.{length}
@@ -33,7 +33,7 @@ put-rows-requires c κs =
       il.codes,
       il.count,
       il.ranged.sized.not_wider,
-      il.ranged.sized.not-higher,
+      il.ranged.sized.not_higher,
       omega (arith, c.before.before.before.copy.auto.1.0, rows_fit a.w a.h a.par a.tiles.now a.text.now il p.1 line.result line.ensures),
     )
 
@@ -54,7 +54,7 @@ returns c =
     let a = c.before.before.before.before.before.before.before.before.before.before.before.before.before.before.args in
     let p = c.before.before.before.before.before.before.before.before.before.before.before.before.before.before.requires in
     let line = c.before.before.before.before.before.before.before.before.before.before.before.Line-of in
-    text-put a.w a.h a.par a.tiles.now a.text.now p.0 p.1 line.result line.ensures
+    text_put a.w a.h a.par a.tiles.now a.text.now p.0 p.1 line.result line.ensures
     c.before.before.before.before.before.before.copy.new.1.0 _ c.before.before.before.before.before.before.copy.ensures c.before.before.put-rows.ensures
 
 pub put-text-spec : {M : Type 1} → statement M

@@ -1,5 +1,5 @@
 use Rattle.lending.proofs.Lent.{lent_level}
-use Rattle.text.proofs.Writing.{refused-4, refused-later, wrote}
+use Rattle.text.proofs.Writing.{refused_4, refused_later, wrote}
 use Rattle.level.specs.Writing.{lent}
 use mathlib.Core.Path.{◌≡◌, subst}
 use Prim.Native.Nat.{ℕ}
@@ -13,7 +13,7 @@ use Rattle.text.proofs.write.write.Tie as tie
 returns : tie.Need-returns
 returns c =
     let a = c.before.before.before.args in
-    refused-4 (lent a.version a.w a.h a.par a.tiles.now) a.text.now (λ k. omega (arith, k, c.if1.true))
+    refused_4 (lent a.version a.w a.h a.par a.tiles.now) a.text.now (λ k. omega (arith, k, c.if1.true))
 
 check-requires : tie.Need-check-requires
 check-requires c κs = search rules
@@ -21,7 +21,7 @@ check-requires c κs = search rules
 returns-2 : tie.Need-returns-2
 returns-2 c =
     let a = c.before.before.before.before.before.args in
-    refused-later (lent a.version a.w a.h a.par a.tiles.now) a.text.now c.before.check.result (omega arith)
+    refused_later (lent a.version a.w a.h a.par a.tiles.now) a.text.now c.before.check.result (omega arith)
     (λ z. omega (arith, z, c.if2.true)) c.before.check.ensures
 
 put-text-requires : tie.Need-put-text-requires

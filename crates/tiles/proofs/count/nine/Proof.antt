@@ -2,15 +2,15 @@ use mathlib.Core.Path.{◌≡◌, ap, ◌∙◌}
 use Prim.Native.Nat.{ℕ, ◌+◌, ◌*◌, ◌/◌, ◌%◌, ◌≤◌}
 use native.Mathlib.Omega.{arith}
 use borrow.Author.Rules.{rules}
-use Rattle.tiles.specs.Sum.{weighed, triplesOf}
-use Rattle.tiles.proofs.Rows.{weighed-small}
-use Rattle.tiles.proofs.Counting.{triples-next, triples_none}
+use Rattle.tiles.specs.Sum.{weighed, triples_of}
+use Rattle.tiles.proofs.Rows.{weighed_small}
+use Rattle.tiles.proofs.Counting.{triples_next, triples_none}
 use Rattle.tiles.proofs.count.nine.Statement.{statement}
 use Rattle.tiles.proofs.count.nine.Tie as tie
 
 abbrev invariant-loop : tie.invariant-loop
 invariant-loop v z t₀ u₀ s₀ n₀ t u s n =
-    (n ≤ 8) × (s + 3377699720527872 * n ≤ 27021597764222976) × (s + triplesOf weighed n (u * 512 + t % 512) ≡ triplesOf weighed 8 (v * 256 + z))
+    (n ≤ 8) × (s + 3377699720527872 * n ≤ 27021597764222976) × (s + triples_of weighed n (u * 512 + t % 512) ≡ triples_of weighed 8 (v * 256 + z))
 
 abbrev decreases-loop : tie.decreases-loop
 decreases-loop v z t₀ u₀ s₀ n₀ t u s n = n
@@ -29,7 +29,7 @@ loop-holds c =
     let v = c.before.args.v in
     let z = c.before.args.z in
     let e : v / 2 * 512 + (v % 2 * 256 + c.wide.result) % 512 ≡ v * 256 + z = omega (arith, c.wide.ensures) in
-    (omega arith, omega arith, ap (λ (m : ℕ). 0 + triplesOf weighed 8 m) e ∙ omega arith)
+    (omega arith, omega arith, ap (λ (m : ℕ). 0 + triples_of weighed 8 m) e ∙ omega arith)
 
 three-requires : tie.Need-three-requires invariant-loop decreases-loop
 three-requires c κs = search rules
@@ -37,7 +37,7 @@ three-requires c κs = search rules
 add-s : tie.Need-overflow-add-s invariant-loop decreases-loop
 add-s c =
     let t = c.before.before.loop.t in
-    omega (arith, c.three.ensures, weighed-small (t % 512 / 64), weighed-small (t % 512 / 8 % 8), weighed-small (t % 512 % 8))
+    omega (arith, c.three.ensures, weighed_small (t % 512 / 64), weighed_small (t % 512 / 8 % 8), weighed_small (t % 512 % 8))
 
 sub-n : tie.Need-overflow-sub-n invariant-loop decreases-loop
 sub-n c = search rules
@@ -50,8 +50,8 @@ loop-again c =
     let l = c.before.before.loop in
     let t = l.t in (
       omega arith,
-      omega (arith, c.three.ensures, weighed-small (t % 512 / 64), weighed-small (t % 512 / 8 % 8), weighed-small (t % 512 % 8)),
-      omega (arith, c.three.ensures, triples-next weighed l.n t l.u (omega arith), l.invariant.2),
+      omega (arith, c.three.ensures, weighed_small (t % 512 / 64), weighed_small (t % 512 / 8 % 8), weighed_small (t % 512 % 8)),
+      omega (arith, c.three.ensures, triples_next weighed l.n t l.u (omega arith), l.invariant.2),
     )
 
 returns : tie.Need-returns invariant-loop decreases-loop

@@ -1,7 +1,7 @@
 use Prim.Native.Nat.{◌/◌, ◌%◌}
 use native.Mathlib.Omega.{arith}
 use borrow.Author.Rules.{rules}
-use Rattle.tiles.proofs.Rows.{weighed-small}
+use Rattle.tiles.proofs.Rows.{weighed_small}
 use Rattle.tiles.proofs.count.pair.Statement.{statement}
 use Rattle.tiles.proofs.count.pair.Tie as tie
 
@@ -20,7 +20,7 @@ weigh-requires-2 c κs = search rules
 add-result : tie.Need-overflow-add-result
 add-result c =
     let a = c.before.before.args.a in
-    omega (arith, weighed-small (a / 8), weighed-small (a % 8), c.before.weigh.ensures, c.weigh2.ensures)
+    omega (arith, weighed_small (a / 8), weighed_small (a % 8), c.before.weigh.ensures, c.weigh2.ensures)
 
 returns : tie.Need-returns
 returns c = search rules

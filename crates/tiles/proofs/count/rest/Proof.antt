@@ -4,14 +4,14 @@ use native.Mathlib.Omega.{arith}
 use borrow.Author.Rules.{rules}
 use lib.ListN.{length}
 use Rattle.account.specs.Lists.{sum_of}
-use Rattle.tiles.specs.Sum.{weighed, addsAt, pairsOf}
-use Rattle.tiles.proofs.Counting.{sum-next, ended}
+use Rattle.tiles.specs.Sum.{weighed, adds_at, pairs_of}
+use Rattle.tiles.proofs.Counting.{sum_next, ended}
 use Rattle.tiles.proofs.count.rest.Statement.{statement}
 use Rattle.tiles.proofs.count.rest.Tie as tie
 
 abbrev invariant-loop : tie.invariant-loop
 invariant-loop part g rows x₀ h₀ x h =
-    (g ≤ h) × (3 * h ≤ length part + 2) × (x ≤ 9007199254740992 * (h - g)) × (sum_of (8 * g) (addsAt part) + x ≡ sum_of (8 * h) (addsAt part))
+    (g ≤ h) × (3 * h ≤ length part + 2) × (x ≤ 9007199254740992 * (h - g)) × (sum_of (8 * g) (adds_at part) + x ≡ sum_of (8 * h) (adds_at part))
 
 abbrev decreases-loop : tie.decreases-loop
 decreases-loop part g rows x₀ h₀ x h = length part - 3 * h
@@ -45,11 +45,11 @@ loop-again c =
     let l = c.before.before.before.before.loop in
     let part = c.before.before.before.before.before.before.before.args.part.now in
     let k = c.before.before.before.before.before.before.shared-slice-known.given in
-    let e = c.eight.ensures.0 ∙ ap (pairsOf weighed 4) c.before.last.ensures in (
+    let e = c.eight.ensures.0 ∙ ap (pairs_of weighed 4) c.before.last.ensures in (
       omega arith,
       omega arith,
       omega (arith, c.eight.ensures.1, l.invariant.2),
-      omega (arith, e, sum-next weighed part l.h (λ q. omega (arith, k q)), l.invariant.3),
+      omega (arith, e, sum_next weighed part l.h (λ q. omega (arith, k q)), l.invariant.3),
     )
 
 returns : tie.Need-returns invariant-loop decreases-loop

@@ -4,9 +4,9 @@ use native.Mathlib.Omega.{arith}
 use borrow.Author.Rules.{rules}
 use lib.ListN.{length, get_or}
 use Rattle.account.specs.Lists.{sum_of}
-use Rattle.tiles.specs.Sum.{weighed, addsAt, triplesOf}
+use Rattle.tiles.specs.Sum.{weighed, adds_at, triples_of}
 use Rattle.tiles.specs.Word.{word_at}
-use Rattle.tiles.proofs.Counting.{nine-next}
+use Rattle.tiles.proofs.Counting.{nine_next}
 use Rattle.tiles.proofs.count.tally.Statement.{statement}
 use Rattle.tiles.proofs.count.tally.Tie as tie
 
@@ -16,7 +16,7 @@ none f = refl
 
 abbrev invariant-loop : tie.invariant-loop
 invariant-loop part zero x₀ k₀ x k =
-    (k ≤ 41) × (9 * k ≤ length part) × (x ≤ 27021597764222976 * k) × (x ≡ sum_of (8 * (3 * k)) (addsAt part))
+    (k ≤ 41) × (9 * k ≤ length part) × (x ≤ 27021597764222976 * k) × (x ≡ sum_of (8 * (3 * k)) (adds_at part))
 
 abbrev decreases-loop : tie.decreases-loop
 decreases-loop part zero x₀ k₀ x k = length part - 9 * k
@@ -65,12 +65,12 @@ loop-again c =
     let l = c.before.before.before.before.loop in
     let part = c.before.before.before.before.before.before.args.part.now in
     let b = c.before.before.before.before.before.shared-slice-known.given in
-    let e : c.nine.result ≡ triplesOf weighed 8 (word_at part (9 * l.k) * 256 + get_or part (9 * l.k + 8) 0)
-    = c.nine.ensures.0 ∙ ap (triplesOf weighed 8) (omega (arith, c.before.before.word.ensures)) in (
+    let e : c.nine.result ≡ triples_of weighed 8 (word_at part (9 * l.k) * 256 + get_or part (9 * l.k + 8) 0)
+    = c.nine.ensures.0 ∙ ap (triples_of weighed 8) (omega (arith, c.before.before.word.ensures)) in (
       omega arith,
       omega arith,
       omega (arith, c.nine.ensures.1, l.invariant.2),
-      omega (arith, e, nine-next weighed part l.k (λ q. omega (arith, b q)), l.invariant.3),
+      omega (arith, e, nine_next weighed part l.k (λ q. omega (arith, b q)), l.invariant.3),
     )
 
 mul-rest : tie.Need-overflow-mul-rest invariant-loop decreases-loop

@@ -1,7 +1,7 @@
 use mathlib.Core.Path.{◌∙◌}
 use Prim.Native.Nat.{◌+◌}
 use native.Mathlib.Omega.{arith}
-use Rattle.tiles.proofs.Word.{or-eight}
+use Rattle.tiles.proofs.Word.{or_eight}
 use borrow.Author.Rules.{rules}
 use Rattle.tiles.proofs.group.word.Statement.{statement}
 use Rattle.tiles.proofs.group.word.Tie as tie
@@ -88,7 +88,7 @@ returns c =
     let x5 = c.before.before.before.before.wide6 in
     let x6 = c.before.before.wide7 in
     let x7 = c.wide8 in
-    or-eight x0.result x1.result x2.result x3.result x4.result x5.result x6.result x7.result
+    or_eight x0.result x1.result x2.result x3.result x4.result x5.result x6.result x7.result
     (omega (arith, k i, x0.ensures)) (omega (arith, k (i + 1), x1.ensures))
     (omega (arith, k (i + 2), x2.ensures)) (omega (arith, k (i + 3), x3.ensures))
     (omega (arith, k (i + 4), x4.ensures)) (omega (arith, k (i + 5), x5.ensures))

@@ -4,7 +4,7 @@ use native.Mathlib.Omega.{arith}
 use borrow.Author.Rules.{rules}
 use lib.ListN.{length, get_or, length-set}
 use Rattle.tiles.specs.Put.{byte_of}
-use Rattle.tiles.proofs.Putting.{left-next, put_next, before-next, past_next}
+use Rattle.tiles.proofs.Putting.{left_next, put_next, before_next, past_next}
 use Rattle.tiles.proofs.put.put_rest.Statement.{statement}
 use Rattle.tiles.proofs.put.put_rest.Tie as tie
 
@@ -53,9 +53,9 @@ loop-again c =
       omega arith,
       omega arith,
       simp length-set l.invariant.2,
-      left-next a.out.now l.out a.k l.i a.w l.u l.invariant.0 room l.invariant.3,
+      left_next a.out.now l.out a.k l.i a.w l.u l.invariant.0 room l.invariant.3,
       put_next a.out.now l.out a.k l.i a.w l.u l.invariant.0 room l.invariant.3 l.invariant.4,
-      before-next a.out.now l.out a.k l.i a.w l.u l.invariant.0 room l.invariant.5,
+      before_next a.out.now l.out a.k l.i a.w l.u l.invariant.0 room l.invariant.5,
       past_next a.out.now l.out a.k l.i a.w l.u l.invariant.0 room l.invariant.6,
     )
 

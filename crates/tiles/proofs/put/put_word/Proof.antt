@@ -1,7 +1,7 @@
 use native.Mathlib.Omega.{arith}
 use lib.ListN.{length-set}
 use Rattle.tiles.specs.Put.{byte_of}
-use Rattle.tiles.proofs.Putting.{word-puts}
+use Rattle.tiles.proofs.Putting.{word_puts}
 use borrow.Author.Rules.{rules}
 use Rattle.tiles.proofs.put.put_word.Statement.{statement}
 use Rattle.tiles.proofs.put.put_word.Tie as tie
@@ -82,7 +82,7 @@ returns : tie.Need-returns
 unfolding byte_of
 returns c =
     let a = c.args in
-    word-puts a.out.now a.k a.w _ _ _ _ _ _ _ _ c.requires
+    word_puts a.out.now a.k a.w _ _ _ _ _ _ _ _ c.requires
     (omega arith) (omega arith) (omega arith) (omega arith) (omega arith) (omega arith) (omega arith) (omega arith)
 
 pub put-word-spec : {M : Type 1} → statement M

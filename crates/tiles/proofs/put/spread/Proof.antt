@@ -1,7 +1,7 @@
 use Prim.Native.Nat.{ℕ, ◌<◌}
 use native.Mathlib.Omega.{arith}
 use borrow.Author.Rules.{rules}
-use Rattle.tiles.proofs.Putting.{spread-sum, pair_small, sum-small}
+use Rattle.tiles.proofs.Putting.{spread_sum, pair_small, sum_small}
 use Rattle.tiles.proofs.put.spread.Statement.{statement}
 use Rattle.tiles.proofs.put.spread.Tie as tie
 
@@ -27,7 +27,7 @@ add-result-2 : tie.Need-overflow-add-result-2
 add-result-2 c =
     let a = c.before.before.before.args in
     record {
-      fits = sum-small a.x a.y a.z c.before.before.first.result c.before.second.result c.third.result (omega arith) (omega arith)
+      fits = sum_small a.x a.y a.z c.before.before.first.result c.before.second.result c.third.result (omega arith) (omega arith)
           (omega arith) c.before.before.first.ensures c.before.second.ensures c.third.ensures;
     }
 
@@ -39,7 +39,7 @@ returns c =
       c.before.before.first.ensures,
       c.before.second.ensures,
       c.third.ensures,
-      spread-sum a.x a.y a.z (omega arith) (omega arith) (omega arith),
+      spread_sum a.x a.y a.z (omega arith) (omega arith) (omega arith),
     )
 
 pub spread-spec : {M : Type 1} → statement M

@@ -3,7 +3,7 @@ use Prim.Native.Nat.{◌-◌, ◌≤◌, ◌<◌}
 use native.Mathlib.Omega.{arith}
 use borrow.Author.Rules.{rules}
 use Rattle.tiles.specs.Put.{spread_of}
-use Rattle.tiles.proofs.Putting.{limit, limit-4, limit-next, limit-top, spread-next, spread_none}
+use Rattle.tiles.proofs.Putting.{limit, limit_4, limit_next, limit_top, spread_next, spread_none}
 use Rattle.tiles.proofs.put.spread_last.Statement.{statement}
 use Rattle.tiles.proofs.put.spread_last.Tie as tie
 
@@ -14,16 +14,16 @@ abbrev decreases-loop : tie.decreases-loop
 decreases-loop v u₀ s₀ n₀ u s n = n
 
 loop-holds : tie.Need-loop-init invariant-loop decreases-loop
-loop-holds c = (omega arith, limit-4, refl)
+loop-holds c = (omega arith, limit_4, refl)
 
 mul-s : tie.Need-overflow-mul-s invariant-loop decreases-loop
-mul-s c = let l = c.before.loop in omega (arith, l.invariant.1, limit-next l.n (omega arith), limit-top (l.n - 1))
+mul-s c = let l = c.before.loop in omega (arith, l.invariant.1, limit_next l.n (omega arith), limit_top (l.n - 1))
 
 two-requires : tie.Need-two-requires invariant-loop decreases-loop
 two-requires c κs = search rules
 
 add-s : tie.Need-overflow-add-s invariant-loop decreases-loop
-add-s c = let l = c.before.before.loop in omega (arith, c.two.ensures, l.invariant.1, limit-next l.n (omega arith), limit-top (l.n - 1))
+add-s c = let l = c.before.before.loop in omega (arith, c.two.ensures, l.invariant.1, limit_next l.n (omega arith), limit_top (l.n - 1))
 
 sub-n : tie.Need-overflow-sub-n invariant-loop decreases-loop
 sub-n c = search rules
@@ -35,8 +35,8 @@ loop-again : tie.Need-loop-preserved invariant-loop decreases-loop
 loop-again c =
     let l = c.before.before.loop in (
       omega arith,
-      omega (arith, c.two.ensures, l.invariant.1, limit-next l.n (omega arith)),
-      sym (spread-next l.n l.u l.s c.two.result (omega arith) c.two.ensures) ∙ l.invariant.2,
+      omega (arith, c.two.ensures, l.invariant.1, limit_next l.n (omega arith)),
+      sym (spread_next l.n l.u l.s c.two.result (omega arith) c.two.ensures) ∙ l.invariant.2,
     )
 
 returns : tie.Need-returns invariant-loop decreases-loop

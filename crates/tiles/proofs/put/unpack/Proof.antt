@@ -5,7 +5,7 @@ use borrow.Author.Rules.{rules}
 use lib.ListN.{length, get_or}
 use Rattle.level.specs.Record.{field_at}
 use Rattle.tiles.specs.Put.{spread_of}
-use Rattle.tiles.proofs.Putting.{tiles-next, tiles-put}
+use Rattle.tiles.proofs.Putting.{tiles_next, tiles_put}
 use Rattle.tiles.proofs.put.unpack.Statement.{statement}
 use Rattle.tiles.proofs.put.unpack.Tie as tie
 
@@ -71,7 +71,7 @@ loop-again c =
     let p = c.before.before.put_word in (
       omega arith,
       p.auto.0 ∙ l.invariant.1,
-      λ i h r. tiles-next a.part.now l.tiles p.new.0 l.g (8 * l.g + 8) w.result (λ q. omega (arith, k q)) w.ensures p.ensures
+      λ i h r. tiles_next a.part.now l.tiles p.new.0 l.g (8 * l.g + 8) w.result (λ q. omega (arith, k q)) w.ensures p.ensures
           (λ j x y. l.invariant.2 j x (omega arith)) i h (omega arith),
       λ i h. p.ensures.past i (omega arith) ∙ l.invariant.3 i (omega arith),
     )
@@ -86,7 +86,7 @@ returns : tie.Need-returns invariant-loop decreases-loop
 returns c =
     let a = c.before.before.before.before.before.args in
     let l = c.before.before.loop in
-    tiles-put a.part.now a.tiles.now l.tiles a.m (omega arith) l.invariant.1 (λ i h. l.invariant.2 i (omega arith) h) (λ i h. l.invariant.3 i (omega arith))
+    tiles_put a.part.now a.tiles.now l.tiles a.m (omega arith) l.invariant.1 (λ i h. l.invariant.2 i (omega arith) h) (λ i h. l.invariant.3 i (omega arith))
 
 mul-put-rest : tie.Need-overflow-mul-put-rest invariant-loop decreases-loop
 mul-put-rest c = search rules
@@ -112,8 +112,8 @@ returns-2 c =
     let t = c.before.before.before.before.last in
     let w = c.before.before.before.spread-last in
     let p = c.before.before.put_rest in
-    tiles-put a.part.now a.tiles.now p.new.0 a.m (omega arith) (p.auto.0 ∙ l.invariant.1)
-    (λ i h. tiles-next a.part.now l.tiles p.new.0 (a.m / 8) a.m w.result (λ q. omega (arith, k q))
+    tiles_put a.part.now a.tiles.now p.new.0 a.m (omega arith) (p.auto.0 ∙ l.invariant.1)
+    (λ i h. tiles_next a.part.now l.tiles p.new.0 (a.m / 8) a.m w.result (λ q. omega (arith, k q))
     (w.ensures ∙ ap (λ (v : ℕ). spread_of 4 v 0) t.ensures) p.ensures
     (λ j x y. l.invariant.2 j (omega arith) y) i (omega arith) h)
     (λ i h. p.ensures.past i h ∙ l.invariant.3 i (omega arith))

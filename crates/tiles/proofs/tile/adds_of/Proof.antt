@@ -17,15 +17,15 @@ rows = row 0 0 0 0 ∷ row 0 0 0 0 ∷ row 0 1 0 1 ∷ row 0 0 1 0 ∷ row 0 1 1
 
 right : (t : ℕ) → Same (get_or rows t (row 0 0 0 0)) (adds t)
 unfolding rows row
-right zero = record { player-is = refl; crate-is = refl; goal-is = refl; off-is = refl }
-right (suc zero) = record { player-is = refl; crate-is = refl; goal-is = refl; off-is = refl }
-right (suc (suc zero)) = record { player-is = refl; crate-is = refl; goal-is = refl; off-is = refl }
-right (suc (suc (suc zero))) = record { player-is = refl; crate-is = refl; goal-is = refl; off-is = refl }
-right (suc (suc (suc (suc zero)))) = record { player-is = refl; crate-is = refl; goal-is = refl; off-is = refl }
-right (suc (suc (suc (suc (suc zero))))) = record { player-is = refl; crate-is = refl; goal-is = refl; off-is = refl }
-right (suc (suc (suc (suc (suc (suc zero)))))) = record { player-is = refl; crate-is = refl; goal-is = refl; off-is = refl }
-right (suc (suc (suc (suc (suc (suc (suc zero))))))) = record { player-is = refl; crate-is = refl; goal-is = refl; off-is = refl }
-right (suc (suc (suc (suc (suc (suc (suc (suc t)))))))) = record { player-is = refl; crate-is = refl; goal-is = refl; off-is = refl }
+right zero = record { player_is = refl; crate_is = refl; goal_is = refl; off_is = refl }
+right (suc zero) = record { player_is = refl; crate_is = refl; goal_is = refl; off_is = refl }
+right (suc (suc zero)) = record { player_is = refl; crate_is = refl; goal_is = refl; off_is = refl }
+right (suc (suc (suc zero))) = record { player_is = refl; crate_is = refl; goal_is = refl; off_is = refl }
+right (suc (suc (suc (suc zero)))) = record { player_is = refl; crate_is = refl; goal_is = refl; off_is = refl }
+right (suc (suc (suc (suc (suc zero))))) = record { player_is = refl; crate_is = refl; goal_is = refl; off_is = refl }
+right (suc (suc (suc (suc (suc (suc zero)))))) = record { player_is = refl; crate_is = refl; goal_is = refl; off_is = refl }
+right (suc (suc (suc (suc (suc (suc (suc zero))))))) = record { player_is = refl; crate_is = refl; goal_is = refl; off_is = refl }
+right (suc (suc (suc (suc (suc (suc (suc (suc t)))))))) = record { player_is = refl; crate_is = refl; goal_is = refl; off_is = refl }
 
 mul-result : tie.Need-overflow-mul-result
 mul-result c = search rules

@@ -1,4 +1,4 @@
-use Rattle.tiles.proofs.Rows.{weighed-out}
+use Rattle.tiles.proofs.Rows.{weighed_out}
 use native.Mathlib.Omega.{arith}
 use mathlib.Core.Path.{sym, ◌∙◌}
 use borrow.Author.Rules.{rules}
@@ -18,7 +18,7 @@ element-copy-out-result-2 : tie.Need-element-copy-out-result-2
 element-copy-out-result-2 c = search rules
 
 returns-2 : tie.Need-returns-2
-returns-2 c = let a = c.before.before.args in c.before.before.requires.other ∙ sym (weighed-out a.t (omega arith))
+returns-2 c = let a = c.before.before.args in c.before.before.requires.other ∙ sym (weighed_out a.t (omega arith))
 
 pub weigh-spec : {M : Type 1} → statement M
 weigh-spec =

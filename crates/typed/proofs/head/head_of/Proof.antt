@@ -7,8 +7,8 @@ use borrow.Author.Tests.{not-true, not-false}
 use borrow.Author.Rules.{rules}
 use Rattle.rules.proofs.Tests.{said, denied}
 use Rattle.typed.specs.Parts.{Starts}
-use Rattle.typed.proofs.Lines.{line-part}
-use Rattle.typed.proofs.Heads.{head-large, head-other, head_read}
+use Rattle.typed.proofs.Lines.{line_part}
+use Rattle.typed.proofs.Heads.{head_large, head_other, head_read}
 use Rattle.typed.proofs.head.head_of.Statement.{statement}
 use Rattle.typed.proofs.head.head_of.Tie as tie
 
@@ -21,7 +21,7 @@ none-requires c κs = search rules
 returns : tie.Need-returns
 returns c =
     let n = c.before.before.number in
-    head-large c.before.before.before.before.args.text.now n.result n.ensures c.before.if1.true c.none.result c.none.ensures
+    head_large c.before.before.before.before.args.text.now n.result n.ensures c.before.if1.true c.none.result c.none.ensures
 
 line-of-requires : tie.Need-line-of-requires
 line-of-requires c κs = search rules
@@ -50,9 +50,9 @@ returns-2 c =
     let l = c.before.before.before.before.before.before.Line-of in
     let t = c.before.before.starts in
     let text = c.before.before.before.before.before.before.before.before.before.before.args.text.now in
-    head-other text n.result n.ensures
+    head_other text n.result n.ensures
     (λ s. denied (Starts _ text) t.result (not-true t.result c.before.if2.true) t.ensures
-    (subst (λ (x : List ℕ). Starts x text) (sym (line-part n.result l.result l.ensures)) s))
+    (subst (λ (x : List ℕ). Starts x text) (sym (line_part n.result l.result l.ensures)) s))
     c.none2.result c.none2.ensures
 
 returns-3 : tie.Need-returns-3
@@ -62,7 +62,7 @@ returns-3 c =
     let t = c.before.starts in
     let text = c.before.before.before.before.before.before.before.before.before.args.text.now in
     head_read text n.result l.result.len (omega (arith, c.before.before.before.before.before.before.if1.false)) l.ensures.size
-    (subst (λ (x : List ℕ). Starts x text) (line-part n.result l.result l.ensures)
+    (subst (λ (x : List ℕ). Starts x text) (line_part n.result l.result l.ensures)
     (said (Starts _ text) t.result (not-false t.result c.if2.false) t.ensures))
 
 pub head-of-spec : {M : Type 1} → statement M

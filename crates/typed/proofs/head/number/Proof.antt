@@ -4,7 +4,7 @@ use native.Mathlib.Omega.{arith}
 use borrow.Author.Rules.{rules}
 use lib.ListN.{drop}
 use Rattle.typed.specs.Parts.{spelled}
-use Rattle.typed.proofs.Heads.{stops-low, stops-high, goes_on, small, grows}
+use Rattle.typed.proofs.Heads.{stops_low, stops_high, goes_on, small, grows}
 use Rattle.typed.proofs.head.number.Statement.{statement}
 use Rattle.typed.proofs.head.number.Tie as tie
 
@@ -24,13 +24,13 @@ returns : tie.Need-returns invariant-loop decreases-loop
 returns c =
     let o = c.before.before.before.before.before in
     let l = c.before.before.before.loop in
-    sym (stops-low o.args.text.now l.i l.n (omega (arith, c.before.cell.ensures, c.if1.true))) ∙ l.invariant.3
+    sym (stops_low o.args.text.now l.i l.n (omega (arith, c.before.cell.ensures, c.if1.true))) ∙ l.invariant.3
 
 returns-2 : tie.Need-returns-2 invariant-loop decreases-loop
 returns-2 c =
     let o = c.before.before.before.before.before.before in
     let l = c.before.before.before.before.loop in
-    sym (stops-high o.args.text.now l.i l.n (omega (arith, c.before.before.cell.ensures, c.if2.true))) ∙ l.invariant.3
+    sym (stops_high o.args.text.now l.i l.n (omega (arith, c.before.before.cell.ensures, c.if2.true))) ∙ l.invariant.3
 
 mul-n : tie.Need-overflow-mul-n invariant-loop decreases-loop
 mul-n c = let l = c.before.before.before.before.loop in omega (arith, small l.i l.n (omega arith) l.invariant.2)

@@ -3,7 +3,7 @@ use Prim.Native.Nat.{◌-◌, ◌≤◌}
 use native.Mathlib.Omega.{arith}
 use borrow.Author.Rules.{rules}
 use lib.ListN.{length, take}
-use Rattle.typed.proofs.Heads.{too_short, unlike, alike-more, alike_all}
+use Rattle.typed.proofs.Heads.{too_short, unlike, alike_more, alike_all}
 use Rattle.typed.proofs.head.starts.Statement.{statement}
 use Rattle.typed.proofs.head.starts.Tie as tie
 
@@ -40,7 +40,7 @@ loop-again : tie.Need-loop-preserved invariant-loop decreases-loop
 loop-again c =
     let a = c.before.before.before.before.before.before.args in
     let l = c.before.before.before.before.loop in
-    (omega arith, alike-more a.line.now a.text.now l.i (omega arith) (omega (arith, c.before.before.before.before.before.if1.false)) (omega (arith, c.if2.false)) l.invariant.1)
+    (omega arith, alike_more a.line.now a.text.now l.i (omega arith) (omega (arith, c.before.before.before.before.before.if1.false)) (omega (arith, c.if2.false)) l.invariant.1)
 
 returns-3 : tie.Need-returns-3 invariant-loop decreases-loop
 returns-3 c =

@@ -1,38 +1,38 @@
 use mathlib.Core.Path.{◌≡◌, sym, ap}
 use native.Mathlib.Omega.{arith}
-use Rattle.typed.specs.Letters.{letterOf}
+use Rattle.typed.specs.Letters.{letter_of}
 use Rattle.typed.proofs.letters.letter_of.Statement.{statement}
 use Rattle.typed.proofs.letters.letter_of.Tie as tie
 
 returns : tie.Need-returns
-unfolding letterOf
-returns c = ap letterOf (sym c.match.keys1)
+unfolding letter_of
+returns c = ap letter_of (sym c.match.keys1)
 
 returns-2 : tie.Need-returns-2
-unfolding letterOf
-returns-2 c = ap letterOf (sym c.match.keys2)
+unfolding letter_of
+returns-2 c = ap letter_of (sym c.match.keys2)
 
 returns-3 : tie.Need-returns-3
-unfolding letterOf
-returns-3 c = ap letterOf (sym c.match.keys3)
+unfolding letter_of
+returns-3 c = ap letter_of (sym c.match.keys3)
 
 returns-4 : tie.Need-returns-4
-unfolding letterOf
-returns-4 c = ap letterOf (sym c.match.keys4)
+unfolding letter_of
+returns-4 c = ap letter_of (sym c.match.keys4)
 
 returns-5 : tie.Need-returns-5
-unfolding letterOf
-returns-5 c = ap letterOf (sym c.match.keys5)
+unfolding letter_of
+returns-5 c = ap letter_of (sym c.match.keys5)
 
 returns-6 : tie.Need-returns-6
-unfolding letterOf
-returns-6 c = ap letterOf (sym c.match.keys6)
+unfolding letter_of
+returns-6 c = ap letter_of (sym c.match.keys6)
 
 returns-7 : tie.Need-returns-7
-unfolding letterOf
+unfolding letter_of
 returns-7 c =
     let e : c.before.args.t ≡ 6 = omega (arith, c.match.rest, c.before.requires) in
-    ap letterOf (sym e)
+    ap letter_of (sym e)
 
 pub letter-of-spec : {M : Type 1} → statement M
 letter-of-spec =

@@ -2,7 +2,7 @@ use Prim.Native.Nat.{◌-◌, ◌≤◌}
 use native.Mathlib.Omega.{arith}
 use borrow.Author.Rules.{rules}
 use lib.ListN.{length}
-use Rattle.typed.proofs.Laying.{LaidTo, lettered, fits-board, laid_none, next-free, laid_more, laid-all}
+use Rattle.typed.proofs.Laying.{LaidTo, lettered, fits_board, laid_none, next_free, laid_more, laid_all}
 use Rattle.typed.proofs.rows.put.Statement.{statement}
 use Rattle.typed.proofs.rows.put.Tie as tie
 
@@ -25,13 +25,13 @@ place-requires c κs =
     let o = c.before.before.before.before.before.before in
     let l = c.before.before.before.loop in
     let L = l.invariant.1 in
-    let room = fits-board o.args.body.now o.args.board.now o.args.w o.requires in (
+    let room = fits_board o.args.body.now o.args.board.now o.args.w o.requires in (
       omega (arith, L.inside, o.requires.not_wider, o.requires.few),
       λ k. (
         lettered o.args.body.now o.args.board.now o.args.w o.requires l.i (omega arith) k,
         omega (
           arith,
-          next-free o.args.body.now l.board o.args.w (length o.args.board.now) l.i l.at L room (omega arith) k,
+          next_free o.args.body.now l.board o.args.w (length o.args.board.now) l.i l.at L room (omega arith) k,
           L.long,
         ),
       ),
@@ -49,7 +49,7 @@ loop-again c =
     let l = c.before.before.before.before.before.before.loop in (
       omega arith,
       laid_more o.args.body.now l.board o.args.w (length o.args.board.now) l.i l.at l.invariant.1
-          (fits-board o.args.body.now o.args.board.now o.args.w o.requires) (omega arith) _ _
+          (fits_board o.args.body.now o.args.board.now o.args.w o.requires) (omega arith) _ _
           c.before.before.place.ensures,
     )
 
@@ -60,7 +60,7 @@ returns : tie.Need-returns invariant-loop decreases-loop
 returns c =
     let o = c.before.before.before.before in
     let l = c.before.loop in
-    laid-all o.args.body.now o.args.board.now o.args.w o.requires l.board l.i l.at (omega arith) l.invariant.1
+    laid_all o.args.body.now o.args.board.now o.args.w o.requires l.board l.i l.at (omega arith) l.invariant.1
 
 pub put_spec : {M : Type 1} → statement M
 put_spec =

@@ -48,7 +48,7 @@ module _ (O : Ops) (F : IsField O) where
   pow_some k e = one_some (sym (pow_back k) ∙ ap (λ (y : ℕ). y ⊗ pow α⁻¹ k) e ∙ laws.zero_mul O F (pow α⁻¹ k))
 
   pub back_some : (k : ℕ) → pow α⁻¹ k ≢ 0
-  back_some k e = one_some (sym (pow_back k) ∙ ap (λ (y : ℕ). pow α k ⊗ y) e ∙ laws.mul-zero O F (pow α k))
+  back_some k e = one_some (sym (pow_back k) ∙ ap (λ (y : ℕ). pow α k ⊗ y) e ∙ laws.mul_zero O F (pow α k))
 
   pow_less : (i j : ℕ) → i < j → j < order → pow α i ≢ pow α j
   pow_less i j l h e =

@@ -1,4 +1,5 @@
 // Levels, records and strips are in specs/, with what is true of them in proofs/. Here are the newest version of specs/Level.antt, and the sizes that specs/Sizes.antt names.
+#![tactic(auto)]
 
 // The newest version of levels.
 pub const NEWEST: usize = 2;

@@ -1,6 +1,7 @@
 // What a byte at a power from 5 to 9 comes to modulo the generator, five packed bytes: a table for each power; and what a half byte
 // of a remainder adds to the five sums. A `match` is static data, so nothing is copied. The entries stand once more in
 // specs/Tables.antt, where their rule is tested.
+#![tactic(auto)]
 ghost use Rattle.std.specs.Prelude.{◌≡◌, ◌<◌, get_or};
 ghost use Rattle.reductions.specs.Tables.{fifth, sixth, seventh, eighth, ninth, halves};
 

@@ -1,6 +1,7 @@
 // The remainder of a word by the generator, and what is made of it: the test, the check bytes, and the five sums, which are those
 // of the remainder. Five bytes are packed in one number, the highest power on top. One pass serves a word and the lanes of a strip,
 // whose chains of steps need not wait for each other.
+#![tactic(auto)]
 ghost use Rattle.std.specs.Prelude.{◌≡◌, ◌+◌, ◌*◌, ◌/◌, ◌%◌, ◌<◌, ◌≤◌, length};
 ghost use Rattle.account.specs.Code.{syndrome};
 ghost use Rattle.gf256.specs.Gf256.{gf256};

@@ -1,0 +1,6 @@
+use native.Mathlib.Omega.{arith}
+use borrow.Author.Rules.{rules}
+use Rattle.gf256.proofs.half.Goals as goal
+
+pub returns : goal.returns
+returns c = c.requires.half_at c.args.c (omega arith)

@@ -1,0 +1,5 @@
+use Rattle.std.proofs.Common.{◌-◌}
+use Rattle.values.proofs.+solve.Given as goal
+
+abbrev pub decreases-solve : goal.decreases-solve
+decreases-solve l = l.k - l.i

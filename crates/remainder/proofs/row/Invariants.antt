@@ -1,0 +1,13 @@
+use native.Mathlib.Omega.{arith}
+use mathlib.Core.Path.{◌≡◌, subst}
+use Prim.Native.Nat.{◌+◌, ◌-◌, ◌≤◌}
+use Rattle.remainder.specs.Remainder.{lower, RowTo}
+use Rattle.remainder.proofs.LanesOf.{row_0, row_after, row_keeps}
+use borrow.Author.Rules.{rules}
+use Rattle.remainder.proofs.row.Given as goal
+
+abbrev pub invariant-loop-j : goal.invariant-loop-j
+invariant-loop-j l = (l.j ≤ l.lanes + 3) × RowTo l.lanes l.s l.q 0 l.initial.out l.out (lower l.j l.lanes)
+
+abbrev pub decreases-loop-j : goal.decreases-loop-j
+decreases-loop-j l = l.lanes - l.j

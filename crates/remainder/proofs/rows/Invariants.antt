@@ -1,0 +1,11 @@
+use Prim.Native.Nat.{◌-◌}
+use native.Mathlib.Omega.{arith}
+use lib.ListN.{length}
+use Rattle.remainder.proofs.LanesOf.{Rows, rows_0, row_fits, row_room, rows_more, rows_all}
+use Rattle.remainder.proofs.rows.Given as goal
+
+abbrev pub invariant-loop-q : goal.invariant-loop-q
+invariant-loop-q l = Rows l.lanes l.s l.initial.out l.out l.q
+
+abbrev pub decreases-loop-q : goal.decreases-loop-q
+decreases-loop-q l = length l.s - l.q

@@ -7,14 +7,14 @@ use super::repair::Repaired;
 pub const LANE_MOST: usize = 187;
 
 // A lane, or its marks, with its length.
-#[derive(Drop)]
+#[derive(Clone, Copy)]
 pub struct Lane {
     pub bytes: [u8; LANE_MOST],
     pub len: usize,
 }
 
 // A lane, and what its repair answers.
-#[derive(Drop)]
+#[derive(Clone, Copy)]
 pub struct LaneRepair {
     pub lane: Lane,
     pub answer: Repaired,

@@ -12,14 +12,14 @@ ghost use Rattle.code.specs.Repair.{WordEntersAs, Searchable, RepairsAs};
 use super::word::WORD_MOST;
 
 // What repairing a word answers: how many unmarked cells were mended and how many marked ones repainted, or a refusal's number.
-#[derive(Drop)]
+#[derive(Clone, Copy)]
 pub enum Repaired {
     Mended { mended: usize, repainted: usize },
     Refused(u8),
 }
 
 // Refusals 1 to 3, and how many cells are marked.
-#[derive(Drop)]
+#[derive(Clone, Copy)]
 struct Entered {
     code: u8,
     marked: usize,

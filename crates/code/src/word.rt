@@ -13,14 +13,14 @@ pub(crate) const WORD_MOST: usize = 255;
 const DATA_MOST: usize = 250;
 
 // What writing a word answers: the length written, or a refusal's number.
-#[derive(Drop)]
+#[derive(Clone, Copy)]
 pub enum Written {
     Length(usize),
     Refused(u8),
 }
 
 // What testing a word answers.
-#[derive(Drop)]
+#[derive(Clone, Copy)]
 pub enum Tested {
     Clean,
     Damaged,

@@ -44,7 +44,7 @@ pub fn legal(lanes: usize, n: usize) -> bool
 }
 
 // Refusals 15 and 1 to 5, and all marks or-ed: 0 where no cell is marked.
-#[derive(Drop)]
+#[derive(Clone, Copy)]
 pub struct Entered {
     pub code: u8,
     pub marked: usize,

@@ -151,7 +151,7 @@ module _ (marks s t r : List ℕ) (n f : ℕ) (erased : List ℕ) (L : Listed n 
   to_marks P x = subst (P (length marks)) G.list (subst (λ (k : ℕ). P k (take f erased)) (sym en) x)
 
   pub beyond : NoGuess n (take f erased) t f → Beyond marks r
-  beyond N w cw kw hw = search'.refuted gf256 field256 marks r (at t) f ready w cw hw kw M.not_None M.not_one M.not_two
+  beyond N w cw kw hw = search'.refuted gf256 field256 marks r (at t) f ready w cw hw kw M.not_none M.not_one M.not_two
     where
       M : NoGuess (length marks) (erasures marks) t f
       M = to_marks (λ k ps. NoGuess k ps t f) N

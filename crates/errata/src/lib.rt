@@ -8,7 +8,7 @@ ghost use Rattle.errata.specs.Errata.{Listed, Left, NotNone, NotOne, GuessedAs, 
 use values::Errata;
 
 // What a search found: errata that make the word clean, or that there are none.
-#[derive(Drop)]
+#[derive(Clone, Copy)]
 pub struct Found {
     pub good: bool,
     pub errata: Errata,
@@ -17,7 +17,7 @@ pub struct Found {
 // ---- the search
 
 // Listed cells, or that none will do.
-#[derive(Drop)]
+#[derive(Clone, Copy)]
 pub struct Listing {
     pub good: bool,
     pub count: usize,

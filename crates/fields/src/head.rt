@@ -6,7 +6,7 @@ ghost use Rattle.fields.specs.Head.{Heads, VersionTaken, HeadRanged};
 use level::NEWEST;
 
 // The fields in front of the tiles.
-#[derive(Drop)]
+#[derive(Clone, Copy)]
 pub struct Head {
     pub version: usize,
     pub width: usize,

@@ -5,7 +5,7 @@ ghost use Rattle.fields.specs.Judged.{without, AnswersAs};
 use super::head::Head;
 
 // What judging a record brings: a refusal's number, and what it spells where that is 0.
-#[derive(Drop)]
+#[derive(Clone, Copy)]
 pub struct Judged {
     pub code: u8,
     pub version: usize,

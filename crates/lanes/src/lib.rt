@@ -15,7 +15,7 @@ use patches::FIXES;
 mod fixes; // what is to be put right in a strip
 
 // Whether a lane is mended, how many unmarked cells were wrong and how many marked ones, and how many cells are noted then.
-#[derive(Drop)]
+#[derive(Clone, Copy)]
 pub struct One {
     pub good: bool,
     pub mended: usize,
@@ -24,7 +24,7 @@ pub struct One {
 }
 
 // The lowest lane beyond reach, or how many lanes there are; how many cells were mended in all, and how many repainted; and how many are noted.
-#[derive(Drop)]
+#[derive(Clone, Copy)]
 pub struct Mending {
     pub beyond: usize,
     pub mended: usize,

@@ -170,7 +170,7 @@ pub fn alone(tables: &[u8; 1022], s: [u8; 5], n: usize) -> usize
     n
 }
 
-#[derive(Drop)]
+#[derive(Clone, Copy)]
 pub struct Pair {
     pub p: usize,
     pub q: usize,

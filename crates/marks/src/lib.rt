@@ -8,7 +8,7 @@ ghost use Rattle.values.specs.Values.{Gathered, cells_of, values_of, ErrataFor};
 ghost use Rattle.marks.specs.Marks.{Tallied, AnyOf, SumOf, Pushed, ListedIn, CountsOne, CountsAll};
 
 // All marks or-ed together, and their sum.
-#[derive(Drop)]
+#[derive(Clone, Copy)]
 pub struct Marked {
     pub any: u8,
     pub sum: usize,
@@ -57,7 +57,7 @@ pub fn tally(marks: &[u8]) -> Marked
 }
 
 // The marked cells of a lane, the last first; where there are more than five, the count is six and the cells are of no account.
-#[derive(Drop)]
+#[derive(Clone, Copy)]
 pub struct Listed {
     pub count: usize,
     pub cells: [usize; 5],
@@ -123,7 +123,7 @@ pub fn all(marks: &[u8], f: usize) -> [usize; 5]
 }
 
 // How many cells errata change: of those that were read, which are mended, and of the marked ones, which are repainted.
-#[derive(Drop)]
+#[derive(Clone, Copy)]
 pub struct Counts {
     pub mended: usize,
     pub repainted: usize,

@@ -12,7 +12,7 @@ ghost use Rattle.pool.specs.Pooled.{photo, kind, byte, is, taken, conflict, both
 const LANES: usize = 4;
 
 // What pooling answers: how many cells are of each kind, or a refusal's number.
-#[derive(Drop)]
+#[derive(Clone, Copy)]
 pub enum Pooling {
     Pooled {
         agreed: usize,
@@ -160,7 +160,7 @@ fn one_both(m: u8, n: u8) -> u16
 }
 
 // How many cells are of these kinds; all others are agreed.
-#[derive(Drop)]
+#[derive(Clone, Copy)]
 struct Counts {
     taken: u16,
     conflict: u16,

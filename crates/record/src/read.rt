@@ -28,7 +28,7 @@ fn judge(upto: usize, bs: &[u8], lanes: usize) -> Judged
 }
 
 // What reading a record answers: a level, its tiles in the buffer, or a refusal's number.
-#[derive(Drop)]
+#[derive(Clone, Copy)]
 pub enum RecordRead {
     Level {
         version: usize,

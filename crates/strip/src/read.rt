@@ -14,7 +14,7 @@ use level::NEWEST;
 use patches::FIXES;
 
 // What reading answers: the level's numbers with what was mended and repainted, or a refusal's number and lane.
-#[derive(Drop)]
+#[derive(Clone, Copy)]
 pub enum Reading {
     Read {
         version: usize,

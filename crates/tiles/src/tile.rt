@@ -5,7 +5,7 @@ ghost use Rattle.tiles.specs.Sum.{packed, weighed};
 ghost use Rattle.tiles.specs.Rows.{Same, Packs};
 
 // What a tile adds; off counts crates off their goals.
-#[derive(Drop)]
+#[derive(Clone, Copy)]
 pub struct Adds {
     pub player: u64,
     pub crate_: u64,

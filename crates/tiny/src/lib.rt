@@ -12,7 +12,7 @@ ghost use Rattle.tiny.specs.Parts.{Stepped, Passed, Lost, Stuck, Seeks, GoesOn};
 use level::TILES_MOST;
 
 // What a step answers: the tiles of the next board, that none is left, or a refusal's number.
-#[derive(Drop)]
+#[derive(Clone, Copy)]
 pub enum Found {
     Board(usize),
     NoneLeft,

@@ -41,7 +41,7 @@ fn starts(text: &[u8], line: &[u8]) -> bool
 }
 
 // The par of a text, and where its rows begin.
-#[derive(Drop)]
+#[derive(Clone, Copy)]
 pub struct Head {
     pub par: usize,
     pub from: usize,

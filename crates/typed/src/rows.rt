@@ -4,7 +4,7 @@ ghost use Rattle.typed.specs.Letters.{tile_of};
 ghost use Rattle.typed.specs.Parts.{seen_next, SeenAs, Layable, LaidOut, PlacedAs};
 
 // What was seen: bytes that are no letters, rows ended, letters since, the longest row that ended.
-#[derive(Drop)]
+#[derive(Clone, Copy)]
 pub struct Seen {
     pub foreign: usize,
     pub rows: usize,
@@ -61,7 +61,7 @@ pub fn see(body: &[u8]) -> Seen
 }
 
 // Where a tile goes: the tiles of the rows before, and those of this row.
-#[derive(Drop)]
+#[derive(Clone, Copy)]
 pub struct Spot {
     pub base: usize,
     pub column: usize,

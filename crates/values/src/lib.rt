@@ -5,7 +5,7 @@ ghost use Rattle.gf256.specs.Tables.{Tables};
 ghost use Rattle.values.specs.Values.{Listed, Sieved, Divided, Solved, Unweighed, Valued};
 
 // At most five cells, each with what to add there.
-#[derive(Drop)]
+#[derive(Clone, Copy)]
 pub struct Errata {
     pub count: usize,
     pub cells: [usize; 5],

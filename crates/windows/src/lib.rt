@@ -47,7 +47,7 @@ fn less(a: usize, b: usize) -> usize
 }
 
 // Whether no bit is set after the tiles, and what these add, if so.
-#[derive(Drop)]
+#[derive(Clone, Copy)]
 pub struct Weighed {
     pub blank: bool,
     pub sum: u64,

@@ -10,28 +10,28 @@ use Rattle.locate.proofs.alone.Goals as goal
 
 pub returns-then-s-eq0 : goal.returns-then-s-eq0
 returns-then-s-eq0 c =
-    first_none gf256 field256 (at c.args.t2) 4 c.args.n _ c.requires.3 c.if-s-eq0.true
+    first_none gf256 field256 (at c.args.s) 4 c.args.n _ c.requires.3 c.if-s-eq0.true
 
 pub returns-then-s-eq0-2 : goal.returns-then-s-eq0-2
 returns-then-s-eq0-2 c =
-    second_none gf256 field256 (at c.args.t2) 4 c.args.n c.requires.1 (omega arith) (c.requires.2 0) c.if-s-eq0.false c.if-s-eq0-2.true
+    second_none gf256 field256 (at c.args.s) 4 c.args.n c.requires.1 (omega arith) (c.requires.2 0) c.if-s-eq0.false c.if-s-eq0-2.true
 
 pub returns-then-n-e : goal.returns-then-n-e
 returns-then-n-e c =
     let i = c.ratio-e in
-    alone_far gf256 field256 (at c.args.t2) 4 c.args.n c.requires.1 (omega arith) (c.requires.2 0) c.if-s-eq0.false
+    alone_far gf256 field256 (at c.args.s) 4 c.args.n c.requires.1 (omega arith) (c.requires.2 0) c.if-s-eq0.false
     i.result i.ensures.small i.ensures.is c.if-n-e.true
 
 pub returns-then-climbs : goal.returns-then-climbs
 returns-then-climbs c =
     let i = c.ratio-e in
-    alone_fits gf256 field256 (at c.args.t2) 4 c.args.n c.requires.1 (omega arith) (c.requires.2 0) c.if-s-eq0.false
+    alone_fits gf256 field256 (at c.args.s) 4 c.args.n c.requires.1 (omega arith) (c.requires.2 0) c.if-s-eq0.false
     i.result i.ensures.small i.ensures.is (search rules)
-    (said (Climbs c.args.t2 i.result) c.climbs.result c.if-climbs.true c.climbs.ensures)
+    (said (Climbs c.args.s i.result) c.climbs.result c.if-climbs.true c.climbs.ensures)
 
 pub returns : goal.returns
 returns c =
     let i = c.ratio-e in
-    alone_fails gf256 field256 (at c.args.t2) 4 c.args.n c.requires.1 (omega arith) (c.requires.2 0) c.if-s-eq0.false
+    alone_fails gf256 field256 (at c.args.s) 4 c.args.n c.requires.1 (omega arith) (c.requires.2 0) c.if-s-eq0.false
     i.result i.ensures.small i.ensures.is (search rules)
-    (denied (Climbs c.args.t2 i.result) c.climbs.result c.if-climbs.false c.climbs.ensures)
+    (denied (Climbs c.args.s i.result) c.climbs.result c.if-climbs.false c.climbs.ensures)

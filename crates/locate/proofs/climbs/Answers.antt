@@ -19,7 +19,7 @@ bounds-s-m c = omega arith
 pub returns-then-s-m-eq0 : goal.returns-then-s-m-eq0
 returns-then-s-m-eq0 c =
     let L = c.loop-m in
-    climb_stops c.args.t2 c.args.i L.m c.requires.1 L.invariant.1 (search rules) c.if-s-m-eq0.true
+    climb_stops c.args.s c.args.i L.m c.requires.1 L.invariant.1 (search rules) c.if-s-m-eq0.true
 
 pub bounds-s-m-in-loop-m : goal.bounds-s-m-in-loop-m
 bounds-s-m-in-loop-m c = omega arith
@@ -33,7 +33,7 @@ ratio-requires c = (c.requires.0, c.loop-m.invariant.1, omega (arith, c.if-s-m-e
 pub returns-then-ratio-i : goal.returns-then-ratio-i
 returns-then-ratio-i c =
     let L = c.loop-m in
-    climb_wrong c.args.t2 c.args.i L.m c.requires.1 L.invariant.1 (search rules) c.ratio.result c.requires.3 c.ratio.ensures
+    climb_wrong c.args.s c.args.i L.m c.requires.1 L.invariant.1 (search rules) c.ratio.result c.requires.3 c.ratio.ensures
     c.if-ratio-i.true
 
 pub loop-m-preserved : goal.loop-m-preserved
@@ -42,7 +42,7 @@ loop-m-preserved c =
     (
       omega arith,
       omega (arith, c.if-s-m-eq0.false),
-      climb_more c.args.t2 c.args.i L.m c.requires.1 L.invariant.1 (search rules) c.ratio.result c.requires.3 c.ratio.ensures
+      climb_more c.args.s c.args.i L.m c.requires.1 L.invariant.1 (search rules) c.ratio.result c.requires.3 c.ratio.ensures
           c.if-ratio-i.false L.invariant.2,
     )
 

@@ -15,15 +15,15 @@ bounds-cells-i c = omega arith
 
 pub returns-then-cells-i : goal.returns-then-cells-i
 returns-then-cells-i c =
-    not_free c.args.t1 c.args.f c.loop-i.i c.args.p (search rules) (search rules) c.if-cells-i.true
+    not_free c.args.cells c.args.f c.loop-i.i c.args.p (search rules) (search rules) c.if-cells-i.true
 
 pub loop-i-preserved : goal.loop-i-preserved
 loop-i-preserved c =
     let L = c.loop-i in
-    (omega arith, free_more c.args.t1 L.i c.args.p (search rules) L.invariant.1 c.if-cells-i.false)
+    (omega arith, free_more c.args.cells L.i c.args.p (search rules) L.invariant.1 c.if-cells-i.false)
 
 pub returns : goal.returns
 returns c =
     let L = c.loop-i in
     let e : L.i ≡ c.args.f = omega arith in
-    subst (λ (i : ℕ). Outside (take i c.args.t1) c.args.p) e L.invariant.1
+    subst (λ (i : ℕ). Outside (take i c.args.cells) c.args.p) e L.invariant.1

@@ -13,7 +13,7 @@ use Rattle.locate.proofs.two.Goals as goal
 
 pub returns-then-det-eq0 : goal.returns-then-det-eq0
 returns-then-det-eq0 c =
-    let t = at c.args.t2 in
+    let t = at c.args.t in
     let k = c.args.k in
     let n = c.args.n in
     let ps = take c.args.f c.args.erased in
@@ -23,7 +23,7 @@ returns-then-det-eq0 c =
 
 pub returns-then-u-eq0 : goal.returns-then-u-eq0
 returns-then-u-eq0 c =
-    let t = at c.args.t2 in
+    let t = at c.args.t in
     let k = c.args.k in
     let n = c.args.n in
     let ps = take c.args.f c.args.erased in
@@ -43,7 +43,7 @@ both-requires c =
       c.requires.3,
       c.requires.4,
       c.requires.5,
-      quadratic gf256 field256 (at c.args.t2) (bit_xor c.product.result c.product-2.result) i c.quotient-u.result c.quotient-v.result
+      quadratic gf256 field256 (at c.args.t) (bit_xor c.product.result c.product-2.result) i c.quotient-u.result c.quotient-v.result
           (c.requires.5 2 (omega arith)) (c.requires.5 3 (omega arith)) (ap₂ bit_xor c.product.ensures c.product-2.ensures) c.quotient-u.ensures.0
           (c.quotient-u.ensures.1 ∙ ap (λ (z : ℕ). times z i) (ap₂ bit_xor c.product-3.ensures c.product-4.ensures))
           (c.quotient-v.ensures.1 ∙ ap (λ (z : ℕ). times z i) (ap₂ bit_xor c.product-5.ensures c.product-6.ensures)),
@@ -51,7 +51,7 @@ both-requires c =
 
 pub returns : goal.returns
 returns c =
-    let t = at c.args.t2 in
+    let t = at c.args.t in
     let k = c.args.k in
     let n = c.args.n in
     let ps = take c.args.f c.args.erased in

@@ -18,7 +18,7 @@ returns-then-s-i-ne0 c = λ z. c.if-s-i-ne0.true (z c.loop-i.i (omega arith))
 pub loop-i-preserved : goal.loop-i-preserved
 loop-i-preserved c =
     let L = c.loop-i in
-    (omega arith, zeros_more (at c.args.t1) L.i L.invariant.1 c.if-s-i-ne0.false)
+    (omega arith, zeros_more (at c.args.s) L.i L.invariant.1 c.if-s-i-ne0.false)
 
 pub returns : goal.returns
 returns c = λ m l. c.loop-i.invariant.1 m (omega arith)

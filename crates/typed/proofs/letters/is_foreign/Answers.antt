@@ -1,0 +1,39 @@
+use mathlib.Core.Path.{sym, ap}
+use native.Mathlib.Omega.{arith}
+use Rattle.typed.specs.Letters.{tile_of}
+use Rattle.typed.specs.Parts.{foreign}
+use Rattle.typed.proofs.Tiles.{no_letter, other_foreign}
+use Rattle.typed.proofs.letters.is_foreign.Goals as goal
+
+pub returns-in-45 : goal.returns-in-45
+unfolding tile_of
+returns-in-45 c = ap foreign (sym c.in-45.is)
+
+pub returns-in-35 : goal.returns-in-35
+unfolding tile_of
+returns-in-35 c = ap foreign (sym c.in-35.is)
+
+pub returns-in-36 : goal.returns-in-36
+unfolding tile_of
+returns-in-36 c = ap foreign (sym c.in-36.is)
+
+pub returns-in-46 : goal.returns-in-46
+unfolding tile_of
+returns-in-46 c = ap foreign (sym c.in-46.is)
+
+pub returns-in-42 : goal.returns-in-42
+unfolding tile_of
+returns-in-42 c = ap foreign (sym c.in-42.is)
+
+pub returns-in-64 : goal.returns-in-64
+unfolding tile_of
+returns-in-64 c = ap foreign (sym c.in-64.is)
+
+pub returns-in-43 : goal.returns-in-43
+unfolding tile_of
+returns-in-43 c = ap foreign (sym c.in-43.is)
+
+pub returns-in-32 : goal.returns-in-32
+unfolding tile_of
+returns-in-32 c = ap foreign (sym c.in-32.is)
+

@@ -1,0 +1,14 @@
+use mathlib.Core.Path.{◌≡◌, subst}
+use Prim.Native.Nat.{ℕ, ◌-◌, ◌≤◌}
+use native.Mathlib.Omega.{arith}
+use borrow.Author.Rules.{rules}
+use Rattle.lanes.specs.Fixes.{Noted}
+use Rattle.lanes.proofs.Noting.{noted_0, noted_more, counts_small, cell_below, cell_small, cell_inside}
+use Rattle.lanes.proofs.fixes.note.Given as goal
+
+abbrev pub invariant-loop-i : goal.invariant-loop-i
+invariant-loop-i l =
+    (l.i ≤ l.e.count) × Noted l.lanes l.l l.k l.w l.e l.marks l.initial.cells l.initial.bytes l.i l.cells l.bytes l.c
+
+abbrev pub decreases-loop-i : goal.decreases-loop-i
+decreases-loop-i l = l.e.count - l.i

@@ -1,0 +1,12 @@
+use native.Mathlib.Omega.{arith}
+use Rattle.windows.proofs.Weighing.{head_seen}
+use borrow.Author.Rules.{rules}
+use Rattle.windows.proofs.head.Goals as goal
+
+pub returns : goal.returns
+returns c =
+    let a = c.args in
+    let p = c.requires in
+    let o = c.show in
+    head_seen a.strip.now a.cells.now a.bytes.now _ a.count a.to o.result (omega (arith, p.some)) p.inside o.ensures
+    c.head_of.result c.head_of.ensures

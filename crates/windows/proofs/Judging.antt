@@ -27,30 +27,30 @@ module _ (upto R to : ℕ) (bs : List ℕ) (long : length bs ≡ to) (f : Head) 
   abbrev Fitting : Type 0
   Fitting = to ≡ R * columns R (3 + (3 * tiles + 7) / 8)
 
-  pub not_ranged : (b : Bool) → not b ≡ true → Says b (Opens upto f) → (r : Judged) → r ≡ without 7 → JudgedAs upto R bs r
-  not_ranged b n o r e = judged_7 upto R bs r e (λ h. denied (Opens upto f) b (not-true b n) o (head_of_level bs f hd upto h))
+  pub not_ranged : (b : Bool) → b ≡ false → Says b (Opens upto f) → (r : Judged) → r ≡ without 7 → JudgedAs upto R bs r
+  not_ranged b n o r e = judged_7 upto R bs r e (λ h. denied (Opens upto f) b n o (head_of_level bs f hd upto h))
 
-  module _ (b : Bool) (y : not b ≡ false) (o : Says b (Opens upto f)) where
+  module _ (b : Bool) (y : b ≡ true) (o : Says b (Opens upto f)) where
     opens : Opens upto f
-    opens = said (Opens upto f) b (not-false b y) o
+    opens = said (Opens upto f) b y o
 
-    pub not_fitting : (d : Bool) → not d ≡ true → Says d Fitting → (r : Judged) → r ≡ without 8 → JudgedAs upto R bs r
+    pub not_fitting : (d : Bool) → d ≡ false → Says d Fitting → (r : Judged) → r ≡ without 8 → JudgedAs upto R bs r
     not_fitting d n q r e =
         judged_8 upto R bs r e (headed bs f hd upto opens)
-        (misfits R tiles bs (area_is bs f hd) (λ z. denied Fitting d (not-true d n) q (sym long ∙ z)))
+        (misfits R tiles bs (area_is bs f hd) (λ z. denied Fitting d n q (sym long ∙ z)))
 
-    module _ (d : Bool) (z : not d ≡ false) (q : Says d Fitting) (w : Weighed) (W : WeighedAs bs (24 + 3 * tiles) w) where
+    module _ (d : Bool) (z : d ≡ true) (q : Says d Fitting) (w : Weighed) (W : WeighedAs bs (24 + 3 * tiles) w) where
       shape : Says w.blank (Shaped R bs)
-      shape = blank_is w.blank R tiles bs (area_is bs f hd) (long ∙ said Fitting d (not-false d z) q) W.blank
+      shape = blank_is w.blank R tiles bs (area_is bs f hd) (long ∙ said Fitting d z q) W.blank
 
-      pub not_blank_after : not w.blank ≡ true → (r : Judged) → r ≡ without 8 → JudgedAs upto R bs r
-      not_blank_after n r e = judged_8 upto R bs r e (headed bs f hd upto opens) (denied (Shaped R bs) w.blank (not-true w.blank n) shape)
+      pub not_blank_after : w.blank ≡ false → (r : Judged) → r ≡ without 8 → JudgedAs upto R bs r
+      not_blank_after n r e = judged_8 upto R bs r e (headed bs f hd upto opens) (denied (Shaped R bs) w.blank n shape)
 
-      module _ (n : not w.blank ≡ false) (some : 0 < R) (code : ℕ) (C : SumCode f.version w.sum code) where
+      module _ (n : w.blank ≡ true) (some : 0 < R) (code : ℕ) (C : SumCode f.version w.sum code) where
         by_tiles : First (asked (λ ask. ask bs) (judging upto R)) code
         by_tiles =
-            judged_by_tiles bs f hd upto R w.sum code some opens (said (Shaped R bs) w.blank (not-false w.blank n) shape)
-            (W.sum (not-false w.blank n)) C
+            judged_by_tiles bs f hd upto R w.sum code some opens (said (Shaped R bs) w.blank n shape)
+            (W.sum n) C
 
         pub by_answer : (r : Judged) → AnswersAs f code r → JudgedAs upto R bs r
         by_answer r A = judged_answer bs f hd upto R code r A by_tiles

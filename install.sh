@@ -60,7 +60,7 @@ get_static() {
     else
         command -v rt >/dev/null 2>&1 ||
             fail "the Rattle kit's command rt is not on the PATH; with a library that is ready: ./install.sh PREFIX LIBRARY"
-        rt staticlib host || fail "rt staticlib host failed"
+        tools/library || fail "tools/library failed"
         ready=target/staticlib/libhost.a
     fi
     cp "$ready" "$stage/lib/libzavullimen.a" || fail "cannot copy $ready"

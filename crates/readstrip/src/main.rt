@@ -1,17 +1,48 @@
 // Reads a strip followed by as many marks from standard input, and prints one line: the level's numbers, or a refusal's.
+#![tactic(auto)]
+
+ghost use Rattle.std.specs.Prelude.{◌≤◌, length, IfOk};
+
 use level::{SCRATCH_LEAST, TILES_MOST};
+use std::io;
+use std::io::Read;
 use strip::read::Reading;
 
 // The lanes of the strips that are read here.
 const LANES: usize = 4;
 
-fn put(text: &[u8], n: u64) {
-    io::write_all(1, text);
-    io::print_decimal(1, n);
+// Bytes of the longest strip of so many lanes, and of its marks.
+const INPUT_MOST: usize = 768;
+
+// Reads until the buffer is full or the input ends. What was read stands in front; the answer is how many bytes that is.
+fn fill<R: Read>(input: &mut R, buffer: &mut [u8]) -> io::Result<usize>
+    ensures { IfOk result (λ n. n ≤ length buffer.new) }
+{
+    let mut n = 0;
+    while n < buffer.len() {
+        let got = input.read(&mut buffer[n..])?;
+        if got == 0 {
+            break;
+        }
+        n += got;
+    }
+    Ok(n)
+}
+
+// What the strip reader says of the first half as a strip and the second as its marks.
+fn answer(input: &[u8]) -> Reading {
+    let n = input.len();
+    if INPUT_MOST < n || n % 2 == 1 {
+        return Reading::Refused { code: 1, lane: 0 };
+    }
+    let (cells, marks) = input.split_at(n / 2);
+    let mut tiles = [0u8; TILES_MOST];
+    let mut scratch = [0u8; SCRATCH_LEAST];
+    strip::read::read(LANES, cells, marks, &mut tiles, &mut scratch)
 }
 
 // Numbers in decimal: width, height, par, mended, wear, of a level of either version; of a refusal its number and lane.
-fn show(a: Reading) {
+fn show(rt: &impl Print, a: Reading) -> io::Result<()> {
     match a {
         Reading::Read {
             version: _,
@@ -22,37 +53,15 @@ fn show(a: Reading) {
             repainted: _,
             wear,
             lanes: _,
-        } => {
-            put(b"level ", width as u64);
-            put(b" ", height as u64);
-            put(b" par ", par as u64);
-            put(b" mended ", mended as u64);
-            put(b" wear ", wear as u64);
-        }
-        Reading::Refused { code, lane } => {
-            put(b"refused ", code as u64);
-            put(b" lane ", lane as u64);
-        }
+        } => println!(rt; "level {width} {height} par {par} mended {mended} wear {wear}"),
+        Reading::Refused { code, lane } => println!(rt; "refused {code} lane {lane}"),
     }
-    io::write_all(1, b"\n");
 }
 
-fn main() {
+// A read or a write that fails ends it: the error is told on standard error, and the status is 1.
+fn main(rt: HostRuntime) -> io::Result<()> {
     // one byte more than a strip and its marks can have, so that too much is seen
-    let mut bytes = [0u8; 769];
-    let n = io::read_full(0, &mut bytes);
-    if 768 < n {
-        show(Reading::Refused { code: 1, lane: 0 });
-        return;
-    }
-    if n % 2 == 1 {
-        show(Reading::Refused { code: 1, lane: 0 });
-        return;
-    }
-    let mut tiles = [0u8; TILES_MOST];
-    let mut scratch = [0u8; SCRATCH_LEAST];
-    let h = n / 2;
-    let all = &bytes[..];
-    let a = strip::read::read(LANES, &all[0..h], &all[h..n], &mut tiles, &mut scratch);
-    show(a);
+    let mut bytes = [0u8; INPUT_MOST + 1];
+    let n = fill(&mut rt.stdin(), &mut bytes)?;
+    show(&rt, answer(&bytes[..n]))
 }

@@ -9,7 +9,7 @@ use lib.ListN.{length, get_or}
 use lib.Seq.{ext_get_or, length-take-le}
 use Rattle.account.specs.Field.{Ops}
 use Rattle.account.specs.Code.{Cells, Clean, syndrome}
-use Rattle.account.specs.Reach.{count_to, is_marked, is_read, differing, repainted, marked, Reach, GoodMarks, Reachable}
+use Rattle.account.specs.Reach.{count_to, is_marked, is_read, differing, repainted, Reach, GoodMarks, Reachable}
 use Rattle.account.proofs.Cells.{none_differ}
 use Rattle.account.proofs.Words as words
 use Rattle.account.specs.Errata.{Applied}

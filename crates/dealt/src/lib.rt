@@ -1,6 +1,7 @@
 // Cells dealt to the lanes of a strip: the remainders of all lanes at once, the errata of each, and their check cells. With R lanes cell p is
 // byte p div R of lane p mod R.
 #![tactic(auto)]
+
 ghost use Rattle.std.specs.Prelude.{◌≡◌, ◌+◌, ◌*◌, ◌≤◌, ◌<◌, length, get_or};
 ghost use Rattle.account.specs.Lanes.{lane};
 ghost use Rattle.gf256.specs.Gf256.{gf256};

@@ -1,5 +1,6 @@
 // Entering a strip for reading: what is asked before the picture is looked at, refusals 15 and 1 to 5.
 #![tactic(auto)]
+
 ghost use Rattle.rules.specs.Says.{Says};
 ghost use Rattle.rules.specs.Refusal.{Within};
 ghost use Rattle.level.specs.Strip.{LaneCount, Legal};

@@ -1,6 +1,7 @@
 // The errata of a word: at most five cells, each with what to add there, from the word's syndrome and its marked cells, which
 // are listed. The table is made once by an entry and lent.
 #![tactic(auto)]
+
 ghost use Rattle.std.specs.Prelude.{[], ◌∷◌, ◌≤◌, take};
 ghost use Rattle.gf256.specs.Tables.{Tables};
 ghost use Rattle.errata.specs.Errata.{Listed, Left, NotNone, NotOne, GuessedAs, Bytes5, Couple, Valued, FoundUnmarked, FoundWith};

@@ -1,5 +1,6 @@
 // GF(256): products, quotients and powers of α by the tables, which an entry lays out once and lends.
 #![tactic(auto)]
+
 ghost use Rattle.std.specs.Prelude.{◌≡◌, ◌≤◌, ◌<◌};
 ghost use Rattle.account.specs.Field.{power};
 ghost use Rattle.account.specs.Code.{alpha_to};

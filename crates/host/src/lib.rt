@@ -1,5 +1,6 @@
 // What C sees: numbers and byte slices, the numbers of an answer packed in one. docs/C-INTERFACE.md has the layout.
 #![tactic(auto)]
+
 ghost use Rattle.std.specs.Prelude.{◌≡◌, not, ◌<◌, ◌≤◌, eqb, length};
 ghost use Rattle.account.specs.Code.{alpha_to, syndrome};
 ghost use Rattle.gf256.specs.Gf256.{gf256, times};

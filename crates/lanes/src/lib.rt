@@ -1,5 +1,6 @@
 // The lanes of a strip: which are clean, and of the others the errata, noted for the whole strip. The strip keeps its cells.
 #![tactic(auto)]
+
 ghost use Rattle.std.specs.Prelude.{◌≡◌, ℕ, ◌≤◌, ◌<◌, length, get_or};
 ghost use Rattle.rules.specs.Says.{Says};
 ghost use Rattle.gf256.specs.Tables.{Tables};

@@ -1,5 +1,6 @@
 // A level that is lent: asked for refusals 7 to 10, and put as a record.
 #![tactic(auto)]
+
 ghost use Rattle.std.specs.Prelude.{◌≡◌, ◌≤◌, length};
 ghost use Rattle.std.proofs.lemmas.List.Edits.{sets};
 ghost use Rattle.rules.specs.Says.{Says};

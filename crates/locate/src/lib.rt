@@ -1,6 +1,7 @@
 // Wrong cells of a word, located by what is left of its syndrome when the marked cells are filtered out: one, by a ratio of sums; two, by a
 // quadratic. The table is lent.
 #![tactic(auto)]
+
 ghost use Rattle.std.specs.Prelude.{◌≡◌, [], ◌∷◌, suc, ◌<◌, ◌≤◌, take};
 ghost use Rattle.std.specs.Int.Bits.{bit_xor};
 ghost use Rattle.account.specs.Errata.{Outside, filt};

@@ -1,6 +1,7 @@
 // Marks: one byte for each cell, 0 where it is read and 1 where it is unreadable. All of them or-ed, summed and listed, and the cells that errata
 // change, counted by their marks.
 #![tactic(auto)]
+
 ghost use Rattle.std.specs.Prelude.{◌≡◌, ◌≢◌, ◌/◌, ◌≤◌, ◌<◌, length};
 ghost use Rattle.account.specs.Reach.{count_to, is_marked};
 ghost use Rattle.account.specs.Lanes.{lane};

@@ -1,5 +1,6 @@
 // The numbers of an answer, packed in one. docs/C-INTERFACE.md has the layout.
 #![tactic(auto)]
+
 ghost use Rattle.std.specs.Prelude.{◌≡◌};
 ghost use Rattle.code.specs.Word.{written_numbers, tested_numbers};
 ghost use Rattle.code.specs.Repair.{repaired_numbers};

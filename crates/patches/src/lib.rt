@@ -1,6 +1,7 @@
 // What is to be put right in a strip, and a window on the strip put right: some of its cells, copied from the strip, with what belongs
 // there. The mended strip itself is never made.
 #![tactic(auto)]
+
 ghost use Rattle.std.specs.Prelude.{◌≡◌, true, false, ◌+◌, ◌≤◌, ◌<◌, ◌^◌, length};
 ghost use Rattle.patches.specs.Window.{Behind, PatchedAt, WindowPatched, Shown};
 

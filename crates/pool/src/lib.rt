@@ -1,5 +1,6 @@
 // Pooling: two pictures of one strip make one, cell by cell.
 #![tactic(auto)]
+
 ghost use Rattle.std.specs.Prelude.{◌≡◌, ℕ, ◌≤◌, length};
 ghost use Rattle.account.specs.Reach.{one_if, GoodMarks};
 ghost use Rattle.rules.specs.Says.{Says};

@@ -2,6 +2,7 @@
 // of a remainder adds to the five sums. A `match` is static data, so nothing is copied. The entries stand once more in
 // specs/Tables.antt, where their rule is tested.
 #![tactic(auto)]
+
 ghost use Rattle.std.specs.Prelude.{◌≡◌, ◌<◌, get_or};
 ghost use Rattle.reductions.specs.Tables.{fifth, sixth, seventh, eighth, ninth, halves};
 

@@ -2,6 +2,7 @@
 // of the remainder. Five bytes are packed in one number, the highest power on top. One pass serves a word and the lanes of a strip,
 // whose chains of steps need not wait for each other.
 #![tactic(auto)]
+
 ghost use Rattle.std.specs.Prelude.{◌≡◌, ◌+◌, ◌*◌, ◌/◌, ◌%◌, ◌<◌, ◌≤◌, length};
 ghost use Rattle.account.specs.Code.{syndrome};
 ghost use Rattle.gf256.specs.Gf256.{gf256};

@@ -1,5 +1,6 @@
 // What every floor may stand on: the rules of refusal and what a test says are in specs/; here is a plain copy of bytes.
 #![tactic(auto)]
+
 ghost use Rattle.std.specs.Prelude.{◌≡◌, ◌++◌, ◌≤◌, length, drop};
 
 // The bytes, in front of a buffer that has room for them.

@@ -1,6 +1,7 @@
 // Tables for tiles: what each of three bytes has of their eight tiles, a byte each. A `match` is static data, so nothing is copied. Counted from
 // its length on, so that the compiler makes one load of it.
 #![tactic(auto)]
+
 ghost use Rattle.std.specs.Prelude.{◌≡◌, ◌<◌};
 ghost use Rattle.spreads.specs.Spread.{first_of, second_of, third_of};
 

@@ -3,7 +3,7 @@ use mathlib.Core.Path.{◌≡◌, refl, sym, ap, subst, ◌∙◌}
 use mathlib.Core.Logic.{◌≢◌, ◌⊎◌, inl, inr, ⊎_elim}
 use mathlib.Core.Bool.{true}
 use mathlib.Core.List.{List, [], ◌∷◌, ◌++◌}
-use Prim.Native.Nat.{ℕ, zero, suc, ◌+◌, ◌*◌, ◌-◌, ◌≤◌, ◌<◌}
+use Prim.Native.Nat.{ℕ, zero, suc, ◌*◌, ◌-◌, ◌≤◌, ◌<◌}
 use native.Mathlib.Nat.{eq-or-lt_of_le}
 use native.Mathlib.Omega.{arith}
 use lib.ListN.{length, get_or, take, drop, replicate, length-replicate, get_or-replicate}
@@ -17,7 +17,7 @@ use Rattle.level.proofs.Versions.{first_known}
 use Rattle.level.proofs.Unfinished.{some_two}
 use Rattle.tiny.specs.declared.Found.{Found}
 use Rattle.tiny.specs.declared.Found.TheVariants as answer
-use Rattle.tiny.specs.Tiny.{Tiny, LegalBoard, digits, number, Place, start, after, Later, IsNext, next_numbers, giving, stepping, StepsAs}
+use Rattle.tiny.specs.Tiny.{Tiny, LegalBoard, digits, number, Place, after, Later, IsNext, next_numbers, giving, stepping, StepsAs}
 use Rattle.tiny.specs.Parts.{Ruled, Over, Seeks, GoesOn}
 use Rattle.tiny.proofs.Given.{tiny_sized}
 use Rattle.tiny.proofs.Digits.{same_tiles, floor_least}

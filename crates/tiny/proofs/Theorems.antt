@@ -12,7 +12,7 @@ use Rattle.rules.proofs.Numbers.{lt_or_ge}
 use Rattle.level.specs.Sizes.{tiles_most}
 use Rattle.tiny.specs.declared.Found.{Found}
 use Rattle.tiny.specs.declared.Found.TheVariants as answer
-use Rattle.tiny.specs.Tiny.{Tiny, LegalBoard, digits, number, Place, start, after, Later, IsNext, NoneLeft, next_numbers, stepping, StepsAs, Gave, Walk, WholeWalk, AllInOrder}
+use Rattle.tiny.specs.Tiny.{Tiny, LegalBoard, number, Place, start, after, Later, IsNext, NoneLeft, next_numbers, stepping, StepsAs, Gave, Walk, WholeWalk, AllInOrder}
 use Rattle.tiny.proofs.Digits.{same_board, digits_below}
 
 module _ (w h : ℕ) where

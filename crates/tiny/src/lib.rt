@@ -1,5 +1,6 @@
 // Tiny boards: the legal boards of a size of at most six tiles, one after another.
 #![tactic(auto)]
+
 ghost use Rattle.std.specs.Prelude.{◌≡◌, true, ℕ, ◌≤◌, ◌<◌, length, get_or, replicate};
 ghost use Rattle.rules.specs.Says.{Says};
 ghost use Rattle.rules.specs.Refusal.{First};

@@ -1,6 +1,7 @@
 // A table for tiles: what three of them add. A `match` is static data, so nothing is copied. Counted from its length on, so that the compiler
 // makes one load of it.
 #![tactic(auto)]
+
 ghost use Rattle.std.specs.Prelude.{◌≡◌, ◌<◌};
 ghost use Rattle.triples.specs.Weights.{tripled};
 

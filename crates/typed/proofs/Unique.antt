@@ -7,7 +7,7 @@ use lib.ListN.{length, get_or, take, drop, length-append}
 use lib.Seq.{append_snoc, take_at, drop_at}
 use Rattle.level.specs.Level.{Level}
 use Rattle.typed.specs.Text.{joined, first_line, Letters, Rows, Typed, IsText, level_typed, SaysLevel}
-use Rattle.typed.specs.Parts.{line_of, spelled, Starts}
+use Rattle.typed.specs.Parts.{line_of, Starts}
 use Rattle.typed.proofs.Tiles.{no_feed}
 use Rattle.typed.proofs.Heads.{line_spelled}
 

@@ -1,5 +1,6 @@
 // What to add at listed cells of a word, from its syndrome. The table is made once by an entry and lent.
 #![tactic(auto)]
+
 ghost use Rattle.std.specs.Prelude.{◌≡◌, ◌<◌, ◌≤◌, length};
 ghost use Rattle.gf256.specs.Tables.{Tables};
 ghost use Rattle.values.specs.Values.{Listed, Sieved, Divided, Solved, Unweighed, Valued};

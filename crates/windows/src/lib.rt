@@ -1,6 +1,7 @@
 // The record in a strip that was mended: judged, and its tiles written, through windows on the mended strip. Its first three cells are
 // the head; a window from there on has whole groups of eight tiles, but for the last.
 #![tactic(auto)]
+
 ghost use Rattle.std.specs.Prelude.{◌≡◌, ◌++◌, ◌+◌, ◌*◌, ◌-◌, ◌≤◌, ◌<◌, length, take, drop};
 ghost use Rattle.rules.specs.Refusal.{Within};
 ghost use Rattle.level.specs.Sizes.{tiles_most};

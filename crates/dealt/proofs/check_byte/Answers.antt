@@ -1,6 +1,5 @@
 use mathlib.Core.Path.{◌∙◌}
 use Rattle.dealt.proofs.CheckCells.{check_byte_is}
-use borrow.Author.Rules.{rules}
 use Rattle.dealt.proofs.check_byte.Goals as goal
 
 pub returns : goal.returns

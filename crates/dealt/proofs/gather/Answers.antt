@@ -1,9 +1,7 @@
-use mathlib.Core.Path.{◌≡◌, refl}
-use Prim.Native.Nat.{◌-◌, ◌≤◌}
+use mathlib.Core.Path.{refl}
 use native.Mathlib.Omega.{arith}
-use borrow.Author.Rules.{rules}
 use lib.ListN.{length-set}
-use Rattle.dealt.proofs.Gathering.{Gathering, gathering_0, gathering_more, next_inside, gathered}
+use Rattle.dealt.proofs.Gathering.{gathering_0, gathering_more, next_inside, gathered}
 use Rattle.dealt.proofs.gather.Goals as goal
 
 pub loop-k-init : goal.loop-k-init

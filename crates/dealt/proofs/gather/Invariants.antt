@@ -1,9 +1,6 @@
-use mathlib.Core.Path.{◌≡◌, refl}
+use mathlib.Core.Path.{◌≡◌}
 use Prim.Native.Nat.{◌-◌, ◌≤◌}
-use native.Mathlib.Omega.{arith}
-use borrow.Author.Rules.{rules}
-use lib.ListN.{length-set}
-use Rattle.dealt.proofs.Gathering.{Gathering, gathering_0, gathering_more, next_inside, gathered}
+use Rattle.dealt.proofs.Gathering.{Gathering}
 use Rattle.dealt.proofs.gather.Given as goal
 
 abbrev pub invariant-loop-k : goal.invariant-loop-k

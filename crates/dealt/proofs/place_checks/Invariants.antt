@@ -1,11 +1,6 @@
-use mathlib.Core.Path.{◌≡◌, subst}
-use Prim.Native.Nat.{ℕ, ◌+◌, ◌*◌, ◌-◌, ◌≤◌}
-use native.Mathlib.Nat.{mul-le-mul_left}
-use native.Mathlib.Omega.{arith}
-use borrow.Author.Rules.{rules}
+use Prim.Native.Nat.{◌+◌, ◌*◌, ◌-◌, ◌≤◌}
 use Rattle.rules.specs.Placed.{Placed}
 use Rattle.dealt.specs.Lanes.{check_cell}
-use Rattle.rules.proofs.Placing.{placed_0, placed_after}
 use Rattle.dealt.proofs.place_checks.Given as goal
 
 abbrev pub invariant-loop-i : goal.invariant-loop-i

@@ -1,13 +1,7 @@
-use mathlib.Core.Path.{◌≡◌, refl, sym, ◌∙◌, subst}
-use Prim.Native.Nat.{ℕ, ◌+◌, ◌*◌, ◌-◌, ◌≤◌}
-use native.Mathlib.Nat.{mul-add, mul-one}
-use native.Mathlib.Omega.{arith}
-use lib.ListN.{set}
-use borrow.Author.Rules.{rules}
+use mathlib.Core.Path.{◌≡◌}
+use Prim.Native.Nat.{◌+◌, ◌*◌, ◌-◌, ◌≤◌}
 use Rattle.rules.specs.Placed.{Placed}
 use Rattle.dealt.specs.Lanes.{check_cell}
-use Rattle.rules.proofs.Placing.{placed_0, placed_more}
-use Rattle.dealt.proofs.CheckCells.{check_cell_is, column_room}
 use Rattle.dealt.proofs.place_column.Given as goal
 
 abbrev pub invariant-loop-j : goal.invariant-loop-j

@@ -4,7 +4,6 @@ use native.Mathlib.Omega.{arith}
 use lib.ListN.{take}
 use Rattle.remainder.specs.Remainder.{LanesCheck}
 use Rattle.dealt.proofs.CheckCells.{checks_put}
-use borrow.Author.Rules.{rules}
 use Rattle.dealt.proofs.put_checks.Goals as goal
 
 pub returns : goal.returns

@@ -2,7 +2,6 @@ use mathlib.Core.Path.{sym, ◌∙◌}
 use Rattle.remainder.specs.Remainder.{unpacked}
 use Rattle.remainder.proofs.Whole.{syndrome_same}
 use Rattle.code.proofs.Repairing.{syndrome_bytes}
-use borrow.Author.Rules.{rules}
 use Rattle.dealt.proofs.search.Goals as goal
 
 pub find-requires : goal.find-requires

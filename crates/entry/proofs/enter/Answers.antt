@@ -1,12 +1,10 @@
 use mathlib.Core.Path.{refl}
 use lib.ListN.{length}
 use native.Mathlib.Omega.{arith}
-use borrow.Author.Tests.{not-true, not-false}
 use Rattle.level.specs.Strip.{LaneCount, Legal}
 use Rattle.level.proofs.Lengths.{lanes_within}
 use Rattle.rules.proofs.Tests.{said, denied}
 use Rattle.entry.proofs.Entering.{enters_unnamed, enters_not, enters}
-use borrow.Author.Rules.{rules}
 use Rattle.entry.proofs.enter.Goals as goal
 
 pub returns-then-not-named : goal.returns-then-not-named

@@ -1,6 +1,5 @@
 use native.Mathlib.Omega.{arith}
 use Rattle.level.proofs.Lengths.{legal_is, legal_whole, legal_least, legal_most}
-use borrow.Author.Rules.{rules}
 use Rattle.entry.proofs.legal.Goals as goal
 
 pub returns-then-n-lanes : goal.returns-then-n-lanes

@@ -4,17 +4,15 @@ use lib.Bits.{bit_xor}
 use Rattle.gf256.specs.Gf256.{times}
 use Rattle.errata.specs.Errata.{at}
 use Rattle.errata.proofs.Guesses.{pair_apart, pair_valued}
-use borrow.Author.Rules.{rules}
 use Rattle.gf256.specs.Tables.{inverse_of}
 use Rattle.errata.proofs.couple.Goals as goal
 
 pub quotient-v-requires : goal.quotient-v-requires
-quotient-v-requires c =
-    (
-      c.requires.0,
-      subst (λ (a : ℕ). 0 < a) (sym (ap₂ bit_xor c.place-x.ensures c.place-y.ensures))
-          (pair_apart c.args.n c.args.s c.requires.1 c.args.p c.args.q c.requires.3),
-    )
+quotient-v-requires c = (
+  c.requires.0,
+  subst (λ (a : ℕ). 0 < a) (sym (ap₂ bit_xor c.place-x.ensures c.place-y.ensures))
+      (pair_apart c.args.n c.args.s c.requires.1 c.args.p c.args.q c.requires.3),
+)
 
 pub returns : goal.returns
 returns c =

@@ -4,7 +4,6 @@ use Rattle.account.specs.Search.{Zeros}
 use Rattle.errata.specs.Errata.{at}
 use Rattle.rules.proofs.Tests.{said, denied}
 use Rattle.errata.proofs.Guesses.{guess0}
-use borrow.Author.Rules.{rules}
 use Rattle.errata.proofs.guess.Goals as goal
 
 pub returns-then-zeros : goal.returns-then-zeros
@@ -21,11 +20,10 @@ returns-then-left-lt2 c =
     }
 
 pub guess_one-requires : goal.guess_one-requires
-guess_one-requires c =
-    (
-      c.requires.0,
-      omega (arith, c.if-left-lt2.false),
-      c.requires.2,
-      c.requires.3,
-      denied (Zeros (5 - c.args.f) (at c.args.t)) c.zeros.result c.if-zeros.false c.zeros.ensures,
-    )
+guess_one-requires c = (
+  c.requires.0,
+  omega (arith, c.if-left-lt2.false),
+  c.requires.2,
+  c.requires.3,
+  denied (Zeros (5 - c.args.f) (at c.args.t)) c.zeros.result c.if-zeros.false c.zeros.ensures,
+)

@@ -4,7 +4,6 @@ use native.Mathlib.Omega.{arith}
 use Rattle.account.specs.Search.{Zeros}
 use Rattle.errata.specs.Errata.{at}
 use Rattle.errata.proofs.Guesses.{guess1}
-use borrow.Author.Rules.{rules}
 use Rattle.errata.proofs.guess_one.Goals as goal
 
 pub one-p-requires : goal.one-p-requires

@@ -1,17 +1,14 @@
-use borrow.Author.Tests.{not-true, not-false}
 use lib.ListN.{take}
 use Rattle.errata.proofs.Guesses.{guessed, unguessed, listed_guess, left_in, beyond, corrects}
-use borrow.Author.Rules.{rules}
 use Rattle.errata.proofs.marked.Goals as goal
 
 pub guess-g-requires : goal.guess-g-requires
-guess-g-requires c =
-    (
-      c.requires.0,
-      c.requires.1.few,
-      c.requires.1,
-      left_in c.args.n c.args.erased c.args.s c.drain-t.result c.args.f c.requires.2 c.requires.1 c.drain-t.ensures,
-    )
+guess-g-requires c = (
+  c.requires.0,
+  c.requires.1.few,
+  c.requires.1,
+  left_in c.args.n c.args.erased c.args.s c.drain-t.result c.args.f c.requires.2 c.requires.1 c.drain-t.ensures,
+)
 
 pub returns-then-not-good : goal.returns-then-not-good
 returns-then-not-good c =
@@ -23,8 +20,7 @@ returns-then-not-good c =
 
 pub valued-errata-requires : goal.valued-errata-requires
 valued-errata-requires c =
-    let u = c.guess-g in
-    (
+    let u = c.guess-g in (
       c.requires.0,
       listed_guess c.args.n c.args.erased c.drain-t.result c.args.f u.result.count u.result.cells c.requires.1
           (guessed u.result.good c.args.n (take c.args.f c.args.erased) c.drain-t.result c.args.f u.result.count u.result.cells

@@ -42,8 +42,7 @@ returns-then-n-a c =
 
 pub couple-errata-requires : goal.couple-errata-requires
 couple-errata-requires c =
-    let u = c.two-pair in
-    (
+    let u = c.two-pair in (
       c.requires.0,
       c.requires.1,
       c.requires.2,

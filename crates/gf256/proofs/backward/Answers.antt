@@ -1,4 +1,3 @@
-use borrow.Author.Rules.{rules}
 use Rattle.gf256.proofs.Lookups.{backward_by}
 use Rattle.gf256.proofs.backward.Goals as goal
 

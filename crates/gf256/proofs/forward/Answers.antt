@@ -1,4 +1,3 @@
-use borrow.Author.Rules.{rules}
 use Rattle.gf256.proofs.Lookups.{forward_by}
 use Rattle.gf256.proofs.forward.Goals as goal
 

@@ -1,5 +1,4 @@
 use native.Mathlib.Omega.{arith}
-use borrow.Author.Rules.{rules}
 use Rattle.gf256.proofs.log.Goals as goal
 
 pub overflow_cast-result-2 : goal.overflow_cast-result-2

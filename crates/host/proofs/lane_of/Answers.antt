@@ -1,6 +1,5 @@
 use mathlib.Core.Path.{refl}
 use Rattle.host.proofs.LaneOf.{lane_holds}
-use borrow.Author.Rules.{rules}
 use Rattle.host.proofs.lane_of.Goals as goal
 
 pub returns : goal.returns

@@ -2,7 +2,6 @@ use mathlib.Core.Path.{ap, ◌∙◌}
 use mir.Facts.{to_z-of_z}
 use Rattle.account.specs.Code.{alpha_to}
 use Rattle.gf256.specs.Gf256.{gf256}
-use borrow.Author.Rules.{rules}
 use Rattle.host.proofs.zav_power.Goals as goal
 
 pub returns : goal.returns

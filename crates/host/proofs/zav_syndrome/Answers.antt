@@ -1,6 +1,5 @@
 use mathlib.Core.Path.{ap}
 use Rattle.packing.specs.Packed.{packed_sums}
-use borrow.Author.Rules.{rules}
 use Rattle.host.proofs.zav_syndrome.Goals as goal
 
 pub returns : goal.returns

@@ -1,9 +1,5 @@
-use mathlib.Core.Path.{◌≡◌}
-use Prim.Native.Nat.{ℕ, ◌-◌, ◌≤◌, ◌<◌}
 use native.Mathlib.Omega.{arith}
 use borrow.Author.Count.{below_more}
-use lib.ListN.{get_or}
-use borrow.Author.Rules.{rules}
 use Rattle.lanes.proofs.all_clean.Goals as goal
 
 pub loop-j-init : goal.loop-j-init

@@ -4,7 +4,6 @@ use native.Mathlib.Omega.{arith}
 use lib.ListN.{get_or}
 use Rattle.rules.proofs.Tests.{said}
 use Rattle.lanes.proofs.Untouched.{untouched}
-use borrow.Author.Rules.{rules}
 use Rattle.lanes.proofs.mend.Goals as goal
 
 pub returns-then-all_clean : goal.returns-then-all_clean

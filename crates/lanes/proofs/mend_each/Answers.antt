@@ -1,9 +1,5 @@
-use Prim.Native.Nat.{◌-◌}
 use native.Mathlib.Omega.{arith}
-use borrow.Author.Tests.{not-true, not-false}
-use Rattle.gf256.specs.Tables.{Tables}
-use Rattle.lanes.proofs.Sofar.{Sofar, sofar_0, room_left, sofar_more, one_few, lost, all_mended}
-use borrow.Author.Rules.{rules}
+use Rattle.lanes.proofs.Sofar.{sofar_0, room_left, sofar_more, one_few, lost, all_mended}
 use Rattle.lanes.proofs.mend_each.Goals as goal
 
 pub loop-l-init : goal.loop-l-init

@@ -1,7 +1,6 @@
 use native.Mathlib.Omega.{arith}
 use Rattle.dealt.proofs.Searching.{lane_clean}
 use Rattle.lanes.proofs.Repairs.{marks_few, six_marked, kept_one}
-use borrow.Author.Rules.{rules}
 use Rattle.lanes.proofs.mend_one.Goals as goal
 
 pub marked_in-m-requires : goal.marked_in-m-requires

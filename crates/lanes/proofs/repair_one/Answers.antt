@@ -1,6 +1,4 @@
 use native.Mathlib.Omega.{arith}
-use borrow.Author.Rules.{rules}
-use borrow.Author.Tests.{not-true, not-false}
 use Rattle.dealt.proofs.Searching.{remainder_small}
 use Rattle.lanes.proofs.Repairs.{few_columns, full, to_search, corrected, beyond_reach, to_note, mended_one}
 use Rattle.lanes.proofs.repair_one.Goals as goal

@@ -1,4 +1,3 @@
-use borrow.Author.Rules.{rules}
 use Rattle.lending.proofs.board_code.Goals as goal
 
 pub returns : goal.returns

@@ -2,11 +2,9 @@ use Rattle.fields.proofs.Tiles.{area_small}
 use Rattle.lending.specs.Lending.{InRange}
 use Rattle.lending.proofs.Lent.{ranged_is, ranged_has}
 use Rattle.rules.proofs.Tests.{said, denied}
-use borrow.Author.Tests.{not-true, not-false}
 use native.Mathlib.Omega.{arith}
 use mathlib.Core.Logic.{inl, inr}
 use mathlib.Core.Path.{refl}
-use borrow.Author.Rules.{rules}
 use Rattle.lending.proofs.check.Goals as goal
 
 pub returns-then-not-ranged : goal.returns-then-not-ranged

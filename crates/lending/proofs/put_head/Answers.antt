@@ -1,6 +1,5 @@
 use lib.ListN.{length-set}
 use native.Mathlib.Omega.{arith}
-use borrow.Author.Rules.{rules}
 use Rattle.lending.proofs.put_head.Goals as goal
 
 pub bounds-out-1 : goal.bounds-out-1

@@ -1,6 +1,4 @@
 use native.Mathlib.Omega.{arith}
-use borrow.Author.Tests.{not-true, not-false}
-use borrow.Author.Rules.{rules}
 use Rattle.rules.proofs.Tests.{said, denied}
 use Rattle.level.specs.Level.{Sized}
 use Rattle.fields.specs.Head.{VersionTaken}

@@ -1,11 +1,4 @@
-use mathlib.Core.List.{◌∷◌, []}
-use Prim.Native.Nat.{◌-◌, ◌≤◌, ◌<◌}
 use native.Mathlib.Omega.{arith}
-use Rattle.account.specs.Field.{power}
-use Rattle.account.specs.Errata.{filt}
-use Rattle.account.specs.Search.{Zeros}
-use Rattle.gf256.specs.Gf256.{gf256}
-use Rattle.values.specs.Values.{at}
 use Rattle.locate.proofs.Sums.{climb_stops, climb_wrong, climb_more}
 use borrow.Author.Rules.{rules}
 use Rattle.locate.proofs.climbs.Goals as goal
@@ -38,8 +31,7 @@ returns-then-ratio-i c =
 
 pub loop-m-preserved : goal.loop-m-preserved
 loop-m-preserved c =
-    let L = c.loop-m in
-    (
+    let L = c.loop-m in (
       omega arith,
       omega (arith, c.if-s-m-eq0.false),
       climb_more c.args.s c.args.i L.m c.requires.1 L.invariant.1 (search rules) c.ratio.result c.requires.3 c.ratio.ensures

@@ -1,13 +1,10 @@
 use mathlib.Core.List.{◌∷◌, []}
 use Prim.Native.Nat.{◌-◌, ◌≤◌, ◌<◌}
-use native.Mathlib.Omega.{arith}
 use Rattle.account.specs.Field.{power}
 use Rattle.account.specs.Errata.{filt}
 use Rattle.account.specs.Search.{Zeros}
 use Rattle.gf256.specs.Gf256.{gf256}
 use Rattle.values.specs.Values.{at}
-use Rattle.locate.proofs.Sums.{climb_stops, climb_wrong, climb_more}
-use borrow.Author.Rules.{rules}
 use Rattle.locate.proofs.climbs.Given as goal
 
 abbrev pub invariant-loop-m : goal.invariant-loop-m

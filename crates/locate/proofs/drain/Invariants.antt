@@ -1,11 +1,6 @@
-use Prim.Native.Nat.{ℕ, ◌-◌, ◌≤◌}
-use mathlib.Core.Path.{◌≡◌, subst}
-use native.Mathlib.Omega.{arith}
-use borrow.Author.Rules.{rules}
+use Prim.Native.Nat.{◌-◌, ◌≤◌}
 use lib.ListN.{take}
 use Rattle.locate.specs.Places.{Drained}
-use Rattle.values.proofs.Values.{cell_below}
-use Rattle.locate.proofs.Sums.{drain_starts, drain_goes}
 use Rattle.locate.proofs.drain.Given as goal
 
 abbrev pub invariant-loop-i : goal.invariant-loop-i

@@ -2,7 +2,6 @@ use mathlib.Core.Path.{ap}
 use lib.Bits.{bit_xor}
 use Rattle.values.specs.Values.{at}
 use Rattle.locate.proofs.Sums.{filtered}
-use borrow.Author.Rules.{rules}
 use Rattle.locate.proofs.filter.Goals as goal
 
 pub returns : goal.returns

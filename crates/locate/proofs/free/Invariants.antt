@@ -1,10 +1,6 @@
-use mathlib.Core.Path.{◌≡◌, subst}
-use Prim.Native.Nat.{ℕ, ◌-◌, ◌≤◌}
+use Prim.Native.Nat.{◌-◌, ◌≤◌}
 use lib.ListN.{take}
-use native.Mathlib.Omega.{arith}
-use borrow.Author.Rules.{rules}
 use Rattle.account.specs.Errata.{Outside}
-use Rattle.locate.proofs.Sums.{free_more, not_free}
 use Rattle.locate.proofs.free.Given as goal
 
 abbrev pub invariant-loop-i : goal.invariant-loop-i

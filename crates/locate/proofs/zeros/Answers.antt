@@ -1,7 +1,5 @@
-use Prim.Native.Nat.{◌-◌, ◌≤◌}
 use native.Mathlib.Omega.{arith}
 use borrow.Author.Rules.{rules}
-use Rattle.account.specs.Search.{Zeros}
 use Rattle.values.specs.Values.{at}
 use Rattle.locate.proofs.Sums.{zeros_more}
 use Rattle.locate.proofs.zeros.Goals as goal

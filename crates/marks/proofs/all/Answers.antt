@@ -1,8 +1,7 @@
 use mathlib.Core.Path.{refl}
-use Prim.Native.Nat.{◌≤◌}
 use native.Mathlib.Omega.{arith}
 use borrow.Author.Rules.{rules}
-use Rattle.marks.proofs.Listing.{Listing, list_starts, some_left, one_more, word_goes, all_gathered}
+use Rattle.marks.proofs.Listing.{list_starts, some_left, one_more, word_goes, all_gathered}
 use Rattle.marks.proofs.all.Goals as goal
 
 pub loop-k-init : goal.loop-k-init

@@ -1,7 +1,5 @@
-use Prim.Native.Nat.{◌-◌}
 use borrow.Author.Rules.{rules}
-use lib.ListN.{length}
-use Rattle.marks.proofs.Tallying.{Oring, or_starts, or_goes, or_ends}
+use Rattle.marks.proofs.Tallying.{or_starts, or_goes, or_ends}
 use Rattle.marks.proofs.any.Goals as goal
 
 pub loop-i-init : goal.loop-i-init

@@ -1,7 +1,6 @@
 use Prim.Native.Nat.{◌-◌}
-use borrow.Author.Rules.{rules}
 use lib.ListN.{length}
-use Rattle.marks.proofs.Tallying.{Oring, or_starts, or_goes, or_ends}
+use Rattle.marks.proofs.Tallying.{Oring}
 use Rattle.marks.proofs.any.Given as goal
 
 abbrev pub invariant-loop-i : goal.invariant-loop-i

@@ -1,11 +1,6 @@
-use mathlib.Core.Path.{◌≡◌, refl, subst}
-use Prim.Native.Nat.{ℕ, ◌-◌, ◌≤◌}
-use native.Mathlib.Omega.{arith}
-use borrow.Author.Rules.{rules}
-use lib.ListN.{length, take}
-use lib.Seq.{length-take-le}
+use Prim.Native.Nat.{◌-◌, ◌≤◌}
+use lib.ListN.{take}
 use Rattle.marks.specs.Marks.{CountsAll}
-use Rattle.marks.proofs.Counting.{counts_next, counts_few, erratum_below}
 use Rattle.marks.proofs.count.Given as goal
 
 abbrev pub invariant-loop-i : goal.invariant-loop-i

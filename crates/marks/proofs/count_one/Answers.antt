@@ -9,7 +9,6 @@ use borrow.Author.Tests.{eq-eqb, ne_eqb}
 use Rattle.account.specs.Reach.{is_marked, one_if, and}
 use Rattle.marks.specs.declared.Counts.{Counts}
 use Rattle.marks.specs.Marks.{CountsOne}
-use borrow.Author.Rules.{rules}
 use Rattle.marks.proofs.count_one.Goals as goal
 
 -- by what the tests of the mark and of the value say

@@ -3,7 +3,7 @@ use native.Mathlib.Omega.{arith}
 use borrow.Author.Rules.{rules}
 use Rattle.account.specs.Lanes.{lane}
 use Rattle.account.proofs.Lanes.{length_lane}
-use Rattle.marks.proofs.Listing.{Listing, list_starts, read_below, lane_goes, lane_many, list_ends}
+use Rattle.marks.proofs.Listing.{list_starts, read_below, lane_goes, lane_many, list_ends}
 use Rattle.marks.proofs.list.Goals as goal
 
 pub loop-i-init : goal.loop-i-init

@@ -1,9 +1,5 @@
-use mathlib.Core.Path.{sym}
-use native.Mathlib.Omega.{arith}
-use borrow.Author.Rules.{rules}
 use Rattle.account.specs.Lanes.{lane}
-use Rattle.account.proofs.Lanes.{length_lane}
-use Rattle.marks.proofs.Listing.{Listing, list_starts, read_below, lane_goes, lane_many, list_ends}
+use Rattle.marks.proofs.Listing.{Listing}
 use Rattle.marks.proofs.list.Given as goal
 
 abbrev pub invariant-loop-i : goal.invariant-loop-i

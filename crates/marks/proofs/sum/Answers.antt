@@ -1,8 +1,6 @@
-use Prim.Native.Nat.{◌-◌}
 use native.Mathlib.Omega.{arith}
 use borrow.Author.Rules.{rules}
-use lib.ListN.{length}
-use Rattle.marks.proofs.Tallying.{Summing, sum_starts, sum_goes, sum_ends}
+use Rattle.marks.proofs.Tallying.{sum_starts, sum_goes, sum_ends}
 use Rattle.marks.proofs.sum.Goals as goal
 
 pub loop-i-init : goal.loop-i-init

@@ -1,8 +1,6 @@
 use Prim.Native.Nat.{◌-◌}
-use native.Mathlib.Omega.{arith}
-use borrow.Author.Rules.{rules}
 use lib.ListN.{length}
-use Rattle.marks.proofs.Tallying.{Summing, sum_starts, sum_goes, sum_ends}
+use Rattle.marks.proofs.Tallying.{Summing}
 use Rattle.marks.proofs.sum.Given as goal
 
 abbrev pub invariant-loop-i : goal.invariant-loop-i

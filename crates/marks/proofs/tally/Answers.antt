@@ -1,5 +1,4 @@
 use native.Mathlib.Omega.{arith}
-use borrow.Author.Rules.{rules}
 use Rattle.marks.proofs.Tallying.{tally_none, tallied}
 use Rattle.marks.proofs.tally.Goals as goal
 

@@ -1,9 +1,8 @@
 use mathlib.Core.Path.{◌≡◌, subst}
-use Prim.Native.Nat.{ℕ, ◌-◌, ◌≤◌}
+use Prim.Native.Nat.{ℕ}
 use native.Mathlib.Omega.{arith}
 use Rattle.patches.specs.Window.{WindowPatched}
 use Rattle.patches.proofs.Windows.{window_0, window_more}
-use borrow.Author.Rules.{rules}
 use Rattle.patches.proofs.patch.Goals as goal
 
 pub loop-i-init : goal.loop-i-init

@@ -1,9 +1,5 @@
-use mathlib.Core.Path.{◌≡◌, subst}
-use Prim.Native.Nat.{ℕ, ◌-◌, ◌≤◌}
-use native.Mathlib.Omega.{arith}
+use Prim.Native.Nat.{◌-◌, ◌≤◌}
 use Rattle.patches.specs.Window.{WindowPatched}
-use Rattle.patches.proofs.Windows.{window_0, window_more}
-use borrow.Author.Rules.{rules}
 use Rattle.patches.proofs.patch.Given as goal
 
 abbrev pub invariant-loop-i : goal.invariant-loop-i

@@ -1,5 +1,4 @@
 use Rattle.patches.proofs.Windows.{patched_one}
-use borrow.Author.Rules.{rules}
 use Rattle.patches.proofs.patch_one.Goals as goal
 
 pub returns : goal.returns

@@ -1,5 +1,4 @@
 use Rattle.patches.proofs.Windows.{window_shown}
-use borrow.Author.Rules.{rules}
 use Rattle.patches.proofs.show.Goals as goal
 
 pub returns : goal.returns

@@ -1,5 +1,4 @@
 use native.Mathlib.Omega.{arith}
-use borrow.Author.Rules.{rules}
 use Rattle.pool.proofs.both_good.Goals as goal
 
 pub returns-then-any-gt1 : goal.returns-then-any-gt1

@@ -1,5 +1,3 @@
-use borrow.Author.Tests.{not-true, not-false}
-use borrow.Author.Rules.{rules}
 use Rattle.level.specs.Strip.{Legal}
 use Rattle.rules.proofs.Tests.{said, denied}
 use Rattle.pool.proofs.both_legal.Goals as goal

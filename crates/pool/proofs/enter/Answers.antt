@@ -1,5 +1,3 @@
-use borrow.Author.Tests.{not-true, not-false}
-use borrow.Author.Rules.{rules}
 use Rattle.rules.proofs.Tests.{said, denied}
 use Rattle.pool.specs.Pooled.{photo}
 use Rattle.pool.proofs.Entering.{Legals, Matched, Goods, Exact, stopped_1, stopped_13, stopped_2, stopped_3, stopped_4, entered}

@@ -1,5 +1,4 @@
 use native.Mathlib.Omega.{arith}
-use borrow.Author.Rules.{rules}
 use Rattle.pool.specs.Pooled.{photo}
 use Rattle.pool.proofs.Entering.{lent}
 use Rattle.pool.proofs.Answering.{refuses, few, pools}

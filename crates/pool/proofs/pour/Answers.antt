@@ -1,9 +1,8 @@
-use Prim.Native.Nat.{◌-◌}
 use native.Mathlib.Omega.{arith}
 use borrow.Author.Rules.{rules}
-use lib.ListN.{length, get_or}
+use lib.ListN.{get_or}
 use Rattle.pool.specs.Pooled.{photo, taken, conflict, both}
-use Rattle.pool.proofs.Pouring.{Pouring, one, pour_starts, pour_goes, pour_few, pour_ends}
+use Rattle.pool.proofs.Pouring.{one, pour_starts, pour_goes, pour_few, pour_ends}
 use Rattle.pool.proofs.pour.Goals as goal
 
 pub loop-i-init : goal.loop-i-init

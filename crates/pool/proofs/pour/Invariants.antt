@@ -1,9 +1,7 @@
 use Prim.Native.Nat.{◌-◌}
-use native.Mathlib.Omega.{arith}
-use borrow.Author.Rules.{rules}
-use lib.ListN.{length, get_or}
-use Rattle.pool.specs.Pooled.{photo, taken, conflict, both}
-use Rattle.pool.proofs.Pouring.{Pouring, one, pour_starts, pour_goes, pour_few, pour_ends}
+use lib.ListN.{length}
+use Rattle.pool.specs.Pooled.{photo}
+use Rattle.pool.proofs.Pouring.{Pouring}
 use Rattle.pool.proofs.pour.Given as goal
 
 abbrev pub invariant-loop-i : goal.invariant-loop-i

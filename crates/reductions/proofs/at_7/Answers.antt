@@ -1,6 +1,5 @@
 use Rattle.reductions.specs.Tables.{seventh}
-use Rattle.rules.proofs.Arms.{entry, no_other}
-use borrow.Author.Rules.{rules}
+use Rattle.rules.proofs.Arms.{entry}
 use Rattle.reductions.proofs.at_7.Goals as goal
 
 pub returns-in-256 : goal.returns-in-256
@@ -770,4 +769,3 @@ returns-in-510 c = entry 256 seventh 254 _ c.requires c.in-510.is
 
 pub returns-in-511 : goal.returns-in-511
 returns-in-511 c = entry 256 seventh 255 _ c.requires c.in-511.is
-

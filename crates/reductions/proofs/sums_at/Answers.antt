@@ -1,5 +1,5 @@
 use Rattle.reductions.specs.Tables.{halves}
-use Rattle.rules.proofs.Arms.{plain, no_other_plain}
+use Rattle.rules.proofs.Arms.{plain}
 use Rattle.reductions.proofs.sums_at.Goals as goal
 
 pub returns-in-0 : goal.returns-in-0
@@ -481,4 +481,3 @@ returns-in-158 c = plain halves 158 _ c.in-158.is
 
 pub returns-in-159 : goal.returns-in-159
 returns-in-159 c = plain halves 159 _ c.in-159.is
-

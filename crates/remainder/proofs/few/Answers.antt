@@ -1,11 +1,10 @@
 use mathlib.Core.Path.{◌≡◌, subst}
-use Prim.Native.Nat.{ℕ, ◌-◌, ◌≤◌}
+use Prim.Native.Nat.{ℕ}
 use native.Mathlib.Omega.{arith}
 use lib.ListN.{take}
 use Rattle.account.specs.Lanes.{lane}
 use Rattle.remainder.specs.Remainder.{Remains}
-use Rattle.remainder.proofs.LanesOf.{Few, few_0, few_cell, few_more}
-use borrow.Author.Rules.{rules}
+use Rattle.remainder.proofs.LanesOf.{few_0, few_cell, few_more}
 use Rattle.remainder.proofs.few.Goals as goal
 
 pub loop-i-init : goal.loop-i-init

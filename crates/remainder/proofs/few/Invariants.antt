@@ -1,11 +1,5 @@
-use mathlib.Core.Path.{◌≡◌, subst}
-use Prim.Native.Nat.{ℕ, ◌-◌, ◌≤◌}
-use native.Mathlib.Omega.{arith}
-use lib.ListN.{take}
-use Rattle.account.specs.Lanes.{lane}
-use Rattle.remainder.specs.Remainder.{Remains}
-use Rattle.remainder.proofs.LanesOf.{Few, few_0, few_cell, few_more}
-use borrow.Author.Rules.{rules}
+use Prim.Native.Nat.{◌-◌, ◌≤◌}
+use Rattle.remainder.proofs.LanesOf.{Few}
 use Rattle.remainder.proofs.few.Given as goal
 
 abbrev pub invariant-loop-i : goal.invariant-loop-i

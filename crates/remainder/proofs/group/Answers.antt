@@ -1,11 +1,10 @@
 use mathlib.Core.Path.{◌≡◌, subst}
 use mathlib.Core.List.{List}
-use Prim.Native.Nat.{ℕ, ◌+◌, ◌-◌, ◌≤◌, ◌<◌}
+use Prim.Native.Nat.{ℕ, ◌+◌, ◌≤◌, ◌<◌}
 use native.Mathlib.Omega.{arith}
 use lib.ListN.{get_or, set}
 use Rattle.remainder.specs.Remainder.{Moved, five_at, Room, lower, RowTo}
 use Rattle.remainder.proofs.LanesOf.{row_0, row_more, row_small}
-use borrow.Author.Rules.{rules}
 use Rattle.remainder.proofs.group.Goals as goal
 
 pub loop-i-init : goal.loop-i-init

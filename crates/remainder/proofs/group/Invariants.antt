@@ -1,11 +1,5 @@
-use mathlib.Core.Path.{◌≡◌, subst}
-use mathlib.Core.List.{List}
-use Prim.Native.Nat.{ℕ, ◌+◌, ◌-◌, ◌≤◌, ◌<◌}
-use native.Mathlib.Omega.{arith}
-use lib.ListN.{get_or, set}
-use Rattle.remainder.specs.Remainder.{Moved, five_at, Room, lower, RowTo}
-use Rattle.remainder.proofs.LanesOf.{row_0, row_more, row_small}
-use borrow.Author.Rules.{rules}
+use Prim.Native.Nat.{◌+◌, ◌-◌, ◌≤◌}
+use Rattle.remainder.specs.Remainder.{lower, RowTo}
 use Rattle.remainder.proofs.group.Given as goal
 
 abbrev pub invariant-loop-i : goal.invariant-loop-i

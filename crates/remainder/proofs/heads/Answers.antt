@@ -1,7 +1,5 @@
-use Prim.Native.Nat.{◌-◌}
 use native.Mathlib.Omega.{arith}
-use Rattle.remainder.proofs.LanesOf.{HeadTo, head_more}
-use borrow.Author.Rules.{rules}
+use Rattle.remainder.proofs.LanesOf.{head_more}
 use Rattle.remainder.proofs.heads.Goals as goal
 
 pub loop-j-init : goal.loop-j-init

@@ -1,7 +1,5 @@
 use Prim.Native.Nat.{◌-◌}
-use native.Mathlib.Omega.{arith}
-use Rattle.remainder.proofs.LanesOf.{HeadTo, head_more}
-use borrow.Author.Rules.{rules}
+use Rattle.remainder.proofs.LanesOf.{HeadTo}
 use Rattle.remainder.proofs.heads.Given as goal
 
 abbrev pub invariant-loop-j : goal.invariant-loop-j

@@ -5,7 +5,6 @@ use Prim.Native.Nat.{ℕ}
 use native.Mathlib.Omega.{arith}
 use Rattle.remainder.specs.Remainder.{Remains}
 use Rattle.remainder.proofs.LanesOf.{lane_word}
-use borrow.Author.Rules.{rules}
 use Rattle.remainder.proofs.remainder_of.Goals as goal
 
 pub returns : goal.returns

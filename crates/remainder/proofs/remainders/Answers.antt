@@ -3,7 +3,6 @@ use lib.ListN.{length}
 use mathlib.Core.Path.{refl}
 use native.Mathlib.Omega.{arith}
 use Rattle.remainder.proofs.LanesOf.{zero_room, head_inside, all_inside, rest_whole, lanes_remain}
-use borrow.Author.Rules.{rules}
 use Rattle.remainder.proofs.remainders.Goals as goal
 
 pub heads-requires : goal.heads-requires

@@ -1,9 +1,8 @@
 use native.Mathlib.Omega.{arith}
 use mathlib.Core.Path.{◌≡◌, subst}
-use Prim.Native.Nat.{◌+◌, ◌-◌, ◌≤◌}
+use Prim.Native.Nat.{◌+◌}
 use Rattle.remainder.specs.Remainder.{lower, RowTo}
 use Rattle.remainder.proofs.LanesOf.{row_0, row_after, row_keeps}
-use borrow.Author.Rules.{rules}
 use Rattle.remainder.proofs.row.Goals as goal
 
 pub loop-j-init : goal.loop-j-init

@@ -1,7 +1,5 @@
-use Prim.Native.Nat.{◌-◌}
 use native.Mathlib.Omega.{arith}
-use lib.ListN.{length}
-use Rattle.remainder.proofs.LanesOf.{Rows, rows_0, row_fits, row_room, rows_more, rows_all}
+use Rattle.remainder.proofs.LanesOf.{rows_0, row_fits, row_room, rows_more, rows_all}
 use Rattle.remainder.proofs.rows.Goals as goal
 
 pub loop-q-init : goal.loop-q-init

@@ -1,7 +1,6 @@
 use Prim.Native.Nat.{◌-◌}
-use native.Mathlib.Omega.{arith}
 use lib.ListN.{length}
-use Rattle.remainder.proofs.LanesOf.{Rows, rows_0, row_fits, row_room, rows_more, rows_all}
+use Rattle.remainder.proofs.LanesOf.{Rows}
 use Rattle.remainder.proofs.rows.Given as goal
 
 abbrev pub invariant-loop-q : goal.invariant-loop-q

@@ -1,5 +1,4 @@
 use Rattle.remainder.proofs.LanesOf.{stepped}
-use borrow.Author.Rules.{rules}
 use Rattle.remainder.proofs.step.Goals as goal
 
 pub returns : goal.returns

@@ -1,11 +1,6 @@
-use mathlib.Core.Path.{◌≡◌, sym, ap, ◌∙◌, subst}
-use Prim.Native.Nat.{ℕ, ◌+◌, ◌*◌, ◌/◌, ◌%◌, ◌^◌, ◌-◌, ◌≤◌}
-use native.Mathlib.Omega.{arith}
-use lib.Bits.{bit_xor}
-use lib.ListN.{get_or}
-use Rattle.reductions.specs.Tables.{halves}
-use borrow.Author.Rules.{rules}
-use Rattle.remainder.proofs.Halves.{SumsOf, sums_start, sums_next, rest_next, sums_end}
+use mathlib.Core.Path.{◌≡◌}
+use Prim.Native.Nat.{◌*◌, ◌/◌, ◌%◌, ◌^◌, ◌-◌, ◌≤◌}
+use Rattle.remainder.proofs.Halves.{SumsOf}
 use Rattle.remainder.proofs.sums.Given as goal
 
 abbrev pub invariant-loop-k : goal.invariant-loop-k

@@ -1,4 +1,3 @@
-use borrow.Author.Rules.{rules}
 use Rattle.remainder.proofs.syndrome_of.Goals as goal
 
 pub returns : goal.returns

@@ -1,4 +1,4 @@
-use Rattle.std.proofs.Common.{◌-◌, ◌∙◌, get_or, refl, arith}
+use Rattle.std.proofs.Common.{◌-◌, get_or, refl, arith}
 use lib.ListN.{length-set}
 use Rattle.tiny.proofs.Carry.{codes_set, at_none, at_last, at_carry}
 use Rattle.tiny.proofs.+step.Goals as goal

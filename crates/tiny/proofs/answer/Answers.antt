@@ -1,9 +1,7 @@
 use mathlib.Core.Path.{subst}
 use mathlib.Core.Bool.{Bool}
-use borrow.Author.Tests.{not-true, not-false}
 use Rattle.tiny.specs.Parts.{Seeks}
 use Rattle.tiny.proofs.Answering.{none_on, board_on}
-use borrow.Author.Rules.{rules}
 use Rattle.tiny.proofs.answer.Goals as goal
 
 pub returns-then-not-seek : goal.returns-then-not-seek

@@ -1,8 +1,7 @@
-use Prim.Native.Nat.{◌-◌, ◌≤◌}
 use native.Mathlib.Omega.{arith}
 use borrow.Author.Rules.{rules}
-use lib.ListN.{length, set, length-set}
-use Rattle.tiny.proofs.Carry.{Cleared, clear_none, clear_more, clear_end}
+use lib.ListN.{length-set}
+use Rattle.tiny.proofs.Carry.{clear_none, clear_more, clear_end}
 use Rattle.tiny.proofs.clear.Goals as goal
 
 pub loop-i-init : goal.loop-i-init

@@ -1,8 +1,6 @@
 use Prim.Native.Nat.{◌-◌, ◌≤◌}
-use native.Mathlib.Omega.{arith}
-use borrow.Author.Rules.{rules}
-use lib.ListN.{length, set, length-set}
-use Rattle.tiny.proofs.Carry.{Cleared, clear_none, clear_more, clear_end}
+use lib.ListN.{length}
+use Rattle.tiny.proofs.Carry.{Cleared}
 use Rattle.tiny.proofs.clear.Given as goal
 
 abbrev pub invariant-loop-i : goal.invariant-loop-i

@@ -1,8 +1,5 @@
 use Prim.Native.Nat.{ℕ, ◌-◌, ◌≤◌, ◌<◌}
-use native.Mathlib.Omega.{arith}
-use borrow.Author.Rules.{rules}
 use lib.ListN.{length, get_or}
-use Rattle.fields.proofs.Reading.{range_more}
 use Rattle.tiny.proofs.coded.Given as goal
 
 abbrev pub invariant-loop-i : goal.invariant-loop-i

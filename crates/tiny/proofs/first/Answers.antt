@@ -6,7 +6,6 @@ use lib.ListN.{length}
 use Rattle.level.specs.Level.{AllTiles}
 use Rattle.tiny.specs.Parts.{GoesOn}
 use Rattle.tiny.proofs.Answering.{floor_front, floor_long, floor_coded}
-use borrow.Author.Rules.{rules}
 use Rattle.tiny.proofs.first.Goals as goal
 
 pub go_on-requires : goal.go_on-requires

@@ -1,9 +1,7 @@
 use mathlib.Core.Path.{refl}
 use mathlib.Core.Logic.{inl, inr}
-use borrow.Author.Tests.{not-true, not-false}
 use Rattle.rules.proofs.Tests.{said, denied}
 use Rattle.level.specs.Level.{AllTiles}
-use borrow.Author.Rules.{rules}
 use Rattle.tiny.proofs.given_code.Goals as goal
 
 pub returns-then-given-w : goal.returns-then-given-w

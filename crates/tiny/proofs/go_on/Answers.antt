@@ -6,7 +6,6 @@ use lib.ListN.{length, take}
 use Rattle.level.specs.Level.{AllTiles}
 use Rattle.tiny.specs.Parts.{GoesOn}
 use Rattle.tiny.proofs.Answering.{copied}
-use borrow.Author.Rules.{rules}
 use Rattle.tiny.proofs.go_on.Goals as goal
 
 pub answer-requires : goal.answer-requires

@@ -2,7 +2,6 @@ use mathlib.Core.Path.{sym, subst}
 use lib.Dec.{T}
 use Rattle.tiny.proofs.Fronts.{two_players, crates_behind, goals_behind}
 use native.Mathlib.Omega.{arith}
-use borrow.Author.Rules.{rules}
 use Rattle.tiny.proofs.lost.Goals as goal
 
 pub returns-then-players-gt1 : goal.returns-then-players-gt1

@@ -1,15 +1,13 @@
 use mathlib.Core.Path.{refl, sym, subst}
 use mathlib.Core.Logic.{inl, inr}
-use mathlib.Core.Bool.{Bool, true, false}
+use mathlib.Core.Bool.{Bool}
 use Prim.Native.Nat.{◌*◌}
 use native.Mathlib.Omega.{arith}
-use borrow.Author.Tests.{not-true, not-false}
-use lib.ListN.{length, replicate}
+use lib.ListN.{replicate}
 use Rattle.rules.proofs.Tests.{said, denied}
 use Rattle.tiny.specs.Tiny.{Tiny, place_of, start, after, StepsAs}
 use Rattle.tiny.proofs.Given.{some_tile}
 use Rattle.tiny.proofs.Answering.{refused, given_holds, steps, floor_long, floor_first}
-use borrow.Author.Rules.{rules}
 use Rattle.tiny.specs.declared.Found.TheVariants as answer
 use Rattle.tiny.proofs.next.Goals as goal
 

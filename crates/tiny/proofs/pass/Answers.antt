@@ -1,6 +1,5 @@
 use native.Mathlib.Omega.{arith}
 use Rattle.tiny.proofs.Carry.{cleared_codes, passed}
-use borrow.Author.Rules.{rules}
 use Rattle.tiny.proofs.pass.Goals as goal
 
 pub step-requires : goal.step-requires

@@ -1,11 +1,8 @@
-use mathlib.Core.Path.{◌≡◌, refl, sym, subst, ◌∙◌}
+use mathlib.Core.Path.{refl, sym, subst, ◌∙◌}
 use mathlib.Core.Bool.{Bool}
-use mathlib.Core.List.{List}
-use Prim.Native.Nat.{ℕ, ◌<◌}
+use Prim.Native.Nat.{◌<◌}
 use native.Mathlib.Omega.{arith}
 use borrow.Author.Rules.{rules}
-use lib.ListN.{length}
-use Rattle.tiny.specs.Parts.{Goes}
 use Rattle.tiny.proofs.Search.{goes_on, goes_over, ahead, pass_front, fewer_ahead, stands}
 use Rattle.tiny.proofs.seek.Goals as goal
 

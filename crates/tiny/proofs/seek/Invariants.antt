@@ -1,12 +1,9 @@
-use mathlib.Core.Path.{◌≡◌, refl, sym, subst, ◌∙◌}
-use mathlib.Core.Bool.{Bool}
+use mathlib.Core.Path.{◌≡◌}
 use mathlib.Core.List.{List}
-use Prim.Native.Nat.{ℕ, ◌<◌}
-use native.Mathlib.Omega.{arith}
-use borrow.Author.Rules.{rules}
+use Prim.Native.Nat.{ℕ}
 use lib.ListN.{length}
 use Rattle.tiny.specs.Parts.{Goes}
-use Rattle.tiny.proofs.Search.{goes_on, goes_over, ahead, pass_front, fewer_ahead, stands}
+use Rattle.tiny.proofs.Search.{ahead}
 use Rattle.tiny.proofs.seek.Given as goal
 
 abbrev pub invariant-loop-going : goal.invariant-loop-going

@@ -1,6 +1,5 @@
 use native.Mathlib.Omega.{arith}
 use Rattle.tiny.proofs.Given.{wide_most, high_most, product_most}
-use borrow.Author.Rules.{rules}
 use Rattle.tiny.proofs.tiny.Goals as goal
 
 pub returns-then-w-gt-TINY_MOST : goal.returns-then-w-gt-TINY_MOST

@@ -1,4 +1,4 @@
-use Rattle.std.proofs.Common.{arith, rules}
+use Rattle.std.proofs.Common.{arith}
 use Rattle.values.proofs.Values.{solve_last, solve_step}
 use Rattle.values.proofs.+solve.Goals as goal
 

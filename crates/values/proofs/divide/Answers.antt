@@ -1,9 +1,8 @@
 use mathlib.Core.Path.{◌∙◌}
 use lib.ListN.{length-set}
-use Prim.Native.Nat.{◌-◌}
 use native.Mathlib.Omega.{arith}
 use borrow.Author.Rules.{rules}
-use Rattle.values.proofs.Values.{cell_below, Dividing, apart_by, divide_starts, divide_goes, divide_ends}
+use Rattle.values.proofs.Values.{cell_below, apart_by, divide_starts, divide_goes, divide_ends}
 use lib.Bits.{bit_xor}
 use Rattle.gf256.specs.Tables.{inverse_of}
 use Rattle.values.proofs.divide.Goals as goal

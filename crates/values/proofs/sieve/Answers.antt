@@ -1,7 +1,7 @@
 use Prim.Native.Nat.{◌-◌}
 use native.Mathlib.Omega.{arith}
 use borrow.Author.Rules.{rules}
-use Rattle.values.proofs.Values.{Sieving, sieve_starts, sieve_goes, sieve_ends}
+use Rattle.values.proofs.Values.{sieve_starts, sieve_goes, sieve_ends}
 use Rattle.values.proofs.sieve.Goals as goal
 
 pub loop-m-init : goal.loop-m-init

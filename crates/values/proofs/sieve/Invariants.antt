@@ -1,7 +1,4 @@
-use Prim.Native.Nat.{◌-◌}
-use native.Mathlib.Omega.{arith}
-use borrow.Author.Rules.{rules}
-use Rattle.values.proofs.Values.{Sieving, sieve_starts, sieve_goes, sieve_ends}
+use Rattle.values.proofs.Values.{Sieving}
 use Rattle.values.proofs.sieve.Given as goal
 
 abbrev pub invariant-loop-m : goal.invariant-loop-m

@@ -1,7 +1,6 @@
-use Prim.Native.Nat.{◌-◌}
 use native.Mathlib.Omega.{arith}
 use borrow.Author.Rules.{rules}
-use Rattle.values.proofs.Values.{cell_below, Unweighing, unweigh_starts, unweigh_goes, unweigh_ends}
+use Rattle.values.proofs.Values.{cell_below, unweigh_starts, unweigh_goes, unweigh_ends}
 use Rattle.values.proofs.unweigh.Goals as goal
 
 pub loop-j-init : goal.loop-j-init

@@ -1,7 +1,5 @@
 use Prim.Native.Nat.{◌-◌}
-use native.Mathlib.Omega.{arith}
-use borrow.Author.Rules.{rules}
-use Rattle.values.proofs.Values.{cell_below, Unweighing, unweigh_starts, unweigh_goes, unweigh_ends}
+use Rattle.values.proofs.Values.{Unweighing}
 use Rattle.values.proofs.unweigh.Given as goal
 
 abbrev pub invariant-loop-j : goal.invariant-loop-j

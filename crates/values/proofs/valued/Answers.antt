@@ -5,7 +5,6 @@ use Rattle.account.specs.Errata.{unweighed}
 use Rattle.gf256.specs.Gf256.{gf256}
 use Rattle.gf256.specs.Tables.{place_of}
 use Rattle.values.proofs.Values.{solve_all}
-use borrow.Author.Rules.{rules}
 use Rattle.values.proofs.valued.Goals as goal
 
 pub returns : goal.returns

@@ -6,7 +6,6 @@ use lib.ListN.{drop}
 use Rattle.tiles.proofs.Part.{length_part, tiles_from_part}
 use Rattle.fields.proofs.Accepting.{rejected, room_for, accepted}
 use Rattle.windows.proofs.Weighing.{record_in, length_record}
-use borrow.Author.Rules.{rules}
 use Rattle.windows.proofs.accept.Goals as goal
 
 pub returns-then-refusal-ne0 : goal.returns-then-refusal-ne0

@@ -1,6 +1,5 @@
 use native.Mathlib.Omega.{arith}
 use Rattle.windows.proofs.Weighing.{head_seen}
-use borrow.Author.Rules.{rules}
 use Rattle.windows.proofs.head.Goals as goal
 
 pub returns : goal.returns

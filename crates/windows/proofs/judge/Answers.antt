@@ -2,7 +2,6 @@ use native.Mathlib.Omega.{arith}
 use Rattle.fields.proofs.Judging.{area_few}
 use Rattle.windows.proofs.Weighing.{record_in, length_record}
 use Rattle.windows.proofs.Judging.{not_ranged, not_fitting, not_blank_after, by_answer}
-use borrow.Author.Rules.{rules}
 use Rattle.windows.proofs.judge.Goals as goal
 
 pub returns-then-not-head_ranged : goal.returns-then-not-head_ranged

@@ -8,7 +8,7 @@ use lib.ListN.{length, take, drop, length-drop}
 use lib.Seq.{length-take-le}
 use Rattle.rules.proofs.Numbers.{lt_or_ge}
 use Rattle.windows.proofs.Weighing.{record_in, sees}
-use Rattle.windows.proofs.Unpacking.{window_holds, Unpacking, unpacking_0, unpacking_more, unpacked_all}
+use Rattle.windows.proofs.Unpacking.{window_holds, unpacking_0, unpacking_more, unpacked_all}
 use Rattle.windows.proofs.unpack.Goals as goal
 
 pub loop-t-init : goal.loop-t-init

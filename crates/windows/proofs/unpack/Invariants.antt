@@ -1,14 +1,8 @@
-use mathlib.Core.Path.{◌≡◌, refl, ◌∙◌}
-use mathlib.Core.Logic.{⊎_elim}
+use mathlib.Core.Path.{◌≡◌}
 use Prim.Native.Nat.{◌-◌}
-use native.Mathlib.Omega.{arith}
-use borrow.Author.Rules.{rules}
-use borrow.Rule.Slice.PartMut.{post_of}
-use lib.ListN.{length, take, drop, length-drop}
-use lib.Seq.{length-take-le}
-use Rattle.rules.proofs.Numbers.{lt_or_ge}
-use Rattle.windows.proofs.Weighing.{record_in, sees}
-use Rattle.windows.proofs.Unpacking.{window_holds, Unpacking, unpacking_0, unpacking_more, unpacked_all}
+use lib.ListN.{length}
+use Rattle.windows.proofs.Weighing.{record_in}
+use Rattle.windows.proofs.Unpacking.{Unpacking}
 use Rattle.windows.proofs.unpack.Given as goal
 
 abbrev pub invariant-loop-t : goal.invariant-loop-t

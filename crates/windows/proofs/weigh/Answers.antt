@@ -1,12 +1,11 @@
 use mathlib.Core.Path.{◌≡◌, refl, ◌∙◌}
 use Prim.Native.Nat.{◌-◌}
 use native.Mathlib.Omega.{arith}
-use borrow.Author.Tests.{not-true, not-false}
 use borrow.Author.Rules.{rules}
 use lib.ListN.{length, take}
 use lib.Seq.{length-take-le}
 use Rattle.rules.proofs.Tests.{said, denied}
-use Rattle.windows.proofs.Weighing.{BlankFrom, record_in, length_record, sees, Weighing, weighing_0, weighing_more, some_seen, not_blank, weighed_all}
+use Rattle.windows.proofs.Weighing.{BlankFrom, record_in, length_record, sees, weighing_0, weighing_more, some_seen, not_blank, weighed_all}
 use Rattle.windows.proofs.weigh.Goals as goal
 
 pub loop-from-init : goal.loop-from-init

@@ -1,12 +1,7 @@
-use mathlib.Core.Path.{◌≡◌, refl, ◌∙◌}
+use mathlib.Core.Path.{◌≡◌}
 use Prim.Native.Nat.{◌-◌}
-use native.Mathlib.Omega.{arith}
-use borrow.Author.Tests.{not-true, not-false}
-use borrow.Author.Rules.{rules}
-use lib.ListN.{length, take}
-use lib.Seq.{length-take-le}
-use Rattle.rules.proofs.Tests.{said, denied}
-use Rattle.windows.proofs.Weighing.{BlankFrom, record_in, length_record, sees, Weighing, weighing_0, weighing_more, some_seen, not_blank, weighed_all}
+use lib.ListN.{length}
+use Rattle.windows.proofs.Weighing.{record_in, Weighing}
 use Rattle.windows.proofs.weigh.Given as goal
 
 abbrev pub invariant-loop-from : goal.invariant-loop-from

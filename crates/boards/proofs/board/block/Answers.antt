@@ -1,7 +1,6 @@
 use mathlib.Core.Path.{◌≡◌, sym, ap, ◌∙◌}
-use Prim.Native.Nat.{◌+◌, ◌-◌, ◌≤◌}
+use Prim.Native.Nat.{◌+◌}
 use native.Mathlib.Omega.{arith}
-use borrow.Author.Rules.{rules}
 use Rattle.boards.proofs.Codes.{tiles_at, left_of, added_by, left_next, left_all, added_none, added_small, sum_small, row_next, row_last}
 use Rattle.boards.proofs.board.block.Goals as goal
 

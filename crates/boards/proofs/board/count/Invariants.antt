@@ -1,9 +1,6 @@
-use mathlib.Core.Path.{◌≡◌, refl, ap, ◌∙◌}
-use Prim.Native.Nat.{ℕ, ◌+◌, ◌-◌, ◌≤◌}
-use native.Mathlib.Omega.{arith}
-use borrow.Author.Rules.{rules}
-use Rattle.account.specs.Lists.{sum_of}
-use Rattle.boards.proofs.Codes.{tiles_at, count_of, count_next, few}
+use mathlib.Core.Path.{◌≡◌}
+use Prim.Native.Nat.{◌-◌, ◌≤◌}
+use Rattle.boards.proofs.Codes.{tiles_at, count_of}
 use Rattle.boards.proofs.board.count.Given as goal
 
 abbrev pub invariant-loop-i : goal.invariant-loop-i

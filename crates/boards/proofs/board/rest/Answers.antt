@@ -1,11 +1,7 @@
 use Rattle.boards.proofs.Codes.{weight_next, weight_end}
 use Rattle.tiles.proofs.Rows.{weighed_small}
-use Rattle.tiles.specs.Sum.{weight}
-use borrow.Author.Rules.{rules}
-use lib.ListN.{length, get_or, drop}
+use lib.ListN.{get_or}
 use native.Mathlib.Omega.{arith}
-use Prim.Native.Nat.{◌+◌, ◌*◌, ◌-◌, ◌≤◌}
-use mathlib.Core.Path.{◌≡◌}
 use Rattle.boards.proofs.board.rest.Goals as goal
 
 pub weigh-x-requires : goal.weigh-x-requires

@@ -1,9 +1,5 @@
-use Rattle.boards.proofs.Codes.{weight_next, weight_end}
-use Rattle.tiles.proofs.Rows.{weighed_small}
 use Rattle.tiles.specs.Sum.{weight}
-use borrow.Author.Rules.{rules}
-use lib.ListN.{length, get_or, drop}
-use native.Mathlib.Omega.{arith}
+use lib.ListN.{length, drop}
 use Prim.Native.Nat.{◌+◌, ◌*◌, ◌-◌, ◌≤◌}
 use mathlib.Core.Path.{◌≡◌}
 use Rattle.boards.proofs.board.rest.Given as goal

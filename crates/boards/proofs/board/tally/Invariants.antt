@@ -1,10 +1,7 @@
-use mathlib.Core.Path.{◌≡◌, ap}
-use Prim.Native.Nat.{ℕ, ◌+◌, ◌*◌, ◌-◌, ◌/◌, ◌≤◌}
-use native.Mathlib.Omega.{arith}
-use borrow.Author.Rules.{rules}
-use lib.ListN.{length, drop}
+use mathlib.Core.Path.{◌≡◌}
+use Prim.Native.Nat.{◌+◌, ◌*◌, ◌-◌, ◌≤◌}
+use lib.ListN.{drop}
 use Rattle.tiles.specs.Sum.{weight}
-use Rattle.boards.proofs.Codes.{tiles_at, sum_small, weight_run}
 use Rattle.boards.proofs.board.tally.Given as goal
 
 abbrev pub invariant-loop-g : goal.invariant-loop-g

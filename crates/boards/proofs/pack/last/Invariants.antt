@@ -1,10 +1,7 @@
-use mathlib.Core.Path.{◌≡◌, sym, ap, ◌∙◌}
-use Prim.Native.Nat.{ℕ, ◌+◌, ◌*◌, ◌-◌, ◌≤◌}
-use native.Mathlib.Omega.{arith}
-use borrow.Author.Rules.{rules}
+use mathlib.Core.Path.{◌≡◌}
+use Prim.Native.Nat.{◌+◌, ◌*◌, ◌-◌, ◌≤◌}
 use lib.ListN.{get_or}
 use Rattle.boards.specs.Pack.{joined}
-use Rattle.boards.proofs.Packing.{joined_next, joined_none, room}
 use Rattle.boards.proofs.pack.last.Given as goal
 
 abbrev pub invariant-loop-j : goal.invariant-loop-j

@@ -1,9 +1,8 @@
-use mathlib.Core.Path.{◌≡◌, refl, ap, ◌∙◌}
-use Prim.Native.Nat.{ℕ, ◌+◌, ◌*◌, ◌-◌, ◌/◌, ◌≤◌, ◌<◌}
+use mathlib.Core.Path.{refl, ap, ◌∙◌}
+use Prim.Native.Nat.{◌+◌, ◌*◌, ◌/◌}
 use native.Mathlib.Omega.{arith}
-use borrow.Author.Rules.{rules}
-use lib.ListN.{length, get_or}
-use Rattle.boards.specs.Pack.{tile_byte, turned_of}
+use lib.ListN.{length}
+use Rattle.boards.specs.Pack.{turned_of}
 use Rattle.boards.proofs.Packing.{joined_small, bytes_next}
 use Rattle.boards.proofs.pack.pack.Goals as goal
 

@@ -1,10 +1,7 @@
-use mathlib.Core.Path.{◌≡◌, refl, ap, ◌∙◌}
-use Prim.Native.Nat.{ℕ, ◌+◌, ◌*◌, ◌-◌, ◌/◌, ◌≤◌, ◌<◌}
-use native.Mathlib.Omega.{arith}
-use borrow.Author.Rules.{rules}
+use mathlib.Core.Path.{◌≡◌}
+use Prim.Native.Nat.{ℕ, ◌+◌, ◌*◌, ◌-◌, ◌≤◌, ◌<◌}
 use lib.ListN.{length, get_or}
-use Rattle.boards.specs.Pack.{tile_byte, turned_of}
-use Rattle.boards.proofs.Packing.{joined_small, bytes_next}
+use Rattle.boards.specs.Pack.{tile_byte}
 use Rattle.boards.proofs.pack.pack.Given as goal
 
 abbrev pub invariant-loop-g : goal.invariant-loop-g

@@ -1,6 +1,5 @@
 use mathlib.Core.Path.{ap, ◌∙◌}
 use mir.Facts.{to_z-of_z}
-use borrow.Author.Rules.{rules}
 use Rattle.account.specs.Code.{alpha_to}
 use Rattle.gf256.specs.Gf256.{gf256}
 use Rattle.code.proofs.field.power.Goals as goal

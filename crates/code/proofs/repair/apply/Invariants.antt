@@ -1,13 +1,7 @@
-use mathlib.Core.Path.{◌≡◌, subst}
-use Prim.Native.Nat.{ℕ, ◌-◌, ◌≤◌}
-use native.Mathlib.Omega.{arith}
-use borrow.Author.Rules.{rules}
-use lib.ListN.{length}
+use Prim.Native.Nat.{◌≤◌}
 use lib.Seq.{slice}
 use Rattle.account.specs.Errata.{Applied}
 use Rattle.gf256.specs.Gf256.{gf256}
-use Rattle.marks.proofs.Counting.{erratum_below}
-use Rattle.code.proofs.Applying.{apply_starts, apply_goes}
 use Rattle.code.proofs.repair.apply.Given as goal
 
 abbrev pub invariant-loop-k : goal.invariant-loop-k

@@ -2,14 +2,12 @@ use mathlib.Core.Path.{refl, ◌∙◌}
 use Rattle.remainder.specs.Remainder.{unpacked}
 use Rattle.remainder.proofs.Whole.{syndrome_same}
 use Rattle.errata.proofs.Guesses.{listed_marks}
-use borrow.Author.Rules.{rules}
 use Rattle.code.proofs.Repairing.{syndrome_bytes}
 use Rattle.code.proofs.repair.errata_of.Goals as goal
 
 pub find-requires : goal.find-requires
 find-requires c =
-    let y = c.syndrome_of-s in
-    (
+    let y = c.syndrome_of-s in (
       c.make-tables.ensures,
       listed_marks c.args.marks.now c.all-cells.result c.args.f c.requires.1 c.requires.3 c.all-cells.ensures,
       syndrome_bytes (unpacked c.args.r) y.result y.ensures,

@@ -2,7 +2,6 @@ use mathlib.Core.Path.{sym, subst}
 use Prim.Native.Nat.{ℕ}
 use Rattle.errata.specs.Errata.{ErrataFor}
 use native.Mathlib.Omega.{arith}
-use borrow.Author.Tests.{not-true, not-false}
 use Rattle.code.proofs.Repairing.{entry_of, repair_refused, repair_beyond, too_many, searchable, repair_mends, searched, unsearched}
 use borrow.Author.Rules.{rules}
 use Rattle.code.proofs.repair.repair.Goals as goal

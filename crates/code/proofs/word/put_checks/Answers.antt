@@ -1,7 +1,6 @@
 use native.Mathlib.Omega.{arith}
 use lib.ListN.{length-set}
 use Rattle.code.proofs.Writing.{stored}
-use borrow.Author.Rules.{rules}
 use Rattle.code.proofs.word.put_checks.Goals as goal
 
 pub bounds-word-k-2 : goal.bounds-word-k-2

@@ -1,6 +1,5 @@
 use mathlib.Core.Path.{◌∙◌}
 use Rattle.remainder.proofs.Whole.{syndrome_same}
-use borrow.Author.Rules.{rules}
 use Rattle.code.proofs.word.syndrome_of.Goals as goal
 
 pub returns : goal.returns

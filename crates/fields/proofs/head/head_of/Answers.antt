@@ -1,7 +1,6 @@
 use Rattle.fields.proofs.Reading.{heads}
 use native.Mathlib.Omega.{arith}
 use mathlib.Core.Path.{refl}
-use borrow.Author.Rules.{rules}
 use Rattle.fields.proofs.head.head_of.Goals as goal
 
 pub overflow_cast-a : goal.overflow_cast-a

@@ -1,6 +1,5 @@
 use mathlib.Core.Path.{refl}
 use native.Mathlib.Omega.{arith}
-use borrow.Author.Rules.{rules}
 use Rattle.fields.proofs.judged.answer.Goals as goal
 
 pub returns-then-code-ne0 : goal.returns-then-code-ne0

@@ -1,6 +1,5 @@
 use Rattle.fields.proofs.Reading.{few}
 use native.Mathlib.Omega.{arith}
-use borrow.Author.Rules.{rules}
 use Rattle.fields.proofs.shape.fits.Goals as goal
 
 pub overflow_mul-lanes : goal.overflow_mul-lanes

@@ -2,7 +2,6 @@ use Rattle.fields.proofs.Filling.{shifted, shifted_some}
 use mathlib.Core.Path.{ap, ◌∙◌}
 use Prim.Native.Nat.{ℕ, ◌-◌}
 use lib.Bits.{bit_and, and_mask}
-use borrow.Author.Rules.{rules}
 use Rattle.fields.proofs.shape.low_bits.Goals as goal
 
 pub overflow_sub-result : goal.overflow_sub-result

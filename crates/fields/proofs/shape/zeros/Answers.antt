@@ -1,8 +1,6 @@
-use borrow.Author.Rules.{rules}
 use Rattle.fields.proofs.Reading.{range_more}
-use lib.ListN.{length, get_or}
+use lib.ListN.{get_or}
 use native.Mathlib.Omega.{arith}
-use Prim.Native.Nat.{ℕ, ◌-◌, ◌≤◌, ◌<◌}
 use mathlib.Core.Path.{◌≡◌}
 use Rattle.fields.proofs.shape.zeros.Goals as goal
 

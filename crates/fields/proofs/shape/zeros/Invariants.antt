@@ -1,7 +1,4 @@
-use borrow.Author.Rules.{rules}
-use Rattle.fields.proofs.Reading.{range_more}
 use lib.ListN.{length, get_or}
-use native.Mathlib.Omega.{arith}
 use Prim.Native.Nat.{ℕ, ◌-◌, ◌≤◌, ◌<◌}
 use mathlib.Core.Path.{◌≡◌}
 use Rattle.fields.proofs.shape.zeros.Given as goal

@@ -1,6 +1,5 @@
 use native.Mathlib.Omega.{arith}
 use Prim.Native.Nat.{◌<◌}
-use borrow.Author.Rules.{rules}
 use Rattle.rules.proofs.Tests.{says_as}
 use Rattle.level.specs.Level.{AllTiles}
 use Rattle.fields.proofs.Tiles.{early_tiles, late_tiles}

@@ -2,8 +2,6 @@ use mathlib.Core.Path.{refl, sym, ◌∙◌}
 use Prim.Native.Nat.{◌/◌, ◌%◌}
 use mathlib.Core.Logic.{inl, inr}
 use native.Mathlib.Omega.{arith}
-use borrow.Author.Tests.{not-true, not-false}
-use borrow.Author.Rules.{rules}
 use Rattle.rules.proofs.Tests.{said, denied}
 use Rattle.level.specs.Tile.{totals}
 use Rattle.level.specs.Level.{AllTiles, Playable}

@@ -1,4 +1,3 @@
-use borrow.Author.Rules.{rules}
 use Rattle.rules.proofs.Placing.{laid_copy}
 use Rattle.gf256.proofs.tables.lay.Goals as goal
 

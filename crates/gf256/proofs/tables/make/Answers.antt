@@ -1,4 +1,3 @@
-use borrow.Author.Rules.{rules}
 use Rattle.gf256.proofs.Laying.{made}
 use Rattle.gf256.proofs.tables.make.Goals as goal
 

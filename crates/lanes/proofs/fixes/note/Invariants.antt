@@ -1,9 +1,5 @@
-use mathlib.Core.Path.{◌≡◌, subst}
-use Prim.Native.Nat.{ℕ, ◌-◌, ◌≤◌}
-use native.Mathlib.Omega.{arith}
-use borrow.Author.Rules.{rules}
+use Prim.Native.Nat.{◌-◌, ◌≤◌}
 use Rattle.lanes.specs.Fixes.{Noted}
-use Rattle.lanes.proofs.Noting.{noted_0, noted_more, counts_small, cell_below, cell_small, cell_inside}
 use Rattle.lanes.proofs.fixes.note.Given as goal
 
 abbrev pub invariant-loop-i : goal.invariant-loop-i

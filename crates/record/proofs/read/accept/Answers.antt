@@ -1,6 +1,5 @@
 use mathlib.Core.Path.{◌≡◌}
 use native.Mathlib.Omega.{arith}
-use borrow.Author.Rules.{rules}
 use Rattle.fields.proofs.Accepting.{rejected, room_for, accepted}
 use Rattle.record.proofs.read.accept.Goals as goal
 

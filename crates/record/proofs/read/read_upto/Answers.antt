@@ -1,6 +1,5 @@
 use native.Mathlib.Omega.{arith}
 use Rattle.record.proofs.Reader.{not_read_1, not_read_4, not_read_later, reads}
-use borrow.Author.Rules.{rules}
 use Rattle.record.proofs.read.read_upto.Goals as goal
 
 pub returns-then-bytes-lt-RECORD_LEAST : goal.returns-then-bytes-lt-RECORD_LEAST

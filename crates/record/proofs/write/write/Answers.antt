@@ -3,7 +3,6 @@ use Rattle.record.proofs.Answers.{refused_4, refused_later, wrote}
 use Rattle.fields.proofs.Tiles.{record_short}
 use Rattle.level.specs.Writing.{lent}
 use native.Mathlib.Omega.{arith}
-use borrow.Author.Rules.{rules}
 use Rattle.record.proofs.write.write.Goals as goal
 
 pub returns-then-out-lt-RECORD_MOST : goal.returns-then-out-lt-RECORD_MOST

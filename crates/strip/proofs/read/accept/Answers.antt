@@ -7,7 +7,6 @@ use native.Mathlib.Omega.{arith}
 use Rattle.fields.specs.Judged.{AcceptedAs}
 use Rattle.level.proofs.Lengths.{lanes_within}
 use Rattle.strip.proofs.Reader.{checks_inside, data_within, data_mended, data_clean}
-use borrow.Author.Rules.{rules}
 use Rattle.strip.proofs.read.accept.Goals as goal
 
 pub overflow_mul-to : goal.overflow_mul-to

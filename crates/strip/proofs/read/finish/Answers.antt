@@ -1,6 +1,5 @@
 use native.Mathlib.Omega.{arith}
 use Rattle.strip.proofs.Reader.{finish_refused, finish_read}
-use borrow.Author.Rules.{rules}
 use Rattle.strip.proofs.read.finish.Goals as goal
 
 pub returns-then-code-ne0 : goal.returns-then-code-ne0

@@ -7,7 +7,6 @@ use Rattle.level.proofs.Lengths.{lanes_within, cells_most}
 use Rattle.level.proofs.Counts.{legal_some}
 use Rattle.strip.proofs.Entering.{entered, ready}
 use Rattle.strip.proofs.Reader.{early_as, lane_as, finished_as}
-use borrow.Author.Rules.{rules}
 use Rattle.strip.proofs.read.read_upto.Goals as goal
 
 pub returns-then-code-ne0 : goal.returns-then-code-ne0

@@ -2,7 +2,6 @@ use Prim.Native.Nat.{◌*◌, ◌<◌}
 use native.Mathlib.Nat.{mod-lt, div-le_self}
 use native.Mathlib.Omega.{arith}
 use Rattle.level.proofs.Nearest.{nearest_down, nearest_up}
-use borrow.Author.Rules.{rules}
 use Rattle.strip.proofs.read.wear.Goals as goal
 
 pub overflow_mul-percents-2 : goal.overflow_mul-percents-2

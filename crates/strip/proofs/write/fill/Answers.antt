@@ -1,7 +1,6 @@
 use mathlib.Core.Path.{◌≡◌, refl, subst}
-use Prim.Native.Nat.{ℕ, ◌-◌, ◌≤◌}
+use Prim.Native.Nat.{ℕ}
 use native.Mathlib.Omega.{arith}
-use borrow.Author.Rules.{rules}
 use Rattle.rules.specs.Placed.{Placed}
 use Rattle.rules.proofs.Placing.{placed_0, placed_more}
 use Rattle.strip.proofs.write.fill.Goals as goal

@@ -1,9 +1,5 @@
-use mathlib.Core.Path.{◌≡◌, refl, subst}
-use Prim.Native.Nat.{ℕ, ◌-◌, ◌≤◌}
-use native.Mathlib.Omega.{arith}
-use borrow.Author.Rules.{rules}
+use Prim.Native.Nat.{◌-◌, ◌≤◌}
 use Rattle.rules.specs.Placed.{Placed}
-use Rattle.rules.proofs.Placing.{placed_0, placed_more}
 use Rattle.strip.proofs.write.fill.Given as goal
 
 abbrev pub invariant-loop-p : goal.invariant-loop-p

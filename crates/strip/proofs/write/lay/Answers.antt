@@ -2,7 +2,6 @@ use mathlib.Core.Path.{refl}
 use native.Mathlib.Omega.{arith}
 use Rattle.level.specs.Writing.{lent}
 use Rattle.strip.proofs.Laid.{laid_as, record_fits, strip_fits}
-use borrow.Author.Rules.{rules}
 use Rattle.strip.proofs.write.lay.Goals as goal
 
 pub put_record-b-requires : goal.put_record-b-requires

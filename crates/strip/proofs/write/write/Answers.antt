@@ -1,13 +1,11 @@
 use native.Mathlib.Omega.{arith}
 use mathlib.Core.Path.{refl}
 use mathlib.Core.Logic.{inl, inr}
-use borrow.Author.Tests.{not-true, not-false}
 use Rattle.rules.proofs.Tests.{said, denied}
 use Rattle.level.specs.Strip.{LaneCount}
 use Rattle.strip.proofs.Laid.{wrote_none, wrote_strip}
 use Rattle.level.specs.Writing.{lent}
 use Rattle.lending.proofs.Lent.{lent_level}
-use borrow.Author.Rules.{rules}
 use Rattle.strip.proofs.write.write.Goals as goal
 
 pub returns-then-not-named : goal.returns-then-not-named

@@ -1,5 +1,4 @@
 use native.Mathlib.Omega.{arith}
-use borrow.Author.Rules.{rules}
 use Rattle.text.proofs.Reading.{not_read_4, no_line, from_inside, not_rows, text_read}
 use Rattle.text.proofs.read.read.Goals as goal
 

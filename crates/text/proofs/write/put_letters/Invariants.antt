@@ -1,11 +1,7 @@
-use Rattle.text.proofs.Writing.{lettered, letters_next, letters_end}
-use mathlib.Core.Path.{◌≡◌, refl, ap, ap₂, ◌∙◌}
-use mathlib.Core.List.{List}
-use Prim.Native.Nat.{ℕ, ◌+◌, ◌-◌, ◌≤◌}
-use native.Mathlib.Omega.{arith}
-use borrow.Author.Rules.{rules}
-use lib.ListN.{length, set, length-set}
-use lib.Seq.{sets, length-sets}
+use Rattle.text.proofs.Writing.{lettered}
+use mathlib.Core.Path.{◌≡◌}
+use Prim.Native.Nat.{◌-◌, ◌≤◌}
+use lib.Seq.{sets}
 use Rattle.text.proofs.write.put_letters.Given as goal
 
 abbrev pub invariant-loop-x : goal.invariant-loop-x

@@ -3,9 +3,8 @@ use Rattle.fields.proofs.Tiles.{area_small}
 use Rattle.text.proofs.Written.{rows_few}
 use Rattle.typed.specs.Text.{joined, rows_of}
 use mathlib.Core.Path.{◌≡◌, refl, ap, ◌∙◌}
-use Prim.Native.Nat.{ℕ, ◌-◌, ◌≤◌}
+use Prim.Native.Nat.{ℕ}
 use native.Mathlib.Omega.{arith}
-use borrow.Author.Rules.{rules}
 use lib.ListN.{length}
 use lib.Seq.{sets, length-sets}
 use Rattle.text.proofs.write.put_rows.Goals as goal

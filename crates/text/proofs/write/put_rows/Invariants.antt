@@ -1,13 +1,7 @@
-use Rattle.text.proofs.Writing.{row_tiles, row_bytes, rows_next}
-use Rattle.fields.proofs.Tiles.{area_small}
-use Rattle.text.proofs.Written.{rows_few}
 use Rattle.typed.specs.Text.{joined, rows_of}
-use mathlib.Core.Path.{◌≡◌, refl, ap, ◌∙◌}
-use Prim.Native.Nat.{ℕ, ◌-◌, ◌≤◌}
-use native.Mathlib.Omega.{arith}
-use borrow.Author.Rules.{rules}
-use lib.ListN.{length}
-use lib.Seq.{sets, length-sets}
+use mathlib.Core.Path.{◌≡◌}
+use Prim.Native.Nat.{◌-◌, ◌≤◌}
+use lib.Seq.{sets}
 use Rattle.text.proofs.write.put_rows.Given as goal
 
 abbrev pub invariant-loop-y : goal.invariant-loop-y

@@ -6,7 +6,6 @@ use Prim.Native.Nat.{ℕ}
 use native.Mathlib.Omega.{arith}
 use Rattle.level.specs.Level.{IsLevel}
 use Rattle.text.specs.Parts.{TextPut}
-use borrow.Author.Rules.{rules}
 use Rattle.text.proofs.write.write.Goals as goal
 
 pub returns-then-text-lt-TEXT_MOST : goal.returns-then-text-lt-TEXT_MOST

@@ -1,10 +1,7 @@
-use mathlib.Core.Path.{◌≡◌}
-use Prim.Native.Nat.{◌+◌, ◌*◌, ◌/◌, ◌%◌, ◌≤◌}
+use Prim.Native.Nat.{◌/◌, ◌%◌}
 use native.Mathlib.Omega.{arith}
-use borrow.Author.Rules.{rules}
 use Rattle.tiles.specs.Sum.{weighed}
 use Rattle.tiles.proofs.Rows.{weighed_small}
-use Rattle.tiles.specs.Sum.{pairs_of}
 use Rattle.tiles.proofs.Counting.{pairs_next, pairs_none}
 use Rattle.tiles.proofs.count.eight.Goals as goal
 

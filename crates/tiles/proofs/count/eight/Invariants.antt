@@ -1,11 +1,7 @@
 use mathlib.Core.Path.{◌≡◌}
-use Prim.Native.Nat.{◌+◌, ◌*◌, ◌/◌, ◌%◌, ◌≤◌}
-use native.Mathlib.Omega.{arith}
-use borrow.Author.Rules.{rules}
+use Prim.Native.Nat.{◌+◌, ◌*◌, ◌≤◌}
 use Rattle.tiles.specs.Sum.{weighed}
-use Rattle.tiles.proofs.Rows.{weighed_small}
 use Rattle.tiles.specs.Sum.{pairs_of}
-use Rattle.tiles.proofs.Counting.{pairs_next, pairs_none}
 use Rattle.tiles.proofs.count.eight.Given as goal
 
 abbrev pub invariant-loop-n : goal.invariant-loop-n

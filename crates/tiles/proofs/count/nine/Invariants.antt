@@ -1,10 +1,6 @@
-use mathlib.Core.Path.{◌≡◌, ap, ◌∙◌}
-use Prim.Native.Nat.{ℕ, ◌+◌, ◌*◌, ◌/◌, ◌%◌, ◌≤◌}
-use native.Mathlib.Omega.{arith}
-use borrow.Author.Rules.{rules}
+use mathlib.Core.Path.{◌≡◌}
+use Prim.Native.Nat.{◌+◌, ◌*◌, ◌%◌, ◌≤◌}
 use Rattle.tiles.specs.Sum.{weighed, triples_of}
-use Rattle.tiles.proofs.Rows.{weighed_small}
-use Rattle.tiles.proofs.Counting.{triples_next, triples_none}
 use Rattle.tiles.proofs.count.nine.Given as goal
 
 abbrev pub invariant-loop-n : goal.invariant-loop-n

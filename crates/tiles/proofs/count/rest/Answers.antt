@@ -1,10 +1,6 @@
-use mathlib.Core.Path.{◌≡◌, ap, ◌∙◌}
-use Prim.Native.Nat.{◌+◌, ◌*◌, ◌-◌, ◌≤◌}
+use mathlib.Core.Path.{ap, ◌∙◌}
 use native.Mathlib.Omega.{arith}
-use borrow.Author.Rules.{rules}
-use lib.ListN.{length}
-use Rattle.account.specs.Lists.{sum_of}
-use Rattle.tiles.specs.Sum.{weighed, adds_at, pairs_of}
+use Rattle.tiles.specs.Sum.{weighed, pairs_of}
 use Rattle.tiles.proofs.Counting.{sum_next, ended}
 use Rattle.tiles.proofs.count.rest.Goals as goal
 

@@ -1,11 +1,8 @@
-use mathlib.Core.Path.{◌≡◌, ap, ◌∙◌}
+use mathlib.Core.Path.{◌≡◌}
 use Prim.Native.Nat.{◌+◌, ◌*◌, ◌-◌, ◌≤◌}
-use native.Mathlib.Omega.{arith}
-use borrow.Author.Rules.{rules}
 use lib.ListN.{length}
 use Rattle.account.specs.Lists.{sum_of}
-use Rattle.tiles.specs.Sum.{weighed, adds_at, pairs_of}
-use Rattle.tiles.proofs.Counting.{sum_next, ended}
+use Rattle.tiles.specs.Sum.{adds_at}
 use Rattle.tiles.proofs.count.rest.Given as goal
 
 abbrev pub invariant-loop-h : goal.invariant-loop-h

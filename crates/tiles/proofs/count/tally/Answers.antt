@@ -1,10 +1,9 @@
 use mathlib.Core.Path.{◌≡◌, refl, ap, ◌∙◌}
-use Prim.Native.Nat.{ℕ, ◌+◌, ◌*◌, ◌-◌, ◌≤◌}
+use Prim.Native.Nat.{ℕ, ◌+◌, ◌*◌}
 use native.Mathlib.Omega.{arith}
-use borrow.Author.Rules.{rules}
-use lib.ListN.{length, get_or}
+use lib.ListN.{get_or}
 use Rattle.account.specs.Lists.{sum_of}
-use Rattle.tiles.specs.Sum.{weighed, adds_at, triples_of}
+use Rattle.tiles.specs.Sum.{weighed, triples_of}
 use Rattle.tiles.specs.Word.{word_at}
 use Rattle.tiles.proofs.Counting.{nine_next}
 use Rattle.tiles.proofs.count.tally.Goals as goal

@@ -1,12 +1,8 @@
-use mathlib.Core.Path.{◌≡◌, refl, ap, ◌∙◌}
-use Prim.Native.Nat.{ℕ, ◌+◌, ◌*◌, ◌-◌, ◌≤◌}
-use native.Mathlib.Omega.{arith}
-use borrow.Author.Rules.{rules}
-use lib.ListN.{length, get_or}
+use mathlib.Core.Path.{◌≡◌}
+use Prim.Native.Nat.{◌*◌, ◌-◌, ◌≤◌}
+use lib.ListN.{length}
 use Rattle.account.specs.Lists.{sum_of}
-use Rattle.tiles.specs.Sum.{weighed, adds_at, triples_of}
-use Rattle.tiles.specs.Word.{word_at}
-use Rattle.tiles.proofs.Counting.{nine_next}
+use Rattle.tiles.specs.Sum.{adds_at}
 use Rattle.tiles.proofs.count.tally.Given as goal
 
 abbrev pub invariant-loop-k : goal.invariant-loop-k

@@ -1,7 +1,6 @@
 use Rattle.account.proofs.Lanes.{get_d_past}
 use native.Mathlib.Omega.{arith}
 use mathlib.Core.Path.{sym}
-use borrow.Author.Rules.{rules}
 use Rattle.tiles.proofs.group.cell.Goals as goal
 
 pub returns : goal.returns

@@ -2,7 +2,6 @@ use mathlib.Core.Path.{◌∙◌}
 use Prim.Native.Nat.{◌+◌}
 use native.Mathlib.Omega.{arith}
 use Rattle.tiles.proofs.Word.{or_eight}
-use borrow.Author.Rules.{rules}
 use Rattle.tiles.proofs.group.word.Goals as goal
 
 pub returns : goal.returns

@@ -1,8 +1,7 @@
 use mathlib.Core.Path.{◌≡◌, refl, ap}
-use Prim.Native.Nat.{ℕ, ◌+◌, ◌-◌, ◌≤◌, ◌<◌}
+use Prim.Native.Nat.{ℕ, ◌+◌, ◌-◌, ◌<◌}
 use native.Mathlib.Omega.{arith}
-use borrow.Author.Rules.{rules}
-use lib.ListN.{length, get_or, length-set}
+use lib.ListN.{length, length-set}
 use Rattle.tiles.specs.Put.{byte_of}
 use Rattle.tiles.proofs.Putting.{left_next, put_next, before_next, past_next}
 use Rattle.tiles.proofs.put.put_rest.Goals as goal

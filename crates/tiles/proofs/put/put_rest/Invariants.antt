@@ -1,10 +1,7 @@
-use mathlib.Core.Path.{◌≡◌, refl, ap}
+use mathlib.Core.Path.{◌≡◌}
 use Prim.Native.Nat.{ℕ, ◌+◌, ◌-◌, ◌≤◌, ◌<◌}
-use native.Mathlib.Omega.{arith}
-use borrow.Author.Rules.{rules}
-use lib.ListN.{length, get_or, length-set}
+use lib.ListN.{length, get_or}
 use Rattle.tiles.specs.Put.{byte_of}
-use Rattle.tiles.proofs.Putting.{left_next, put_next, before_next, past_next}
 use Rattle.tiles.proofs.put.put_rest.Given as goal
 
 abbrev pub invariant-loop-i : goal.invariant-loop-i

@@ -2,7 +2,6 @@ use native.Mathlib.Omega.{arith}
 use lib.ListN.{length-set}
 use Rattle.tiles.specs.Put.{byte_of}
 use Rattle.tiles.proofs.Putting.{word_puts}
-use borrow.Author.Rules.{rules}
 use Rattle.tiles.proofs.put.put_word.Goals as goal
 
 pub bounds-out-k-2 : goal.bounds-out-k-2

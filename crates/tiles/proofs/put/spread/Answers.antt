@@ -1,6 +1,5 @@
 use Prim.Native.Nat.{ℕ, ◌<◌}
 use native.Mathlib.Omega.{arith}
-use borrow.Author.Rules.{rules}
 use Rattle.tiles.proofs.Putting.{spread_sum, pair_small, sum_small}
 use Rattle.tiles.proofs.put.spread.Goals as goal
 

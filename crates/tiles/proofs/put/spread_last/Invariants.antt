@@ -1,9 +1,7 @@
-use mathlib.Core.Path.{◌≡◌, refl, sym, ◌∙◌}
-use Prim.Native.Nat.{◌-◌, ◌≤◌, ◌<◌}
-use native.Mathlib.Omega.{arith}
-use borrow.Author.Rules.{rules}
+use mathlib.Core.Path.{◌≡◌}
+use Prim.Native.Nat.{◌≤◌, ◌<◌}
 use Rattle.tiles.specs.Put.{spread_of}
-use Rattle.tiles.proofs.Putting.{limit, limit_4, limit_next, limit_top, spread_next, spread_none}
+use Rattle.tiles.proofs.Putting.{limit}
 use Rattle.tiles.proofs.put.spread_last.Given as goal
 
 abbrev pub invariant-loop-n : goal.invariant-loop-n

@@ -1,11 +1,7 @@
-use mathlib.Core.Path.{◌≡◌, refl, ap, ◌∙◌}
-use Prim.Native.Nat.{ℕ, ◌+◌, ◌*◌, ◌-◌, ◌/◌, ◌≤◌, ◌<◌}
-use native.Mathlib.Omega.{arith}
-use borrow.Author.Rules.{rules}
+use mathlib.Core.Path.{◌≡◌}
+use Prim.Native.Nat.{ℕ, ◌*◌, ◌-◌, ◌≤◌, ◌<◌}
 use lib.ListN.{length, get_or}
 use Rattle.level.specs.Record.{field_at}
-use Rattle.tiles.specs.Put.{spread_of}
-use Rattle.tiles.proofs.Putting.{tiles_next, tiles_put}
 use Rattle.tiles.proofs.put.unpack.Given as goal
 
 abbrev pub invariant-loop-g : goal.invariant-loop-g

@@ -5,7 +5,6 @@ use lib.ListN.{get_or}
 use mathlib.Core.List.{List, [], ◌∷◌}
 use Prim.Native.Nat.{ℕ, zero, suc}
 use mathlib.Core.Path.{refl}
-use borrow.Author.Rules.{rules}
 use Rattle.tiles.proofs.tile.adds_of.Goals as goal
 
 row : ℕ → ℕ → ℕ → ℕ → Adds

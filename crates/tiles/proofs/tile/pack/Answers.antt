@@ -1,6 +1,5 @@
 use Rattle.tiles.proofs.Rows.{adds_small}
 use native.Mathlib.Omega.{arith}
-use borrow.Author.Rules.{rules}
 use Rattle.tiles.proofs.tile.pack.Goals as goal
 
 pub overflow_mul-result : goal.overflow_mul-result

@@ -1,5 +1,4 @@
 use Rattle.tiles.proofs.Rows.{packs}
-use borrow.Author.Rules.{rules}
 use Rattle.tiles.proofs.tile.rows.Goals as goal
 
 pub returns : goal.returns

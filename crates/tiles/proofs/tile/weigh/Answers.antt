@@ -1,7 +1,6 @@
 use Rattle.tiles.proofs.Rows.{weighed_out}
 use native.Mathlib.Omega.{arith}
 use mathlib.Core.Path.{sym, ◌∙◌}
-use borrow.Author.Rules.{rules}
 use Rattle.tiles.proofs.tile.weigh.Goals as goal
 
 pub returns-then-t-lt8 : goal.returns-then-t-lt8

@@ -1,10 +1,7 @@
-use mathlib.Core.Path.{◌≡◌, refl, sym, ap, ◌∙◌}
-use Prim.Native.Nat.{ℕ, ◌+◌, ◌*◌, ◌-◌, ◌^◌, ◌≤◌, ◌<◌}
-use native.Mathlib.Omega.{arith}
-use borrow.Author.Rules.{rules}
+use mathlib.Core.Path.{◌≡◌}
+use Prim.Native.Nat.{◌-◌, ◌^◌, ◌≤◌, ◌<◌}
 use lib.ListN.{drop}
 use Rattle.typed.specs.Parts.{spelled}
-use Rattle.typed.proofs.Heads.{stops_low, stops_high, goes_on, small, grows}
 use Rattle.typed.proofs.head.number.Given as goal
 
 abbrev pub invariant-loop-i : goal.invariant-loop-i

@@ -1,9 +1,6 @@
-use mathlib.Core.Path.{◌≡◌, refl}
+use mathlib.Core.Path.{◌≡◌}
 use Prim.Native.Nat.{◌-◌, ◌≤◌}
-use native.Mathlib.Omega.{arith}
-use borrow.Author.Rules.{rules}
 use lib.ListN.{length, take}
-use Rattle.typed.proofs.Heads.{too_short, unlike, alike_more, alike_all}
 use Rattle.typed.proofs.head.starts.Given as goal
 
 abbrev pub invariant-loop-i : goal.invariant-loop-i

@@ -37,7 +37,6 @@ pub returns-in-32 : goal.returns-in-32
 unfolding tile_of
 returns-in-32 c = ap foreign (sym c.in-32.is)
 
-
 pub returns-in_default : goal.returns-in_default
 returns-in_default c =
     sym (other_foreign c.args.c (omega (arith, no_letter c.args.c ((((((((tt, (λ e. omega arith)), (λ e. omega arith)), (λ e. omega arith)), (λ e. omega arith)), (λ e. omega arith)), (λ e. omega arith)), (λ e. omega arith)), (λ e. omega arith)))))

@@ -27,7 +27,6 @@ pub returns-in-5 : goal.returns-in-5
 unfolding letter_of
 returns-in-5 c = ap letter_of (sym c.in-5.is)
 
-
 pub returns-in_default : goal.returns-in_default
 unfolding letter_of
 returns-in_default c = let e : c.args.t ≡ 6 = omega arith in ap letter_of (sym e)

@@ -26,7 +26,6 @@ returns-in-11 c = tile_at 11 c.args.c c.requires c.in-11.is
 pub returns-in-13 : goal.returns-in-13
 returns-in-13 c = tile_at 13 c.args.c c.requires c.in-13.is
 
-
 pub returns-in_default : goal.returns-in_default
 returns-in_default c =
     tile_last c.args.c c.requires (((((((tt, (λ e. omega arith)), (λ e. omega arith)), (λ e. omega arith)), (λ e. omega arith)), (λ e. omega arith)), (λ e. omega arith)), (λ e. omega arith))

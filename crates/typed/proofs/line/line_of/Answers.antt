@@ -1,6 +1,5 @@
 use native.Mathlib.Omega.{arith}
 use Rattle.typed.proofs.Lines.{line_1, line_2, line_3, line_4}
-use borrow.Author.Rules.{rules}
 use Rattle.typed.proofs.line.line_of.Goals as goal
 
 pub returns-then-par-lt10 : goal.returns-then-par-lt10

@@ -1,8 +1,6 @@
-use Prim.Native.Nat.{◌-◌, ◌≤◌}
 use native.Mathlib.Omega.{arith}
-use borrow.Author.Rules.{rules}
 use lib.ListN.{length}
-use Rattle.typed.proofs.Laying.{LaidTo, lettered, fits_board, laid_none, next_free, laid_more, laid_all}
+use Rattle.typed.proofs.Laying.{lettered, fits_board, laid_none, next_free, laid_more, laid_all}
 use Rattle.typed.proofs.rows.put.Goals as goal
 
 pub loop-i-init : goal.loop-i-init

@@ -1,8 +1,5 @@
-use Prim.Native.Nat.{◌-◌, ◌≤◌}
 use native.Mathlib.Omega.{arith}
-use borrow.Author.Rules.{rules}
-use lib.ListN.{length}
-use Rattle.typed.proofs.Seeing.{seen, SeenTo, seen_none, seen_more, seen_all}
+use Rattle.typed.proofs.Seeing.{seen_none, seen_more, seen_all}
 use Rattle.typed.proofs.rows.see.Goals as goal
 
 pub loop-i-init : goal.loop-i-init

@@ -1,8 +1,6 @@
 use Prim.Native.Nat.{◌-◌, ◌≤◌}
-use native.Mathlib.Omega.{arith}
-use borrow.Author.Rules.{rules}
 use lib.ListN.{length}
-use Rattle.typed.proofs.Seeing.{seen, SeenTo, seen_none, seen_more, seen_all}
+use Rattle.typed.proofs.Seeing.{SeenTo}
 use Rattle.typed.proofs.rows.see.Given as goal
 
 abbrev pub invariant-loop-i : goal.invariant-loop-i

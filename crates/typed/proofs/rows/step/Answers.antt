@@ -1,7 +1,6 @@
 use mathlib.Core.Path.{sym, ap, ◌∙◌}
 use Prim.Native.Nat.{ℕ, ◌+◌}
 use native.Mathlib.Omega.{arith}
-use borrow.Author.Rules.{rules}
 use Rattle.typed.proofs.Tiles.{foreign_one}
 use Rattle.typed.proofs.Seeing.{seen, next_feed, next_other}
 use Rattle.typed.proofs.rows.step.Goals as goal

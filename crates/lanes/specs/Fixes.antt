@@ -36,3 +36,14 @@ pub record Noted (R l k : ℕ) (w : Lane) (e : Errata) (marks cells bytes : List
   pub others : (s : List ℕ) → length s / R ≡ w.len → (j : ℕ) → j < R → (j ≡ l → ⊥)
       → lane R j (patched cells' bytes' (k + i) s) ≡ lane R j (patched cells bytes k s)
   pub counts : CountsAll (lane R l marks) (take i e.cells) (take i e.values) c
+
+-- ---- the same of a lane of the strip s, which is taken out by value for that
+
+abbrev pub TakenOut : ℕ → ℕ → List ℕ → Lane → Type 0
+TakenOut R l s w = (w.len ≡ length s / R) × (word_of w ≡ lane R l s)
+
+abbrev pub LaneNoting : (R l k : ℕ) → Errata → (s marks cells bytes : List ℕ) → Type 0
+LaneNoting R l k e s marks cells bytes = (w : Lane) → TakenOut R l s w → Noting R l k w e marks cells bytes
+
+abbrev pub LaneNoted : (R l k : ℕ) → Errata → (s marks cells bytes cells' bytes' : List ℕ) → Counts → Type 0
+LaneNoted R l k e s marks cells bytes cells' bytes' c = (w : Lane) × TakenOut R l s w × Noted R l k w e marks cells bytes e.count cells' bytes' c

@@ -1,17 +1,18 @@
 // The lanes of a strip: which are clean, and of the others the errata, noted for the whole strip. The strip keeps its cells.
 #![tactic(auto)]
 
-ghost use Rattle.std.specs.Prelude.{◌≡◌, ℕ, ◌≤◌, ◌<◌, length, get_or};
+ghost use Rattle.std.specs.Prelude.{◌≡◌, ℕ, ◌/◌, ◌≤◌, ◌<◌, length, get_or};
 ghost use Rattle.rules.specs.Says.{Says};
 ghost use Rattle.gf256.specs.Tables.{Tables};
 ghost use Rattle.marks.specs.Marks.{ListedIn};
-ghost use Rattle.dealt.specs.Lanes.{Remaindered};
-ghost use Rattle.lanes.specs.Fixes.{Room};
+ghost use Rattle.dealt.specs.Lanes.{Remaindered, LaneOf};
+ghost use Rattle.lanes.specs.Fixes.{Room, LaneNoting, LaneNoted};
 ghost use Rattle.lanes.specs.Lanes.{NoneSet, Entered, Ready, OneAs, MendedAs};
 
 use dealt::LANES;
-use marks::Listed;
+use marks::{Counts, Listed};
 use patches::FIXES;
+use values::Errata;
 
 mod fixes; // what is to be put right in a strip
 
@@ -47,6 +48,26 @@ fn marked_in(marks: &[u8], f: usize, lanes: usize, l: usize) -> Listed
     marks::list(marks, lanes, l)
 }
 
+// The errata e of lane l, noted after the first k. The lane is taken out by value here and not while its errata are looked for, so that its
+// copies do not stand on the stack beside what the search keeps there.
+#[inline(never)]
+fn note_lane(
+    strip: &[u8],
+    marks: &[u8],
+    lanes: usize,
+    l: usize,
+    e: Errata,
+    k: usize,
+    cells: &mut [u16; FIXES],
+    bytes: &mut [u8; FIXES],
+) -> Counts
+    requires { LaneOf lanes l (length strip.now / lanes) strip.now × (lanes ≤ 16) × LaneNoting lanes l k e strip.now marks.now cells.old bytes.old }
+    ensures { LaneNoted lanes l k e strip.now marks.now cells.old bytes.old cells.new bytes.new result }
+{
+    let w = dealt::gather(strip, lanes, l, strip.len() / lanes);
+    fixes::note(w, e, marks, lanes, l, k, cells, bytes)
+}
+
 // Lane l, which is not clean: its errata, found by its remainder, noted after the first k.
 fn repair_one(
     tables: &[u8; 1022],
@@ -64,8 +85,7 @@ fn repair_one(
     ensures { OneAs lanes strip.now marks.now l k cells.old bytes.old cells.new bytes.new result.good result }
 {
     let n = strip.len() / lanes;
-    let erased = marked.cells;
-    let found = dealt::search(tables, n, r, erased, marked.count);
+    let found = dealt::search(tables, n, r, marked.cells, marked.count);
     let good = found.good;
     if !good {
         return One {
@@ -75,10 +95,8 @@ fn repair_one(
             noted: k,
         };
     }
-    let w = dealt::gather(strip, lanes, l, n);
-    let e = found.errata;
-    let noted = k + e.count;
-    let c = fixes::note(w, e, marks, lanes, l, k, cells, bytes);
+    let noted = k + found.errata.count;
+    let c = note_lane(strip, marks, lanes, l, found.errata, k, cells, bytes);
     One {
         good: true,
         mended: c.mended,

@@ -20,12 +20,6 @@ returns-then-not-good c =
     beyond_reach a.lanes a.strip.now a.marks.now p.1.entered a.l p.1.inside a.r a.marked.count a.marked.cells x.result p.1.remains (p.3.list p.2)
     (record { cell = λ j h. omega (arith, c.type_inv.strip j) }) x.ensures (c.if-not-good.true)
 
-pub gather-w-requires : goal.gather-w-requires
-gather-w-requires c =
-    let a = c.args in
-    let p = c.requires in
-    (record { inside = p.1.inside; short = few_columns a.lanes a.strip.now a.marks.now p.1.entered; full = full a.lanes a.strip.now a.marks.now p.1.entered }, p.1.entered.lanes.to)
-
 pub overflow_add-noted : goal.overflow_add-noted
 overflow_add-noted c =
     let a = c.args in
@@ -35,23 +29,25 @@ overflow_add-noted c =
     (record { cell = λ j h. omega (arith, c.type_inv.strip j) }) x.ensures (c.if-not-good.false) in
     omega (arith, K.listed.few, p.4.left)
 
-pub note-c-requires : goal.note-c-requires
-note-c-requires c =
+pub note_lane-c-requires : goal.note_lane-c-requires
+note_lane-c-requires c =
     let a = c.args in
     let p = c.requires in
-    let g = c.gather-w in
     let x = c.search-found in
     let K = corrected a.lanes a.strip.now a.marks.now p.1.entered a.l p.1.inside a.r a.marked.count a.marked.cells x.result p.1.remains (p.3.list p.2)
-    (record { cell = λ j h. omega (arith, c.type_inv.strip j) }) x.ensures (c.if-not-good.false) in
-    to_note a.lanes a.strip.now a.marks.now p.1.entered a.l a.k p.1.inside a.cells.now a.bytes.now g.result g.ensures.0 g.ensures.1 x.result.errata K p.4
+    (record { cell = λ j h. omega (arith, c.type_inv.strip j) }) x.ensures (c.if-not-good.false) in (
+      record { inside = p.1.inside; short = few_columns a.lanes a.strip.now a.marks.now p.1.entered; full = full a.lanes a.strip.now a.marks.now p.1.entered },
+      p.1.entered.lanes.to,
+      λ w g. to_note a.lanes a.strip.now a.marks.now p.1.entered a.l a.k p.1.inside a.cells.now a.bytes.now w g.0 g.1 x.result.errata K p.4,
+    )
 
 pub returns : goal.returns
 returns c =
     let a = c.args in
     let p = c.requires in
-    let g = c.gather-w in
+    let g = c.note_lane-c.ensures in
     let x = c.search-found in
     let K = corrected a.lanes a.strip.now a.marks.now p.1.entered a.l p.1.inside a.r a.marked.count a.marked.cells x.result p.1.remains (p.3.list p.2)
     (record { cell = λ j h. omega (arith, c.type_inv.strip j) }) x.ensures (c.if-not-good.false) in
-    mended_one a.lanes a.strip.now a.marks.now p.1.entered a.l a.k p.1.inside a.cells.now a.bytes.now g.result g.ensures.0 g.ensures.1 x.result.errata K p.4
-    _ _ c.note-c.result c.note-c.ensures
+    mended_one a.lanes a.strip.now a.marks.now p.1.entered a.l a.k p.1.inside a.cells.now a.bytes.now g.0 g.1.0 g.1.1 x.result.errata K p.4
+    _ _ c.note_lane-c.result g.2

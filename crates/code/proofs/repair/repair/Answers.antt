@@ -1,8 +1,7 @@
 use mathlib.Core.Path.{sym, subst}
 use Prim.Native.Nat.{ℕ}
 use Rattle.errata.specs.Errata.{ErrataFor}
-use native.Mathlib.Omega.{arith}
-use Rattle.code.proofs.Repairing.{entry_of, repair_refused, repair_beyond, too_many, searchable, repair_mends, searched, unsearched}
+use Rattle.code.proofs.Repairing.{entry_of, repair_refused, repair_beyond, searchable, repair_mends, searched, unsearched}
 use borrow.Author.Rules.{rules}
 use Rattle.code.proofs.repair.repair.Goals as goal
 
@@ -10,14 +9,6 @@ pub returns-then-code-ne0 : goal.returns-then-code-ne0
 returns-then-code-ne0 c =
     let e = c.enter-entered in
     repair_refused c.args.marks.now c.args.word.now e.result e.ensures c.if-code-ne0.true
-
-pub returns-then-f-gt5 : goal.returns-then-f-gt5
-returns-then-f-gt5 c =
-    let e = c.enter-entered in
-    let z = c.if-code-ne0.false in
-    let E = entry_of c.args.marks.now c.args.word.now e.result e.ensures z in
-    repair_beyond c.args.marks.now c.args.word.now E
-    (too_many c.args.marks.now c.args.word.now e.result.marked E (e.ensures.count z) (omega (arith, c.if-f-gt5.true)))
 
 pub search-found-requires : goal.search-found-requires
 search-found-requires c =

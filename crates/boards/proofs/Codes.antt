@@ -7,15 +7,16 @@ use Prim.Native.Nat.{ℕ, zero, suc, ◌+◌, ◌*◌, ◌≤◌, ◌<◌}
 use native.Mathlib.Nat.{mul-add}
 use native.Mathlib.Numerals.{add-one}
 use native.Mathlib.Omega.{arith}
-use lib.Dec.{ltb}
+use mir.Val.{bool_byte}
+use lib.Dec.{ltb, eqb}
+use native.Mathlib.Decide.{ℕ_discrete}
 use lib.ListN.{length, get_or, drop}
 use lib.Seq.{drop-cons, drop-length}
-use borrow.Author.Tests.{lt-ltb, le-ltb}
+use borrow.Author.Tests.{lt-ltb, le-ltb, eq-eqb, ne_eqb}
 use Rattle.rules.proofs.Numbers.{lt_or_ge}
 use Rattle.account.specs.Lists.{sum_of}
 use Rattle.tiles.specs.Sum.{weighed, weight}
 use Rattle.boards.specs.Codes.{same}
-use Rattle.tiles.specs.Rows.{Packs}
 use Rattle.tiles.proofs.Rows.{weighed_small}
 
 -- ---- a tile and a code
@@ -68,16 +69,17 @@ below_small c t = go (lt_or_ge t c)
     go (inr h) = rw (le-ltb t c h) (omega arith)
 
 -- a test for it
-pub same_is : (c t : ℕ) → t ≡ c → 1 ≡ same c t
-same_is c t e = rw (le-ltb t c (omega arith), le-ltb c t (omega arith)) refl
-
-pub same_not : (c t : ℕ) → (t ≡ c → ⊥) → 0 ≡ same c t
-same_not c t d = go (lt_or_ge t c) (lt_or_ge c t)
+pub same_tested : (c t : ℕ) → bool_byte (eqb t c) ≡ same c t
+same_tested c t = go (ℕ_discrete t c)
   where
-    go : (t < c) ⊎ (c ≤ t) → (c < t) ⊎ (t ≤ c) → 0 ≡ same c t
-    go (inl a) b = rw (lt-ltb t c a) refl
-    go (inr a) (inl b) = rw (le-ltb t c a, lt-ltb c t b) refl
-    go (inr a) (inr b) = absurd (d (omega arith))
+    go : Dec (t ≡ c) → bool_byte (eqb t c) ≡ same c t
+    go (yes e) = rw (eq-eqb t c e, le-ltb t c (omega arith), le-ltb c t (omega arith))
+    go (no n) = rw (ne_eqb t c n) (other (lt_or_ge t c) (lt_or_ge c t))
+      where
+        other : (t < c) ⊎ (c ≤ t) → (c < t) ⊎ (t ≤ c) → 0 ≡ same c t
+        other (inl a) b = rw (lt-ltb t c a)
+        other (inr a) (inl b) = rw (le-ltb t c a, lt-ltb c t b)
+        other (inr a) (inr b) = absurd (n (omega arith))
 
 -- ---- many tiles and a code
 
@@ -140,13 +142,13 @@ module _ (t : ℕ → ℕ) where
   sum_small zero = omega arith
   sum_small (suc n) = omega (arith, sum_small n, weighed_small (t n))
 
-  -- one code more, and what has none, by the rows
-  module _ (rows : List ℕ) (p : Packs rows) (n x m : ℕ) where
-    pub row_next : (c : ℕ) → c < 8 → x ≡ added_by n c → m ≡ count_of n c → x + get_or rows c 0 * m ≡ added_by n (c + 1)
-    row_next c h ex em = ap₂ (λ (a b : ℕ). a + b) ex (ap₂ (λ (a b : ℕ). a * b) (p.row_at c h) em) ∙ sym (added_next n c)
+  -- one code more, and what has none
+  module _ (n x y m : ℕ) where
+    pub row_next : (c : ℕ) → x ≡ added_by n c → y ≡ weighed c → m ≡ count_of n c → x + y * m ≡ added_by n (c + 1)
+    row_next c ex ey em = ap₂ (λ (a b : ℕ). a + b) ex (ap₂ (λ (a b : ℕ). a * b) ey em) ∙ sym (added_next n c)
 
-    pub row_last : x ≡ added_by n 8 → m ≡ left_of n 8 → x + get_or rows 8 0 * m ≡ sum_of n (λ i. weighed (t i))
-    row_last ex em = ap₂ (λ (a b : ℕ). a + b) ex (ap₂ (λ (a b : ℕ). a * b) p.other em) ∙ added_all n
+    pub row_last : x ≡ added_by n 8 → y ≡ weighed 8 → m ≡ left_of n 8 → x + y * m ≡ sum_of n (λ i. weighed (t i))
+    row_last ex ey em = ap₂ (λ (a b : ℕ). a + b) ex (ap₂ (λ (a b : ℕ). a * b) ey em) ∙ added_all n
 
 -- ---- the tiles of a board
 

@@ -34,9 +34,6 @@ module _ (a b c d e f g h : ℕ) (ha : a ≤ 7) (hb : b ≤ 7) (hc : c ≤ 7) (h
   abbrev w : ℕ
   w = word_of a b c d e f g h
 
-  pub word_small : w < 576460752303423488
-  word_small = omega arith
-
   beside : w + w / 32
       ≡ (a * 256 + (a * 8 + b)) * 281474976710656 + ((b * 8 + c) * 256 + (c * 8 + d)) * 4294967296
       + ((d * 8 + e) * 256 + (e * 8 + f)) * 65536 + ((f * 8 + g) * 256 + (g * 8 + h))

@@ -1,6 +1,10 @@
 -- FORMAT 6.5: tiles packed, three bits each.
 use Rattle.std.specs.Prelude.{◌≡◌, List, ℕ, zero, suc, ◌+◌, ◌*◌, ◌/◌, ◌%◌, ◌≤◌, ◌<◌, length, get_or}
 
+-- each is a tile code
+abbrev pub Codes : List ℕ → Type 0
+Codes tiles = (q : ℕ) → get_or tiles q 0 ≤ 7
+
 -- eight tiles make three bytes: the first, the second and the third
 abbrev pub three_of : (ℕ → ℕ) → ℕ → ℕ
 three_of t zero = t 0 * 32 + t 1 * 4 + t 2 / 2

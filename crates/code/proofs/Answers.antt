@@ -9,37 +9,35 @@ use Rattle.account.proofs.Theorems as theorems
 use Rattle.gf256.specs.Gf256.{gf256}
 use Rattle.gf256.proofs.Field256.{field256}
 use Rattle.rules.proofs.Laws.{first_fixes, first_alike, all_hold, either, Alike}
-use Rattle.code.specs.declared.word.Written.{Written}
-use Rattle.code.specs.declared.word.Written.TheVariants as written
-use Rattle.code.specs.declared.word.Tested.{Tested}
-use Rattle.code.specs.declared.word.Tested.TheVariants as tested
-use Rattle.code.specs.declared.repair.Repaired.{Repaired}
-use Rattle.code.specs.declared.repair.Repaired.TheVariants as repaired
+use Rattle.std.specs.Prelude.{Bool, true, false, Result, Ok, Err}
+use Rattle.rules.specs.declared.Refusal.{Refusal}
+use Rattle.rules.specs.Refusal.{written_numbers}
+use Rattle.marks.specs.declared.Counts.{Counts}
 use Rattle.code.specs.declared.lane.Lane.{Lane}
 use Rattle.code.specs.declared.lane.LaneRepair.{LaneRepair}
-use Rattle.code.specs.Word.{word_most, written_numbers, tested_numbers}
+use Rattle.code.specs.Word.{word_most, tested_numbers}
 use Rattle.code.specs.Repair.{RepairNumbers, repaired_numbers, repairing, Repairs}
 use Rattle.code.specs.Lane.{word_of, LaneRepairsAs}
 
 -- ---- writing and testing
 
 -- nothing is returned with a refusal
-pub written_zero : (a : Written) → (written_numbers a).code ≢ 0 → (written_numbers a).value ≡ 0
-written_zero (written.Length n) h = absurd (h refl)
-written_zero (written.Refused c) h = refl
+pub written_zero : (a : Result ℕ Refusal) → (written_numbers a).code ≢ 0 → (written_numbers a).value ≡ 0
+written_zero (Ok n) h = absurd (h refl)
+written_zero (Err r) h = refl
 
 -- a test answers 1 with no refusal, or 0
-pub tested_bit : (a : Tested) → ((tested_numbers a).value ≡ 0) ⊎ (((tested_numbers a).value ≡ 1) × ((tested_numbers a).code ≡ 0))
-tested_bit tested.Clean = inr (refl, refl)
-tested_bit tested.Damaged = inl refl
-tested_bit (tested.Refused c) = inl refl
+pub tested_bit : (a : Result Bool Refusal) → ((tested_numbers a).value ≡ 0) ⊎ (((tested_numbers a).value ≡ 1) × ((tested_numbers a).code ≡ 0))
+tested_bit (Ok true) = inr (refl, refl)
+tested_bit (Ok false) = inl refl
+tested_bit (Err r) = inl refl
 
 -- ---- repair
 
 -- nothing is mended or repainted with a refusal
-pub repaired_zero : (a : Repaired) → (repaired_numbers a).code ≢ 0 → ((repaired_numbers a).mended ≡ 0) × ((repaired_numbers a).repainted ≡ 0)
-repaired_zero (repaired.Mended e d) h = absurd (h refl)
-repaired_zero (repaired.Refused c) h = (refl, refl)
+pub repaired_zero : (a : Result Counts Refusal) → (repaired_numbers a).code ≢ 0 → ((repaired_numbers a).mended ≡ 0) × ((repaired_numbers a).repainted ≡ 0)
+repaired_zero (Ok c) h = absurd (h refl)
+repaired_zero (Err r) h = (refl, refl)
 
 same_repair : (x y : RepairNumbers) → x.code ≡ y.code → x.mended ≡ y.mended → x.repainted ≡ y.repainted → x ≡ y
 same_repair x y c m p =
@@ -49,7 +47,7 @@ same_repair x y c m p =
     made i j k = record { code = i; mended = j; repainted = k }
 
 -- two repairs, of words that are the same but for the bytes under marks
-module _ (most n m : ℕ) (marks r s v w : List ℕ) (a b : Repaired) (same : SameRead marks r s) (short : n ≤ most → length r ≤ word_most)
+module _ (most n m : ℕ) (marks r s v w : List ℕ) (a b : Result Counts Refusal) (same : SameRead marks r s) (short : n ≤ most → length r ≤ word_most)
     (A : Repairs gf256 most n m marks r v a) (B : Repairs gf256 most n m marks s w b) where
   back : SameRead marks s r
   back = theorems.read_turned marks r s same
@@ -95,7 +93,7 @@ module _ (most n m : ℕ) (marks r s v w : List ℕ) (a b : Repaired) (same : Sa
   one_but_repainted = (one_code, one_mended, one_word)
 
 -- two repairs of one word
-module _ (most n m : ℕ) (marks old v w : List ℕ) (a b : Repaired) (short : n ≤ most → length old ≤ word_most)
+module _ (most n m : ℕ) (marks old v w : List ℕ) (a b : Result Counts Refusal) (short : n ≤ most → length old ≤ word_most)
     (A : Repairs gf256 most n m marks old v a) (B : Repairs gf256 most n m marks old w b) where
   alike_but : ((repaired_numbers a).code ≡ (repaired_numbers b).code) × ((repaired_numbers a).mended ≡ (repaired_numbers b).mended)
       × ((repaired_numbers a).code ≡ 0 → v ≡ w)

@@ -1,39 +1,29 @@
 -- The answers of a lane's repair.
 use mathlib.Core.Path.{◌≡◌, refl, sym, ap, ◌∙◌, subst}
-use mathlib.Core.Logic.{◌≢◌}
 use mathlib.Core.List.{List, ◌++◌}
 use Prim.Native.Nat.{ℕ, ◌≤◌}
 use native.Mathlib.Omega.{arith}
 use lib.ListN.{length, take, drop}
 use lib.Seq.{length-take-le, take_at, drop_at}
 use Rattle.gf256.specs.Gf256.{gf256}
-use Rattle.rules.specs.Refusal.{First, Within}
-use Rattle.rules.proofs.Laws.{stops, either}
-use Rattle.code.specs.declared.repair.Repaired.{Repaired}
-use Rattle.code.specs.declared.repair.Repaired.TheVariants as repaired
+use Rattle.rules.specs.Refusal.{Within}
+use Rattle.rules.proofs.Laws.{either}
+use Rattle.std.specs.Prelude.{Result}
+use Rattle.rules.specs.declared.Refusal.{Refusal}
+use Rattle.marks.specs.declared.Counts.{Counts}
 use Rattle.code.specs.declared.lane.Lane.{Lane}
 use Rattle.code.specs.Word.{word_most}
-use Rattle.code.specs.Repair.{repaired_numbers, repairing, Repairs, RepairsAs}
+use Rattle.code.specs.Repair.{repaired_numbers, Repairs, RepairsAs}
 use Rattle.code.specs.Lane.{lane_most, word_of, LaneRepairsAs}
-use Rattle.code.proofs.Repairing.{refuses, repairs_alike}
+use Rattle.code.proofs.Repairing.{repairs_alike}
 
 module _ (lane marks : Lane) where
-  none : (c : ℕ) → c ≢ 0 → First (repairing gf256 lane_most lane.len marks.len (word_of marks) (word_of lane)) c
-      → LaneRepairsAs lane marks (record { lane = lane; answer = repaired.Refused c })
-  none c k f = record { repairs = refuses gf256 lane_most lane.len marks.len (word_of marks) (word_of lane) c k f; same_len = refl; past = refl }
-
-  pub lane_1 : (Within 6 lane_most lane.len → ⊥) → LaneRepairsAs lane marks (record { lane = lane; answer = repaired.Refused 1 })
-  lane_1 h = none 1 (λ z. omega (arith, z)) (stops 0 (repairing gf256 lane_most lane.len marks.len (word_of marks) (word_of lane)) 1 (h, refl))
-
   module _ (low : 6 ≤ lane.len) (high : lane.len ≤ lane_most) where
     within : Within 6 lane_most lane.len
     within = record { from = low; to = high }
 
-    pub lane_2 : marks.len ≢ lane.len → LaneRepairsAs lane marks (record { lane = lane; answer = repaired.Refused 2 })
-    lane_2 h = none 2 (λ z. omega (arith, z)) (stops 1 (repairing gf256 lane_most lane.len marks.len (word_of marks) (word_of lane)) 2 (within, (h, refl)))
-
     -- the word repaired, in front of what was past it
-    module _ (x : List ℕ) (a : Repaired) (em : marks.len ≡ lane.len) (room : length lane.bytes ≡ lane_most) (mroom : length marks.bytes ≡ lane_most)
+    module _ (x : List ℕ) (a : Result Counts Refusal) (em : marks.len ≡ lane.len) (room : length lane.bytes ≡ lane_most) (mroom : length marks.bytes ≡ lane_most)
         (A : RepairsAs gf256 word_most (take lane.len marks.bytes) (word_of lane) x a) where
       long : length (word_of lane) ≡ lane.len
       long = length-take-le lane.len lane.bytes (omega arith)

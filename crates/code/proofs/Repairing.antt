@@ -1,7 +1,5 @@
 -- The answers of repair.
 use mathlib.Core.Path.{◌≡◌, refl, sym, ap, ◌∙◌, subst}
-use mathlib.Core.Logic.{◌≢◌}
-use mathlib.Core.Bool.{Bool, true, false}
 use mathlib.Core.List.{List, [], ◌∷◌}
 use Prim.Native.Nat.{ℕ, zero, suc, ◌≤◌, ◌<◌}
 use native.Mathlib.Omega.{arith}
@@ -9,23 +7,25 @@ use lib.ListN.{length, get_or}
 use lib.Seq.{ext_get_or, length-take-le}
 use Rattle.account.specs.Field.{Ops}
 use Rattle.account.specs.Code.{Cells, Clean, syndrome}
-use Rattle.account.specs.Reach.{count_to, is_marked, is_read, differing, repainted, Reach, GoodMarks, Reachable}
+use Rattle.account.specs.Reach.{count_to, is_marked, is_read, differing, repainted, Reach, Reachable}
 use Rattle.account.proofs.Cells.{none_differ}
 use Rattle.account.proofs.Words as words
 use Rattle.account.specs.Errata.{Applied}
 use Rattle.gf256.specs.Gf256.{gf256}
 use Rattle.gf256.proofs.Field256.{field256}
 use Rattle.values.specs.declared.Errata.{Errata}
-use Rattle.errata.specs.Errata.{at, Bytes5, cells_of, values_of, Corrects, Beyond, SearchedAs}
-use Rattle.code.specs.declared.repair.Repaired.{Repaired}
-use Rattle.code.specs.declared.repair.Repaired.TheVariants as repaired
-use Rattle.code.specs.declared.repair.Entered.{Entered}
-use Rattle.rules.specs.Refusal.{Rule, unless, First, Hold, Within}
-use Rattle.rules.proofs.Laws.{stops, hold_first, all_hold, before, after, Alike, first_alike}
+use Rattle.errata.specs.Errata.{at, Bytes5, cells_of, values_of, Corrects, Beyond}
+use Rattle.std.specs.Prelude.{Result, Ok, Err, None}
+use Rattle.rules.specs.declared.Refusal.{Refusal}
+use Rattle.rules.specs.Refusal.{Rule, unless, First, Hold, number_of}
+use Rattle.rules.proofs.Laws.{some_number, hold_first, after, Alike, first_alike}
 use Rattle.code.specs.Word.{word_most}
 use Rattle.marks.specs.declared.Counts.{Counts}
-use Rattle.marks.specs.Marks.{CountsAll}
-use Rattle.code.specs.Repair.{repaired_numbers, entering_word, repairing, Repairs, RepairsAs, WordEntersAs, Searchable}
+use Rattle.marks.specs.declared.Listed.{Listed}
+use Rattle.marks.specs.Marks.{CountsAll, AllOf, ListedIn}
+use Rattle.account.specs.Lanes.{lane}
+use Rattle.remainder.proofs.LanesOf.{lane_word}
+use Rattle.code.specs.Repair.{repaired_numbers, entering_word, repairing, Repairs, RepairsAs, Searchable}
 use Rattle.marks.proofs.Counting.{counts_are}
 
 -- ---- a syndrome's bytes
@@ -60,58 +60,43 @@ as_is marks w f cells values en ef h cw kw lc lv = record {
       few = omega (arith, none_differ (is_read marks) w (length w), ef, ap (count_to (is_marked marks)) en);
     }
 
--- ---- the entry
+-- six marks are beyond reach
+pub too_many : (marks r : List ℕ) (f : ℕ) → Searchable (length r) marks f → 5 < f → Beyond marks r
+too_many marks r f S h w cw kw hw = omega (arith, hw.few, S.count, ap (count_to (is_marked marks)) S.matched)
 
-module _ (n : ℕ) (marks : List ℕ) where
-  none : (c : ℕ) → c ≢ 0 → First (entering_word word_most n (length marks) marks) c → WordEntersAs n marks (record { code = c; marked = 0 })
-  none c k f = record { first = f; count = λ z. absurd (k z) }
+-- ---- a word is the one lane of one
 
-  pub enters_1 : (Within 6 word_most n → ⊥) → WordEntersAs n marks (record { code = 1; marked = 0 })
-  enters_1 h = none 1 (λ z. omega (arith, z)) (stops 0 (entering_word word_most n (length marks) marks) 1 (h, refl))
+pub whole_list : (marks : List ℕ) (k : Listed) → AllOf (lane 1 0 marks) k → AllOf marks k
+whole_list marks k A = subst (λ (m : List ℕ). AllOf m k) (lane_word marks) A
 
-  module _ (low : 6 ≤ n) (high : n ≤ word_most) where
-    within : Within 6 word_most n
-    within = record { from = low; to = high }
+pub whole_many : (marks r : List ℕ) (f : ℕ) → Searchable (length r) marks f → ListedIn 1 0 marks None → Beyond marks r
+whole_many marks r f S h =
+    too_many marks r f S (omega (arith, S.count, subst (λ (m : List ℕ). 5 < count_to (is_marked m) (length m)) (lane_word marks) h))
 
-    pub enters_2 : (length marks ≡ n → ⊥) → WordEntersAs n marks (record { code = 2; marked = 0 })
-    enters_2 h = none 2 (λ z. omega (arith, z)) (stops 1 (entering_word word_most n (length marks) marks) 2 (within, (h, refl)))
-
-    pub enters_3 : length marks ≡ n → (GoodMarks marks → ⊥) → WordEntersAs n marks (record { code = 3; marked = 0 })
-    enters_3 e h = none 3 (λ z. omega (arith, z)) (stops 2 (entering_word word_most n (length marks) marks) 3 (within, (e, (h, refl))))
-
-    pub enters : (f : ℕ) → length marks ≡ n → GoodMarks marks → f ≡ count_to (is_marked marks) (length marks)
-        → WordEntersAs n marks (record { code = 0; marked = f })
-    enters f e g c = record { first = hold_first (entering_word word_most n (length marks) marks) (within, (e, (g, tt))); count = λ _. c }
+-- ---- repair
 
 -- a word that is entered: its rules hold
 abbrev pub Entry : List ℕ → List ℕ → Type 0
 Entry marks r = Hold (entering_word word_most (length r) (length marks) marks)
 
-pub entry_of : (marks r : List ℕ) (e : Entered) → WordEntersAs (length r) marks e → e.code ≡ 0 → Entry marks r
-entry_of marks r e E z = all_hold 3 (entering_word word_most (length r) (length marks) marks) e.code tt E.first z
-
--- ---- repair
-
 -- what is refused is kept
-pub refuses : (O : Ops) (most n m : ℕ) (marks r : List ℕ) (c : ℕ) → c ≢ 0 → First (repairing O most n m marks r) c
-    → Repairs O most n m marks r r (repaired.Refused c)
-refuses O most n m marks r c k f = record {
-  told = k;
+pub refuses : (O : Ops) (most n m : ℕ) (marks w : List ℕ) (r : Refusal) → First (repairing O most n m marks w) (number_of r)
+    → Repairs O most n m marks w w (Err r)
+refuses O most n m marks w r f = record {
   code = f;
-  cells = λ z. absurd (k z);
-  clean = λ z. absurd (k z);
-  reach = λ z. absurd (k z);
-  mended_is = λ z. absurd (k z);
-  repainted_is = λ z. absurd (k z);
+  cells = λ z. absurd (some_number r z);
+  clean = λ z. absurd (some_number r z);
+  reach = λ z. absurd (some_number r z);
+  mended_is = λ z. absurd (some_number r z);
+  repainted_is = λ z. absurd (some_number r z);
   kept = λ _. refl;
 }
 
 -- rules exchanged for others that say the same
-pub repairs_alike : (O : Ops) (most most' n n' m m' : ℕ) (marks r w : List ℕ) (a : Repaired)
+pub repairs_alike : (O : Ops) (most most' n n' m m' : ℕ) (marks r w : List ℕ) (a : Result Counts Refusal)
     → Alike (repairing O most n m marks r) (repairing O most' n' m' marks r)
     → Repairs O most n m marks r w a → Repairs O most' n' m' marks r w a
 repairs_alike O most most' n n' m m' marks r w a e A = record {
-  told = A.told;
   code = first_alike (repairing O most n m marks r) (repairing O most' n' m' marks r) (repaired_numbers a).code e A.code;
   cells = A.cells;
   clean = A.clean;
@@ -129,25 +114,9 @@ module _ (marks r : List ℕ) where
   abbrev entry : List Rule
   entry = entering_word word_most (length r) (length marks) marks
 
-  pub repair_refused : (e : Entered) → WordEntersAs (length r) marks e → e.code ≢ 0 → RepairsAs gf256 word_most marks r r (repaired.Refused e.code)
-  repair_refused e E k = refuses gf256 word_most (length r) (length marks) marks r e.code k (before entry last e.code k E.first)
-
-  pub repair_beyond : Entry marks r → Beyond marks r → RepairsAs gf256 word_most marks r r (repaired.Refused 6)
-  repair_beyond E B =
-      refuses gf256 word_most (length r) (length marks) marks r 6 (λ z. omega (arith, z))
-      (after entry last 6 E (stops 0 last 6 ((λ R. B R.word R.cells R.clean R.reach), refl)))
-
-  -- six marks are beyond reach
-  pub too_many : (f : ℕ) → Entry marks r → f ≡ count_to (is_marked marks) (length marks) → 5 < f → Beyond marks r
-  too_many f E ef h w cw kw hw = omega (arith, hw.few, ef, ap (count_to (is_marked marks)) E.1.0)
-
-  pub searchable : (f : ℕ) → Entry marks r → f ≡ count_to (is_marked marks) (length marks) → f ≤ 5 → Searchable (length r) marks f
-  searchable f E ef h = record { matched = sym E.1.0; short = omega (arith, E.1.0, E.0.to); count = ef; few = h }
-
   pub repair_mends : (w : List ℕ) (e : Errata) (c : Counts) → Entry marks r → Corrects marks r e → Applied gf256 (cells_of e) (values_of e) r w
-      → CountsAll marks (cells_of e) (values_of e) c → RepairsAs gf256 word_most marks r w (repaired.Mended c.mended c.repainted)
+      → CountsAll marks (cells_of e) (values_of e) c → RepairsAs gf256 word_most marks r w (Ok c)
   repair_mends w e c E K A C = record {
-    told = tt;
     code = after entry last 0 E (hold_first last (record { word = w; cells = mended.2; clean = mended.0; reach = mended.1 }, tt));
     cells = λ _. mended.2;
     clean = λ _. mended.0;
@@ -167,9 +136,3 @@ module _ (marks r : List ℕ) where
 
       counts : (c.mended ≡ differing marks r w) × (c.repainted ≡ repainted marks r w)
       counts = counts_are marks (cells_of e) (values_of e) r w long K.listed.below K.listed.distinct A c C
-
-pub searched : (b : Bool) (marks r : List ℕ) (e : Errata) → b ≡ true → SearchedAs b marks r e → Corrects marks r e
-searched b marks r e q s = subst (λ (x : Bool). SearchedAs x marks r e) q s
-
-pub unsearched : (b : Bool) (marks r : List ℕ) (e : Errata) → b ≡ false → SearchedAs b marks r e → Beyond marks r
-unsearched b marks r e q s = subst (λ (x : Bool). SearchedAs x marks r e) q s

@@ -16,13 +16,14 @@ use Rattle.account.proofs.Generator as generators
 use Rattle.account.proofs.Powers as powers
 use Rattle.gf256.specs.Gf256.{gf256}
 use Rattle.gf256.proofs.Field256.{field256}
-use Rattle.code.specs.declared.word.Written.{Written}
-use Rattle.code.specs.declared.word.Tested.{Tested}
-use Rattle.code.specs.declared.repair.Repaired.{Repaired}
+use Rattle.std.specs.Prelude.{Bool, Result}
+use Rattle.rules.specs.declared.Refusal.{Refusal}
+use Rattle.rules.specs.Refusal.{written_numbers}
+use Rattle.marks.specs.declared.Counts.{Counts}
 use Rattle.code.specs.declared.lane.Lane.{Lane}
 use Rattle.code.specs.declared.lane.LaneRepair.{LaneRepair}
 use Rattle.rules.proofs.Laws.{first_fixes, same_numbers, decided, either, all_hold}
-use Rattle.code.specs.Word.{word_most, writing, testing, WritesAs, TestsAs, written_numbers, tested_numbers}
+use Rattle.code.specs.Word.{word_most, writing, testing, WritesAs, TestsAs, tested_numbers}
 use Rattle.code.specs.Repair.{Repairs, RepairsAs, repaired_numbers}
 use Rattle.code.specs.Lane.{lane_most, word_of, LaneRepairsAs}
 use Rattle.code.proofs.Answers.{written_zero, tested_bit, repaired_zero, one_repair, one_but_repainted, lane_is, lane_same}
@@ -72,7 +73,7 @@ multiple_is_clean = generators.multiple_is_clean gf256 field256
 -- ---- FORMAT 10.9: the promises fix every result and every byte
 
 -- Writing: there is one word, and one pair of numbers.
-pub writes_fixed : (d old v w : List ℕ) (a b : Written) → Cells gf256 v → Cells gf256 w → WritesAs d old v a → WritesAs d old w b
+pub writes_fixed : (d old v w : List ℕ) (a b : Result ℕ Refusal) → Cells gf256 v → Cells gf256 w → WritesAs d old v a → WritesAs d old w b
     → (v ≡ w) × (written_numbers a ≡ written_numbers b)
 writes_fixed d old v w a b cv cw A B = (
   same,
@@ -91,7 +92,7 @@ writes_fixed d old v w a b cv cw A B = (
         (λ n. A.kept n ∙ sym (B.kept (λ z. n (codes ∙ z))))
 
 -- Testing: there is one answer.
-pub tests_fixed : (w : List ℕ) (a b : Tested) → TestsAs w a → TestsAs w b → tested_numbers a ≡ tested_numbers b
+pub tests_fixed : (w : List ℕ) (a b : Result Bool Refusal) → TestsAs w a → TestsAs w b → tested_numbers a ≡ tested_numbers b
 tests_fixed w a b A B = same_numbers (tested_numbers a) (tested_numbers b) codes (go (tested_bit a) (tested_bit b))
   where
     codes : (tested_numbers a).code ≡ (tested_numbers b).code
@@ -105,12 +106,12 @@ tests_fixed w a b A B = same_numbers (tested_numbers a) (tested_numbers b) codes
     go (inr p) (inr q) = p.0 ∙ sym q.0
 
 -- Repair, of words of at most so many bytes: there is one word, and one of each number.
-pub repairs_fixed : (most : ℕ) → most ≤ word_most → (marks old v w : List ℕ) (a b : Repaired) → RepairsAs gf256 most marks old v a
+pub repairs_fixed : (most : ℕ) → most ≤ word_most → (marks old v w : List ℕ) (a b : Result Counts Refusal) → RepairsAs gf256 most marks old v a
     → RepairsAs gf256 most marks old w b → (v ≡ w) × (repaired_numbers a ≡ repaired_numbers b)
 repairs_fixed most h marks old v w a b A B = one_repair most (length old) (length marks) marks old v w a b (λ k. omega arith) A B
 
 -- FORMAT 4.5: the byte under a mark influences repainted and nothing else: the code, what is mended and the word it becomes are the same.
-pub under_marks : (most : ℕ) → most ≤ word_most → (marks r s v w : List ℕ) (a b : Repaired) → SameRead marks r s → RepairsAs gf256 most marks r v a
+pub under_marks : (most : ℕ) → most ≤ word_most → (marks r s v w : List ℕ) (a b : Result Counts Refusal) → SameRead marks r s → RepairsAs gf256 most marks r v a
     → RepairsAs gf256 most marks s w b
     → ((repaired_numbers a).code ≡ (repaired_numbers b).code) × ((repaired_numbers a).mended ≡ (repaired_numbers b).mended) × ((repaired_numbers a).code ≡ 0 → v ≡ w)
 under_marks most h marks r s v w a b same A B =
@@ -118,7 +119,7 @@ under_marks most h marks r s v w a b same A B =
     (subst (λ (n : ℕ). Repairs gf256 most n (length marks) marks s w b) (sym same.same_length) B)
 
 -- FORMAT 4.6: at most five cells are repainted.
-pub repainted_few : (O : Ops) (most n m : ℕ) (marks old new : List ℕ) (a : Repaired) → Repairs O most n m marks old new a → (repaired_numbers a).repainted ≤ 5
+pub repainted_few : (O : Ops) (most n m : ℕ) (marks old new : List ℕ) (a : Result Counts Refusal) → Repairs O most n m marks old new a → (repaired_numbers a).repainted ≤ 5
 repainted_few O most n m marks old new a A =
     either ((repaired_numbers a).repainted ≤ 5) (repaired_numbers a).code
     (λ z. omega (arith, A.repainted_is z, theorems.repainted_marked marks old new, (A.reach z).few)) (λ k. omega (arith, (repaired_zero a k).1))

@@ -1,13 +1,12 @@
 -- FORMAT 4: repair of a word.
-use Rattle.std.specs.Prelude.{◌≡◌, ◌≢◌, List, [], ◌∷◌, ◌++◌, ℕ, ◌≤◌, length}
+use Rattle.std.specs.Prelude.{◌≡◌, ◌≢◌, Result, Ok, Err, List, [], ◌∷◌, ◌++◌, ℕ, ◌≤◌, length}
 use Rattle.account.specs.Field.{Ops}
 use Rattle.account.specs.Code.{Cells, Clean}
 use Rattle.account.specs.Reach.{count_to, is_marked, differing, repainted, Reach, GoodMarks, Reachable}
-use Rattle.rules.specs.Refusal.{Rule, unless, First, Within}
+use Rattle.rules.specs.declared.Refusal.{Refusal}
+use Rattle.rules.specs.Refusal.{Rule, unless, First, Hold, Within, number_of}
+use Rattle.marks.specs.declared.Counts.{Counts}
 use Rattle.code.specs.Word.{word_most}
-use Rattle.code.specs.declared.repair.Repaired.{Repaired}
-use Rattle.code.specs.declared.repair.Repaired.TheVariants as repaired
-use Rattle.code.specs.declared.repair.Entered.{Entered}
 
 -- FORMAT 4.3, 4.6, 9.43: the numbers of an answer: its refusal, 0 for none; how many unmarked cells were mended, and how many marked ones
 -- repainted, both 0 with a refusal
@@ -16,14 +15,9 @@ pub record RepairNumbers : Type 0 where
   pub mended : ℕ
   pub repainted : ℕ
 
-abbrev pub repaired_numbers : Repaired → RepairNumbers
-repaired_numbers (repaired.Mended e d) = record { code = 0; mended = e; repainted = d }
-repaired_numbers (repaired.Refused c) = record { code = c; mended = 0; repainted = 0 }
-
--- a refusal has a number
-abbrev pub RepairTold : Repaired → Type 0
-RepairTold (repaired.Mended e d) = Unit {0}
-RepairTold (repaired.Refused c) = c ≢ 0
+abbrev pub repaired_numbers : Result Counts Refusal → RepairNumbers
+repaired_numbers (Ok c) = record { code = 0; mended = c.mended; repainted = c.repainted }
+repaired_numbers (Err r) = record { code = number_of r; mended = 0; repainted = 0 }
 
 -- FORMAT 9.1 to 9.3: a word of n bytes with m marks is entered. 1: its length is not 6 to the most; 2: the marks are not as many; 3: a mark is above 1
 abbrev pub entering_word : ℕ → ℕ → ℕ → List ℕ → List Rule
@@ -35,8 +29,7 @@ repairing O most n m marks r = entering_word most n m marks ++ unless 6 (Reachab
 
 -- FORMAT 4.1 to 4.3, 4.6, 10.2: the word `old`, said to have n bytes and m marks, becomes `new`, the clean word within reach, and what differs is
 -- told. With a refusal it is kept.
-pub record Repairs (O : Ops) (most n m : ℕ) (marks old new : List ℕ) (a : Repaired) : Type 0 where
-  pub told : RepairTold a
+pub record Repairs (O : Ops) (most n m : ℕ) (marks old new : List ℕ) (a : Result Counts Refusal) : Type 0 where
   pub code : First (repairing O most n m marks old) (repaired_numbers a).code
   pub cells : (repaired_numbers a).code ≡ 0 → Cells O new
   pub clean : (repaired_numbers a).code ≡ 0 → Clean O new
@@ -46,19 +39,18 @@ pub record Repairs (O : Ops) (most n m : ℕ) (marks old new : List ℕ) (a : Re
   pub kept : (repaired_numbers a).code ≢ 0 → new ≡ old
 
 -- FORMAT 8.5: the repair of a word of at most so many bytes, in place
-abbrev pub RepairsAs : Ops → ℕ → List ℕ → List ℕ → List ℕ → Repaired → Type 0
+abbrev pub RepairsAs : Ops → ℕ → List ℕ → List ℕ → List ℕ → Result Counts Refusal → Type 0
 RepairsAs O most marks old new a = Repairs O most (length old) (length marks) marks old new a
 
 -- ---- parts
 
--- refusals 1 to 3 of a word of n, and how many of its cells are marked
-pub record WordEntersAs (n : ℕ) (marks : List ℕ) (e : Entered) : Type 0 where
-  pub first : First (entering_word word_most n (length marks) marks) e.code
-  pub count : e.code ≡ 0 → e.marked ≡ count_to (is_marked marks) (length marks)
+-- refusals 1 to 3 of a word of n, or how many of its cells are marked
+abbrev pub WordEntersAs : ℕ → List ℕ → Result ℕ Refusal → Type 0
+WordEntersAs n marks (Ok f) = Hold (entering_word word_most n (length marks) marks) × (f ≡ count_to (is_marked marks) (length marks))
+WordEntersAs n marks (Err r) = First (entering_word word_most n (length marks) marks) (number_of r)
 
 -- what the search goes on with: a word of n with its marks, f of them set
 pub record Searchable (n : ℕ) (marks : List ℕ) (f : ℕ) : Type 0 where
   pub matched : n ≡ length marks
   pub short : length marks ≤ word_most
   pub count : f ≡ count_to (is_marked marks) (length marks)
-  pub few : f ≤ 5

@@ -1,12 +1,9 @@
 -- FORMAT 8.3, 8.4: words of bytes, written and tested.
-use Rattle.std.specs.Prelude.{◌≡◌, ◌≢◌, List, [], ◌∷◌, ℕ, ◌+◌, length}
+use Rattle.std.specs.Prelude.{◌≡◌, ◌≢◌, Bool, true, false, Result, Ok, Err, List, [], ◌∷◌, ℕ, ◌+◌, length}
 use Rattle.account.specs.Code.{Clean, WordOf}
 use Rattle.gf256.specs.Gf256.{gf256}
-use Rattle.rules.specs.Refusal.{Rule, unless, First, Within, Numbers, done, refused}
-use Rattle.code.specs.declared.word.Written.{Written}
-use Rattle.code.specs.declared.word.Written.TheVariants as written
-use Rattle.code.specs.declared.word.Tested.{Tested}
-use Rattle.code.specs.declared.word.Tested.TheVariants as tested
+use Rattle.rules.specs.declared.Refusal.{Refusal}
+use Rattle.rules.specs.Refusal.{Rule, unless, First, Within, Numbers, done, refused, number_of, written_numbers}
 
 -- FORMAT 2.1: how many bytes a word has at most
 abbrev pub word_most : ℕ
@@ -18,16 +15,12 @@ data_most = 250
 
 -- ---- writing: the length is returned
 
-abbrev pub written_numbers : Written → Numbers
-written_numbers (written.Length n) = done n
-written_numbers (written.Refused c) = refused c
-
 -- FORMAT 9.1, 9.4. 1: the data are not 1 to 250 bytes; 4: the buffer is not five longer
 abbrev pub writing : List ℕ → List ℕ → List Rule
 writing d old = unless 1 (Within 1 data_most (length d)) ∷ unless 4 (length old ≡ length d + 5) ∷ []
 
 -- FORMAT 8.3, 10.2: the word of the data, over the whole buffer, and its length; with a refusal the buffer is kept
-pub record WritesAs (d old new : List ℕ) (a : Written) : Type 0 where
+pub record WritesAs (d old new : List ℕ) (a : Result ℕ Refusal) : Type 0 where
   pub code : First (writing d old) (written_numbers a).code
   pub word : (written_numbers a).code ≡ 0 → WordOf gf256 d new
   pub value : (written_numbers a).code ≡ 0 → (written_numbers a).value ≡ length new
@@ -35,24 +28,17 @@ pub record WritesAs (d old new : List ℕ) (a : Written) : Type 0 where
 
 -- ---- testing: 1 for clean, 0 for not
 
-abbrev pub tested_numbers : Tested → Numbers
-tested_numbers tested.Clean = done 1
-tested_numbers tested.Damaged = done 0
-tested_numbers (tested.Refused c) = refused c
-
--- a refusal has a number
-abbrev pub TestTold : Tested → Type 0
-TestTold tested.Clean = Unit {0}
-TestTold tested.Damaged = Unit {0}
-TestTold (tested.Refused c) = c ≢ 0
+abbrev pub tested_numbers : Result Bool Refusal → Numbers
+tested_numbers (Ok true) = done 1
+tested_numbers (Ok false) = done 0
+tested_numbers (Err r) = refused (number_of r)
 
 -- FORMAT 9.1: the length is not 6 to 255
 abbrev pub testing : List ℕ → List Rule
 testing w = unless 1 (Within 6 word_most (length w)) ∷ []
 
 -- FORMAT 8.4: clean is answered of a word only if its five sums are zero, and always then
-pub record TestsAs (w : List ℕ) (a : Tested) : Type 0 where
-  pub told : TestTold a
+pub record TestsAs (w : List ℕ) (a : Result Bool Refusal) : Type 0 where
   pub code : First (testing w) (tested_numbers a).code
   pub only : (tested_numbers a).value ≡ 1 → Clean gf256 w
   pub always : (tested_numbers a).code ≡ 0 → Clean gf256 w → (tested_numbers a).value ≡ 1

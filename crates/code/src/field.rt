@@ -7,14 +7,12 @@ ghost use Rattle.gf256.specs.Gf256.{gf256, times};
 pub fn product(a: u8, b: u8) -> u8
     ensures { result ≡ times a b }
 {
-    let tables = gf256::tables::make();
-    gf256::product(&tables, a, b)
+    gf256::product(a, b)
 }
 
 // α^j; a negative exponent is a power of the inverse.
 pub fn power(j: i32) -> u8
     ensures { result ≡ alpha_to gf256 j }
 {
-    let tables = gf256::tables::make();
-    gf256::alpha_to(&tables, j)
+    gf256::alpha_to(j)
 }

@@ -1,7 +1,8 @@
 // A lane of a strip by value: one record of the program, so that no buffer is lent.
 ghost use Rattle.code.specs.Lane.{LaneRepairsAs};
 
-use super::repair::Repaired;
+use marks::Counts;
+use rules::Refusal;
 
 // How many bytes a lane has at most.
 pub const LANE_MOST: usize = 187;
@@ -17,7 +18,7 @@ pub struct Lane {
 #[derive(Clone, Copy)]
 pub struct LaneRepair {
     pub lane: Lane,
-    pub answer: Repaired,
+    pub answer: Result<Counts, Refusal>,
 }
 
 // The lane becomes the clean lane within reach, if there is one. Its marks are a lane too.
@@ -25,27 +26,20 @@ pub fn repair_lane(lane: Lane, marks: Lane) -> LaneRepair
     ensures { LaneRepairsAs lane marks result }
 {
     let n = lane.len;
-    if LANE_MOST < n {
+    if n < 6 || LANE_MOST < n {
         return LaneRepair {
             lane,
-            answer: Repaired::Refused(1),
-        };
-    }
-    if n < 6 {
-        return LaneRepair {
-            lane,
-            answer: Repaired::Refused(1),
+            answer: Err(Refusal::Length),
         };
     }
     if marks.len != n {
         return LaneRepair {
             lane,
-            answer: Repaired::Refused(2),
+            answer: Err(Refusal::MarkCount),
         };
     }
     let mut bytes = lane.bytes;
-    let held = marks.bytes;
-    let answer = super::repair::repair(&mut bytes[0..n], &held[0..n]);
+    let answer = super::repair::repair(&mut bytes[..n], &marks.bytes[..n]);
     LaneRepair {
         lane: Lane { bytes, len: n },
         answer,

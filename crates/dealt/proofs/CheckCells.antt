@@ -1,8 +1,8 @@
 -- The check cells of the lanes.
-use mathlib.Core.Path.{◌≡◌, refl, sym, ap, ap₂, ◌∙◌, subst}
+use mathlib.Core.Path.{◌≡◌, sym, ap, ap₂, ◌∙◌, subst}
 use mathlib.Core.Logic.{◌⊎◌, inl, inr}
 use mathlib.Core.List.{List, ◌++◌}
-use Prim.Native.Nat.{ℕ, zero, suc, ◌+◌, ◌*◌, ◌-◌, ◌/◌, ◌%◌, ◌^◌, ◌≤◌, ◌<◌}
+use Prim.Native.Nat.{ℕ, ◌+◌, ◌*◌, ◌-◌, ◌/◌, ◌≤◌, ◌<◌}
 use native.Mathlib.Nat.{mul-add, mul-one, mul-le-mul_left}
 use native.Mathlib.Omega.{arith}
 use lib.ListN.{length, get_or, take, length-append, get_or-append}
@@ -15,18 +15,6 @@ use Rattle.rules.specs.Placed.{Placed}
 use Rattle.rules.proofs.Numbers.{lt_or_ge}
 use Rattle.dealt.specs.Lanes.{ChecksPut, check_cell}
 use Rattle.code.proofs.Writing.{word_of}
-
--- check byte i of five packed ones
-pub check_byte_is : (c i : ℕ) → i < 5 → c / 2 ^ (32 - 8 * i) % 256 ≡ get_or (unpacked c) i 0
-check_byte_is c zero h = refl
-check_byte_is c (suc zero) h = refl
-check_byte_is c (suc (suc zero)) h = refl
-check_byte_is c (suc (suc (suc zero))) h = refl
-check_byte_is c (suc (suc (suc (suc zero)))) h = ap (λ (x : ℕ). x % 256) (one c)
-  where
-    one : (x : ℕ) → x / 2 ^ 0 ≡ x
-    one x = omega arith
-check_byte_is c (suc (suc (suc (suc (suc i))))) h = absurd (omega arith)
 
 -- the check cells of R lanes
 module _ (R : ℕ) (some : 0 < R) where

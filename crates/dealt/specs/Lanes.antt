@@ -1,11 +1,11 @@
 -- The lanes of a strip, for the crates above: their remainders, the errata of each, and their check cells. R lanes, over any field.
-use Rattle.std.specs.Prelude.{◌≡◌, List, ℕ, ◌+◌, ◌*◌, ◌-◌, ◌/◌, ◌%◌, ◌≤◌, ◌<◌, length, get_or, take}
+use Rattle.std.specs.Prelude.{◌≡◌, Option, List, ℕ, ◌+◌, ◌*◌, ◌-◌, ◌/◌, ◌%◌, ◌≤◌, ◌<◌, length, get_or, take}
 use Rattle.account.specs.Field.{Ops}
 use Rattle.account.specs.Code.{Cells, WordOf}
 use Rattle.account.specs.Lanes.{lane}
 use Rattle.gf256.specs.Gf256.{gf256}
 use Rattle.remainder.specs.Remainder.{unpacked, Remains, LanesRemain}
-use Rattle.errata.specs.declared.Found.{Found}
+use Rattle.values.specs.declared.Errata.{Errata}
 use Rattle.errata.specs.Errata.{Gathered, SearchedAs}
 use Rattle.code.specs.Lane.{lane_most}
 
@@ -38,7 +38,7 @@ abbrev pub check_cell : ℕ → ℕ → List ℕ → ℕ → ℕ
 check_cell R k c p = get_or (unpacked (get_or c (p % R) 0)) ((p - R * k) / R) 0
 
 -- what a search found for every word w of n cells that has the remainder r, where the first f of `erased` are its marked cells
-abbrev pub SearchedBy : ℕ → ℕ → List ℕ → ℕ → Found → Type 0
+abbrev pub SearchedBy : ℕ → ℕ → List ℕ → ℕ → Option Errata → Type 0
 SearchedBy r n erased f x =
     (marks : List ℕ) → length marks ≡ n → Gathered marks erased f → (w : List ℕ) → length w ≡ n → Cells gf256 w → Remains w r
-    → SearchedAs x.good marks w x.errata
+    → SearchedAs marks w x

@@ -6,18 +6,16 @@ ghost use Rattle.std.specs.Prelude.{◌≡◌, ◌+◌, ◌*◌, ◌≤◌, ◌<
 ghost use Rattle.account.specs.Lanes.{lane};
 ghost use Rattle.gf256.specs.Gf256.{gf256};
 ghost use Rattle.rules.specs.Placed.{Placed};
-ghost use Rattle.gf256.specs.Tables.{Tables};
 ghost use Rattle.rules.specs.Refusal.{Within};
-ghost use Rattle.remainder.specs.Remainder.{unpacked, packed_end};
+ghost use Rattle.remainder.specs.Remainder.{unpacked};
 ghost use Rattle.errata.specs.Errata.{Listed};
 ghost use Rattle.code.specs.Word.{data_most};
 ghost use Rattle.code.specs.Lane.{word_of};
 ghost use Rattle.dealt.specs.Lanes.{Remaindered, ChecksPut, LaneOf, check_cell, SearchedBy};
 
 use code::lane::{LANE_MOST, Lane};
-
-// Room for the numbers of sixteen lanes.
-pub const LANES: usize = 16;
+pub use remainder::LANES;
+use values::Errata;
 
 // The remainders of the lanes: zero just where a lane is clean, and what its errata are found from.
 pub fn remainders(strip: &[u8], lanes: usize) -> [u64; LANES]
@@ -36,23 +34,18 @@ pub fn gather(strip: &[u8], lanes: usize, l: usize, n: usize) -> Lane
         bytes: [0; LANE_MOST],
         len: n,
     };
-    let mut p = l;
-    let mut k: usize = 0;
-    while k < n {
-        t.bytes[k] = strip[p];
-        p += lanes;
-        k += 1;
+    for k in 0..n {
+        t.bytes[k] = strip[lanes * k + l];
     }
     t
 }
 
 // The errata of a lane of n cells with the remainder r, of which the first f of `erased` are the marked cells.
-pub fn search(tables: &[u8; 1022], n: usize, r: u64, erased: [usize; 5], f: usize) -> errata::Found
-    requires { Tables tables.now × Listed n erased f × (r < packed_end) }
+pub fn search(n: usize, r: u64, erased: [usize; 5], f: usize) -> Option<Errata>
+    requires { Listed n erased f }
     ensures { SearchedBy r n erased f result }
 {
-    let s = remainder::syndrome_of(r);
-    errata::find(tables, s, n, erased, f)
+    errata::find(remainder::syndrome_of(r), n, erased, f)
 }
 
 // Check byte i of the five that are packed in c.
@@ -69,10 +62,8 @@ fn place_column(x: &mut [u8], lanes: usize, k: usize, c: &[u64; LANES], i: usize
     ensures { Placed (lanes * (k + i)) (lanes * (k + i + 1)) (check_cell lanes k c.now) x.old x.new }
 {
     let from = lanes * (k + i);
-    let mut j: usize = 0;
-    while j < lanes {
+    for j in 0..lanes {
         x[from + j] = check_byte(c[j], i);
-        j += 1;
     }
 }
 
@@ -81,10 +72,8 @@ fn place_checks(x: &mut [u8], lanes: usize, k: usize, c: &[u64; LANES])
     requires { Within 1 16 lanes × (k ≤ data_most) × (lanes * (k + 5) ≤ length x.old) }
     ensures { Placed (lanes * k) (lanes * (k + 5)) (check_cell lanes k c.now) x.old x.new }
 {
-    let mut i: usize = 0;
-    while i < 5 {
+    for i in 0..5 {
         place_column(x, lanes, k, c, i);
-        i += 1;
     }
 }
 
@@ -93,6 +82,6 @@ pub fn put_checks(x: &mut [u8], lanes: usize, k: usize)
     requires { Within 1 16 lanes × (k ≤ data_most) × (lanes * (k + 5) ≤ length x.old) }
     ensures { ChecksPut gf256 lanes k x.old x.new }
 {
-    let c = remainder::lane_checks_of(&x[0..lanes * k], lanes);
+    let c = remainder::lane_checks_of(&x[..lanes * k], lanes);
     place_checks(x, lanes, k, &c);
 }

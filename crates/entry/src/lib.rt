@@ -7,24 +7,13 @@ ghost use Rattle.level.specs.Strip.{LaneCount, Legal};
 ghost use Rattle.entry.specs.Entering.{StripEntersAs};
 
 use level::{RECORD_LEAST, RECORD_MOST, SCRATCH_LEAST, TILES_MOST};
+use rules::Refusal;
 
 // A lane count is one that can be named.
 pub fn named(lanes: usize) -> bool
     ensures { Says result (LaneCount lanes) }
 {
-    if lanes == 2 {
-        return true;
-    }
-    if lanes == 4 {
-        return true;
-    }
-    if lanes == 8 {
-        return true;
-    }
-    if lanes == 16 {
-        return true;
-    }
-    false
+    lanes == 2 || lanes == 4 || lanes == 8 || lanes == 16
 }
 
 // A strip's length is legal. Beside five check cells each, the lanes have room for the shortest record, and less than a column more than the longest takes.
@@ -32,52 +21,37 @@ pub fn legal(lanes: usize, n: usize) -> bool
     requires { Within 1 16 lanes }
     ensures { Says result (Legal lanes n) }
 {
-    if n < 5 * lanes + RECORD_LEAST {
-        return false;
-    }
-    if 6 * lanes + RECORD_MOST <= n {
-        return false;
-    }
-    if n % lanes != 0 {
-        return false;
-    }
-    true
+    5 * lanes + RECORD_LEAST <= n && n < 6 * lanes + RECORD_MOST && n % lanes == 0
 }
 
-// Refusals 15 and 1 to 5, and all marks or-ed: 0 where no cell is marked.
-#[derive(Clone, Copy)]
-pub struct Entered {
-    pub code: u8,
-    pub marked: usize,
-}
-
-pub fn enter(lanes: usize, strip: &[u8], marks: &[u8], tiles: usize, scratch: usize) -> Entered
+// Refusals 15 and 1 to 5, or whether any cell is marked.
+pub fn enter(
+    lanes: usize,
+    strip: &[u8],
+    marks: &[u8],
+    tiles: usize,
+    scratch: usize,
+) -> Result<bool, Refusal>
     ensures { StripEntersAs lanes strip.now marks.now tiles scratch result }
 {
     if !named(lanes) {
-        return Entered {
-            code: 15,
-            marked: 0,
-        };
+        return Err(Refusal::LaneCount);
     }
     if !legal(lanes, strip.len()) {
-        return Entered { code: 1, marked: 0 };
+        return Err(Refusal::Length);
     }
     if marks.len() != strip.len() {
-        return Entered { code: 2, marked: 0 };
+        return Err(Refusal::MarkCount);
     }
     let any = marks::any(marks);
     if 1 < any {
-        return Entered { code: 3, marked: 0 };
+        return Err(Refusal::Mark);
     }
     if tiles < TILES_MOST {
-        return Entered { code: 4, marked: 0 };
+        return Err(Refusal::Buffer);
     }
     if scratch < SCRATCH_LEAST {
-        return Entered { code: 5, marked: 0 };
+        return Err(Refusal::Scratch);
     }
-    Entered {
-        code: 0,
-        marked: any as usize,
-    }
+    Ok(any != 0)
 }

@@ -1,7 +1,6 @@
 -- Guesses that fit, and what is found from them.
 use mathlib.Core.Path.{◌≡◌, refl, sym, ap, ap₂, ◌∙◌, subst}
 use mathlib.Core.Logic.{◌≢◌}
-use mathlib.Core.Bool.{Bool, true, false}
 use mathlib.Core.List.{List, [], ◌∷◌, ◌++◌, map, append_assoc, append-nil}
 use Prim.Native.Nat.{ℕ, zero, suc, ◌+◌, ◌-◌, ◌<◌, ◌≤◌}
 use native.Mathlib.Numerals.{add-one}
@@ -28,8 +27,8 @@ use Rattle.gf256.proofs.Lookups.{same_quotient}
 use Rattle.gf256.proofs.Field256.{field256, inv_is}
 use Rattle.locate.proofs.Sums.{drain_starts}
 use Rattle.values.specs.declared.Errata.{Errata}
-use Rattle.errata.specs.Errata.{at, Left, Listed, Drained, Gathered, Guess, NoGuess}
-use Rattle.errata.specs.Errata.{GuessedAs, Bytes5, Couple, Valued, cells_of, values_of, Corrects, Beyond}
+use Rattle.errata.specs.Errata.{at, Listed, Drained, Gathered, Guess, NoGuess}
+use Rattle.errata.specs.Errata.{Bytes5, Couple, Valued, cells_of, values_of, Corrects, Beyond}
 
 -- ---- cells after the marked ones
 
@@ -85,13 +84,6 @@ module _ (n : ℕ) (cells : List ℕ) (f : ℕ) (L : Listed n cells f) where
       list = list2 p q (omega arith);
     }
 
-module _ (b : Bool) (n : ℕ) (ps t : List ℕ) (f count : ℕ) (cells : List ℕ) where
-  pub guessed : b ≡ true → GuessedAs b n ps t f count cells → Guess n ps t f count cells
-  guessed e g = subst (λ (x : Bool). GuessedAs x n ps t f count cells) e g
-
-  pub unguessed : b ≡ false → GuessedAs b n ps t f count cells → NoGuess n ps t f
-  unguessed e g = subst (λ (x : Bool). GuessedAs x n ps t f count cells) e g
-
 -- ---- listed cells
 
 pub listed_guess : (n : ℕ) (erased t : List ℕ) (f count : ℕ) (cells : List ℕ) → Listed n erased f → Guess n (take f erased) t f count cells
@@ -122,11 +114,6 @@ sum_at s r e (suc (suc zero)) l = ap (λ (x : List ℕ). at x 2) e
 sum_at s r e (suc (suc (suc zero))) l = ap (λ (x : List ℕ). at x 3) e
 sum_at s r e (suc (suc (suc (suc zero)))) l = ap (λ (x : List ℕ). at x 4) e
 sum_at s r e (suc (suc (suc (suc (suc m))))) l = absurd (omega arith)
-
-pub left_in : (n : ℕ) (cells s t : List ℕ) (f : ℕ) → Bytes5 s → Listed n cells f → Drained n (take f cells) s t → Left t f
-left_in n cells s t f b L D m l =
-    subst (λ (x : ℕ). x < 256) (sym (D.sum m (omega (arith, length-take-le f cells (omega (arith, L.few, L.room))))))
-    (filter.filt_in gf256 field256 (map (place_of n) (take f cells)) (at s) b m)
 
 module _ (marks s t r : List ℕ) (n f : ℕ) (erased : List ℕ) (L : Listed n erased f) (D : Drained n (take f erased) s t)
     (en : length marks ≡ n) (G : Gathered marks erased f) (er : length r ≡ length marks) (cr : Cells gf256 r) (es : s ≡ syndrome gf256 r) where
@@ -267,14 +254,14 @@ module _ (n : ℕ) (s : List ℕ) (short : n ≤ 255) where
   pub none_valued : (cells values : List ℕ) → length values ≡ 5 → Valued n cells 0 s (record { count = 0; cells = cells; values = values })
   none_valued cells values h = record { count = refl; same_cells = refl; room = h; values = refl }
 
-  pub pair_apart : (p q : ℕ) → Couple s n p q → 0 < bit_xor (place_of n p) (place_of n q)
+  pub pair_apart : (p q : ℕ) → Couple s 3 n [] p q → 0 < bit_xor (place_of n p) (place_of n q)
   pair_apart p q C = some (bit_xor (place_of n p) (place_of n q)) (filter.apart_some gf256 field256 n short p q C.below_p C.below_q C.apart)
     where
       some : (x : ℕ) → x ≢ 0 → 0 < x
       some zero h = absurd (h refl)
       some (suc x) h = omega arith
 
-  pub pair_valued : (p q v i : ℕ) → Bytes5 s → Couple s n p q → times (bit_xor (place_of n p) (place_of n q)) i ≡ 1
+  pub pair_valued : (p q v i : ℕ) → Bytes5 s → Couple s 3 n [] p q → times (bit_xor (place_of n p) (place_of n q)) i ≡ 1
       → v ≡ times (bit_xor (at s 3) (times (place_of n q) (at s 2))) i
       → Valued n (p ∷ q ∷ 0 ∷ 0 ∷ 0 ∷ []) 2 s
       (record { count = 2; cells = p ∷ q ∷ 0 ∷ 0 ∷ 0 ∷ []; values = v ∷ bit_xor (at s 2) v ∷ 0 ∷ 0 ∷ 0 ∷ [] })

@@ -14,7 +14,9 @@ use Rattle.level.proofs.Fields.{same_level}
 use Rattle.level.proofs.Judged.{length_tiles}
 use Rattle.tiles.specs.Part.{tiles_from}
 use Rattle.tiles.proofs.Part.{part_of, tiles_from_part}
-use Rattle.fields.specs.declared.judged.Judged.{Judged}
+use Rattle.std.specs.Prelude.{Ok, Err}
+use Rattle.rules.specs.declared.Refusal.{Refusal}
+use Rattle.fields.specs.declared.head.Head.{Head}
 use Rattle.fields.specs.Judged.{JudgedAs, AcceptedAs}
 use Rattle.fields.proofs.Judging.{part_fits}
 
@@ -22,34 +24,24 @@ use Rattle.fields.proofs.Judging.{part_fits}
 pub passed : (upto R : ℕ) (bs : List ℕ) (c : ℕ) → c ≡ 0 → First (asked (λ ask. ask bs) (judging upto R)) c → Hold (asked (λ ask. ask bs) (judging upto R))
 passed upto R bs c z f = all_hold 10 (asked (λ ask. ask bs) (judging upto R)) c tt f z
 
-module _ (upto lanes : ℕ) (bs : List ℕ) (r : Judged) (J : JudgedAs upto lanes bs r) (old : List ℕ) where
-  pub rejected : (r.code ≡ 0 → ⊥) → AcceptedAs upto lanes bs old old r
-  rejected n = record {
-    first = J.first;
-    version = λ z. absurd (n z);
-    width = λ z. absurd (n z);
-    height = λ z. absurd (n z);
-    par = λ z. absurd (n z);
-    tiles = λ z. absurd (n z);
-    kept = λ _. refl;
-  }
+module _ (upto lanes : ℕ) (bs old : List ℕ) where
+  pub rejected : (e : Refusal) → JudgedAs upto lanes bs (Err e) → AcceptedAs upto lanes bs old old (Err e)
+  rejected e J = record { first = J.first; heads = tt; tiles = tt; kept = refl }
 
-  module _ (z : r.code ≡ 0) where
-    area : r.width * r.height ≡ field_at bs 4 5 * field_at bs 9 5
-    area = ap₂ (λ (x y : ℕ). x * y) (J.spells z).width (J.spells z).height
+  module _ (f : Head) (J : JudgedAs upto lanes bs (Ok f)) where
+    area : f.width * f.height ≡ field_at bs 4 5 * field_at bs 9 5
+    area = ap₂ (λ (x y : ℕ). x * y) J.spells.heads.width J.spells.heads.height
 
-    pub room_for : 0 < lanes → 3 * (r.width * r.height) ≤ 8 * length (part_of bs)
-    room_for some = omega (arith, area, part_fits lanes bs some (passed upto lanes bs r.code z J.first).1.0)
+    pub room_for : 0 < lanes → 3 * (f.width * f.height) ≤ 8 * length (part_of bs)
+    room_for some = omega (arith, area, part_fits lanes bs some (passed upto lanes bs 0 refl J.first).1.0)
 
-    pub accepted : (new : List ℕ) → new ≡ tiles_from (part_of bs) (r.width * r.height) ++ drop (r.width * r.height) old → AcceptedAs upto lanes bs old new r
+    pub accepted : (new : List ℕ) → new ≡ tiles_from (part_of bs) (f.width * f.height) ++ drop (f.width * f.height) old
+        → AcceptedAs upto lanes bs old new (Ok f)
     accepted new e = record {
       first = J.first;
-      version = λ z. (J.spells z).version;
-      width = λ z. (J.spells z).width;
-      height = λ z. (J.spells z).height;
-      par = λ z. (J.spells z).par;
-      tiles = λ _. e ∙ ap (λ (ts : List ℕ). ts ++ drop (r.width * r.height) old) (tiles_from_part bs (r.width * r.height) ∙ ap (tiles_in bs) area);
-      kept = λ n. absurd (n z);
+      heads = J.spells.heads;
+      tiles = e ∙ ap (λ (ts : List ℕ). ts ++ drop (f.width * f.height) old) (tiles_from_part bs (f.width * f.height) ∙ ap (tiles_in bs) area);
+      kept = tt;
     }
 
 -- the level that the bytes spell is the one returned, and what is past its tiles keeps its value

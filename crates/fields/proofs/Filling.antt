@@ -4,9 +4,9 @@ use mathlib.Core.Bool.{Bool}
 use mathlib.Core.Logic.{⊎_elim}
 use mathlib.Core.List.{List}
 use Prim.Native.Nat.{ℕ, zero, suc, ◌+◌, ◌*◌, ◌-◌, ◌/◌, ◌%◌, ◌^◌, ◌≤◌, ◌<◌}
-use lib.Pow.{pow_pos}
 use native.Mathlib.Omega.{arith}
-use lib.ListN.{length, get_or}
+use lib.ListN.{length, get_or, take, drop, length-drop}
+use lib.Seq.{get_or-drop, take-length}
 use Rattle.rules.specs.Says.{Says}
 use Rattle.rules.proofs.Numbers.{lt_or_ge}
 use Rattle.rules.proofs.Tests.{says_as}
@@ -42,9 +42,6 @@ shifted (suc (suc (suc (suc (suc (suc zero)))))) h = refl
 shifted (suc (suc (suc (suc (suc (suc (suc zero))))))) h = refl
 shifted (suc (suc (suc (suc (suc (suc (suc (suc k)))))))) h = absurd (omega arith)
 
-pub shifted_some : (k : ℕ) → k < 8 → 1 ≤ 256 / 2 ^ k
-shifted_some k h = omega (arith, shifted k h, pow_pos (8 - k))
-
 module _ (bs : List ℕ) (from : ℕ) where
   abbrev Blank : Type 0
   Blank = (p : ℕ) → from ≤ p → p < 8 * length bs → bit_at bs p ≡ 0
@@ -73,6 +70,23 @@ module _ (bs : List ℕ) (from : ℕ) where
     rest_zero f q a b =
         omega (arith, within_byte bs q 0 8 0 (omega arith), field_zero bs (8 * q + 0) 8 (λ p k l. f p (omega arith) (omega arith)), by q)
 
+    abbrev Rest : List ℕ → Type 0
+    Rest t = (q : ℕ) → q < length t → get_or t q 0 ≡ 0
+
     pub rest_is : (b : Bool) → get_or bs (from / 8) 0 % 2 ^ (8 - from % 8) ≡ 0
-        → Says b ((q : ℕ) → from / 8 + 1 ≤ q → q < length bs → get_or bs q 0 ≡ 0) → Says b Blank
-    rest_is b e = says_as ((q : ℕ) → from / 8 + 1 ≤ q → q < length bs → get_or bs q 0 ≡ 0) Blank b (rest_blank e) rest_zero
+        → Says b (Rest (take (length bs - (from / 8 + 1)) (drop (from / 8 + 1) bs))) → Says b Blank
+    rest_is b e s =
+        says_as (Rest (drop (from / 8 + 1) bs)) Blank b (λ z. rest_blank e (behind z)) (λ f. ahead (rest_zero f))
+        (subst (λ (t : List ℕ). Says b (Rest t)) all s)
+      where
+        all : take (length bs - (from / 8 + 1)) (drop (from / 8 + 1) bs) ≡ drop (from / 8 + 1) bs
+        all = ap (λ (n : ℕ). take n (drop (from / 8 + 1) bs)) (sym (length-drop (from / 8 + 1) bs)) ∙ take-length (drop (from / 8 + 1) bs)
+
+        behind : Rest (drop (from / 8 + 1) bs) → (q : ℕ) → from / 8 + 1 ≤ q → q < length bs → get_or bs q 0 ≡ 0
+        behind z q a l =
+            let e : from / 8 + 1 + (q - (from / 8 + 1)) ≡ q = omega arith in
+            ap (λ (i : ℕ). get_or bs i 0) (sym e) ∙ sym (get_or-drop (from / 8 + 1) bs (q - (from / 8 + 1)) 0)
+            ∙ z (q - (from / 8 + 1)) (omega (arith, length-drop (from / 8 + 1) bs))
+
+        ahead : ((q : ℕ) → from / 8 + 1 ≤ q → q < length bs → get_or bs q 0 ≡ 0) → Rest (drop (from / 8 + 1) bs)
+        ahead f q l = get_or-drop (from / 8 + 1) bs q 0 ∙ f (from / 8 + 1 + q) (omega arith) (omega (arith, length-drop (from / 8 + 1) bs))

@@ -3,10 +3,12 @@ use mathlib.Core.Path.{◌≡◌, refl, sym, ap, ap₂, ◌∙◌, subst}
 use mathlib.Core.Logic.{inr}
 use mathlib.Core.List.{List}
 use Prim.Native.Nat.{ℕ, ◌+◌, ◌*◌, ◌≤◌, ◌<◌}
-use native.Mathlib.Decide.{ℕ_discrete}
 use native.Mathlib.Omega.{arith}
 use lib.ListN.{length}
-use Rattle.rules.specs.Refusal.{First, asked}
+use Rattle.std.specs.Prelude.{Ok, Err}
+use Rattle.rules.specs.declared.Refusal.{Refusal}
+use Rattle.rules.specs.declared.Refusal.TheVariants as refusal
+use Rattle.rules.specs.Refusal.{First, asked, number_of}
 use Rattle.rules.proofs.Laws.{stops}
 use Rattle.level.specs.Level.{Known, Taken}
 use Rattle.level.specs.Record.{field_at, record_length}
@@ -17,25 +19,21 @@ use Rattle.level.proofs.Windows.{field_below}
 use Rattle.tiles.specs.Sum.{weight, PartSummed}
 use Rattle.tiles.proofs.Part.{part_of, length_part, bit_on, tiles_from_part}
 use Rattle.fields.specs.declared.head.Head.{Head}
-use Rattle.fields.specs.declared.judged.Judged.{Judged}
 use Rattle.fields.specs.Sum.{BoardCode, SumCode}
 use Rattle.fields.specs.Head.{Heads, HeadRanged}
-use Rattle.fields.specs.Judged.{without, AnswersAs, JudgedAs}
+use Rattle.fields.specs.Judged.{JudgedAs}
 use Rattle.fields.proofs.Tiles.{area_small}
 use Rattle.fields.proofs.Reading.{field_5}
 
 module _ (upto R : ℕ) (bs : List ℕ) where
-  refusal : (code : ℕ) → (code ≡ 0 → ⊥) → First (asked (λ ask. ask bs) (judging upto R)) code → JudgedAs upto R bs (without code)
-  refusal code n f = record { first = f; spells = λ z. absurd (n z); none = λ _. refl }
+  pub judged_err : (e : Refusal) → First (asked (λ ask. ask bs) (judging upto R)) (number_of e) → JudgedAs upto R bs (Err e)
+  judged_err e f = record { first = f; spells = tt }
 
-  judged_none : (r : Judged) (code : ℕ) → r ≡ without code → (code ≡ 0 → ⊥) → First (asked (λ ask. ask bs) (judging upto R)) code → JudgedAs upto R bs r
-  judged_none r code e n f = subst (JudgedAs upto R bs) (sym e) (refusal code n f)
+  pub judged_7 : (Taken upto (level_of bs) → ⊥) → JudgedAs upto R bs (Err refusal.Fields)
+  judged_7 n = judged_err refusal.Fields (stops 0 (asked (λ ask. ask bs) (judging upto R)) 7 (n, refl))
 
-  pub judged_7 : (r : Judged) → r ≡ without 7 → (Taken upto (level_of bs) → ⊥) → JudgedAs upto R bs r
-  judged_7 r e n = judged_none r 7 e (λ z. omega arith) (stops 0 (asked (λ ask. ask bs) (judging upto R)) 7 (n, refl))
-
-  pub judged_8 : (r : Judged) → r ≡ without 8 → Taken upto (level_of bs) → (Shaped R bs → ⊥) → JudgedAs upto R bs r
-  judged_8 r e h n = judged_none r 8 e (λ z. omega arith) (stops 1 (asked (λ ask. ask bs) (judging upto R)) 8 (h, (n, refl)))
+  pub judged_8 : Taken upto (level_of bs) → (Shaped R bs → ⊥) → JudgedAs upto R bs (Err refusal.Shape)
+  judged_8 h n = judged_err refusal.Shape (stops 1 (asked (λ ask. ask bs) (judging upto R)) 8 (h, (n, refl)))
 
 -- the bytes have room for the tiles, and so has their part from byte 3
 module _ (R : ℕ) (bs : List ℕ) (some : 0 < R) (s : Shaped R bs) where
@@ -96,16 +94,6 @@ module _ (bs : List ℕ) (f : Head) (hd : Heads bs f) where
       → First (asked (λ ask. ask bs) (judging upto R)) code
   judged_by_tiles upto R x code some k s t j = inr (headed upto k, inr (s, boarded R x code some s t j))
 
-  judged_0 : (upto R : ℕ) → First (asked (λ ask. ask bs) (judging upto R)) 0 → JudgedAs upto R bs (record { code = 0; version = f.version; width = f.width; height = f.height; par = f.par })
-  judged_0 upto R k = record {
-    first = k;
-    spells = λ _. record { version = hd.version; width = hd.width; height = hd.height; par = hd.par; few = area_few };
-    none = λ n. absurd (n refl);
-  }
-
-  pub judged_answer : (upto R code : ℕ) (r : Judged) → AnswersAs f code r → First (asked (λ ask. ask bs) (judging upto R)) code → JudgedAs upto R bs r
-  judged_answer upto R code r A k = go (ℕ_discrete code 0)
-    where
-      go : Dec (code ≡ 0) → JudgedAs upto R bs r
-      go (yes z) = subst (JudgedAs upto R bs) (sym (A.some z)) (judged_0 upto R (subst (First (asked (λ ask. ask bs) (judging upto R))) z k))
-      go (no n) = judged_none upto R bs r code (A.none n) n k
+  -- the head, where nothing is refused
+  pub judged_ok : (upto R : ℕ) → First (asked (λ ask. ask bs) (judging upto R)) 0 → JudgedAs upto R bs (Ok f)
+  judged_ok upto R k = record { first = k; spells = record { heads = hd; few = area_few } }

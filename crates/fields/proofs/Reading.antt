@@ -1,10 +1,9 @@
 -- A record read: its fields from its bytes.
-use mathlib.Core.Path.{◌≡◌, sym, ap, ◌∙◌, subst}
+use mathlib.Core.Path.{◌≡◌, sym, ap, ◌∙◌}
 use mathlib.Core.Bool.{Bool}
-use mathlib.Core.Logic.{⊎_elim}
 use mathlib.Core.List.{List}
 use Prim.Native.Nat.{ℕ, ◌+◌, ◌*◌, ◌-◌, ◌/◌, ◌%◌, ◌≤◌, ◌<◌}
-use native.Mathlib.Nat.{eq-or-lt_of_le, mul-le-mul, le_trans, div-le_self}
+use native.Mathlib.Nat.{mul-le-mul, le_trans, div-le_self}
 use native.Mathlib.Omega.{arith}
 use lib.ListN.{length, get_or}
 use Rattle.rules.specs.Says.{Says}
@@ -28,10 +27,6 @@ heads bs a b c ea eb ec ha hb hc = record {
   height = omega (arith, within_byte bs 1 1 5 2 (omega arith));
   par = omega (arith, across bs 1 2 6 2 8 0 (omega arith) (omega arith) (omega arith));
 }
-
--- a range, one longer
-pub range_more : (P : ℕ → Type 0) (from k : ℕ) → ((q : ℕ) → from ≤ q → q < k → P q) → P k → (q : ℕ) → from ≤ q → q < k + 1 → P q
-range_more P from k old new q a b = ⊎_elim (λ e. subst P (sym e) new) (λ l. old q a l) (eq-or-lt_of_le {n = q} {m = k} (omega arith))
 
 -- the blank part
 pub blank_is : (b : Bool) (R m : ℕ) (bs : List ℕ) → m ≡ field_at bs 4 5 * field_at bs 9 5 → length bs ≡ R * columns R (3 + (3 * m + 7) / 8)

@@ -1,7 +1,7 @@
 -- Tiles, and what they add.
-use mathlib.Core.Path.{◌≡◌, refl, sym, subst}
+use mathlib.Core.Path.{◌≡◌, refl, sym, subst, ◌∙◌}
 use mathlib.Core.Bool.{cond}
-use mathlib.Core.Logic.{◌⊎◌, inl, inr}
+use mathlib.Core.Logic.{◌⊎◌, inl, inr, ⊎_elim}
 use mathlib.Core.List.{List, [], ◌∷◌}
 use Prim.Native.Nat.{ℕ, zero, suc, ◌+◌, ◌*◌, ◌/◌, ◌%◌, ◌≤◌, ◌<◌}
 use native.Mathlib.Nat.{mul-le-mul}
@@ -11,8 +11,8 @@ use lib.ListN.{length, get_or}
 use borrow.Author.Tests.{lt-ltb, le-ltb}
 use Rattle.rules.proofs.Numbers.{lt_or_ge}
 use Rattle.level.specs.Tile.{adds, totals}
-use Rattle.level.specs.Level.{Sized, AllTiles}
-use Rattle.level.specs.Record.{record_length}
+use Rattle.level.specs.Level.{AllTiles, Playable}
+use Rattle.fields.specs.Sum.{SumCode, SumFair, sum_most}
 use Rattle.level.proofs.Versions.{code_early, code_late}
 use Rattle.tiles.specs.Sum.{packed, weighed, weight}
 use Rattle.tiles.proofs.Rows.{adds_small, adds_none, weighed_in, weighed_pit, weighed_out}
@@ -93,17 +93,27 @@ at_most_each ts = ((counts ts).few.1, (counts ts).few.2)
 
 module _ (ts : List ℕ) (x : ℕ) (short : length ts ≤ 961) (e : x ≡ weight ts) where
   -- each code is one of the version exactly where no more is counted than the four sums, or the pits beside them
-  pub early_tiles : (v : ℕ) → v < 2 → (x < 1099511627776 → AllTiles v ts) × (AllTiles v ts → x < 1099511627776)
+  early_tiles : (v : ℕ) → v < 2 → (x < 1099511627776 → AllTiles v ts) × (AllTiles v ts → x < 1099511627776)
   early_tiles v h = (
     λ z. subst (λ (m : ℕ). UpTo m ts) (sym (code_early v h)) (at_most 6 ts (omega (arith, e, (counts ts).sum, (counts ts).fewer, z))),
     λ f. omega (arith, e, (counts ts).sum, (counts ts).fewer, (counts ts).few, none_above 6 ts (subst (λ (m : ℕ). UpTo m ts) (code_early v h) f)),
   )
 
-  pub late_tiles : (v : ℕ) → 2 ≤ v → (x < 1125899906842624 → AllTiles v ts) × (AllTiles v ts → x < 1125899906842624)
+  late_tiles : (v : ℕ) → 2 ≤ v → (x < 1125899906842624 → AllTiles v ts) × (AllTiles v ts → x < 1125899906842624)
   late_tiles v h = (
     λ z. subst (λ (m : ℕ). UpTo m ts) (sym (code_late v h)) (at_most 7 ts (omega (arith, e, (counts ts).sum, (counts ts).fewer, z))),
     λ f. omega (arith, e, (counts ts).sum, (counts ts).fewer, (counts ts).short, (counts ts).few, none_above 7 ts (subst (λ (m : ℕ). UpTo m ts) (code_late v h) f)),
   )
+
+  -- so of the bound for either version
+  most_early : (v : ℕ) → v < 2 → sum_most v ≡ 1099511627776
+  most_early v h = rw (lt-ltb v 2 h)
+
+  most_late : (v : ℕ) → 2 ≤ v → sum_most v ≡ 1125899906842624
+  most_late v h = rw (le-ltb v 2 h)
+
+  coded_tiles : (v : ℕ) → (x < sum_most v → AllTiles v ts) × (AllTiles v ts → x < sum_most v)
+  coded_tiles v = ⊎_elim (λ l. let q = early_tiles v l in subst (λ (m : ℕ). (x < m → AllTiles v ts) × (AllTiles v ts → x < m)) (sym (most_early v l)) q) (λ g. subst (λ (m : ℕ). (x < m → AllTiles v ts) × (AllTiles v ts → x < m)) (sym (most_late v g)) (late_tiles v g)) (lt_or_ge v 2)
 
   -- the four sums, each in its place
   pub record Sums : Type 0 where
@@ -122,10 +132,37 @@ module _ (ts : List ℕ) (x : ℕ) (short : length ts ≤ 961) (e : x ≡ weight
     off_crates = omega (arith, (counts ts).few);
   }
 
+-- refusals 9 and 10, and none
+module _ (v x : ℕ) where
+  pub sum_9 : (x < sum_most v → ⊥) → SumCode v x 9
+  sum_9 n = record { code_of = λ ts h e. inl (λ f. n ((coded_tiles ts x h e v).1 f), refl) }
+
+  pub sum_10 : x < sum_most v → (SumFair v x → ⊥) → SumCode v x 10
+  sum_10 k n = record {
+    code_of = λ ts h e. (
+        let s = sums ts x h e in
+        let fair : Playable v (totals ts) → SumFair v x = λ p. record {
+          one_player = omega (arith, p.one_player, s.player_is);
+          unfinished = omega (arith, p.unfinished, s.off_is);
+          matched = record { enough = omega (arith, p.enough, s.crate_is, s.goal_is); as_many = λ early. s.crate_is ∙ p.as_many early ∙ sym s.goal_is };
+        } in
+        inr ((coded_tiles ts x h e v).0 k, inl (λ p. n (fair p), refl)));
+  }
+
+  pub sum_0 : x < sum_most v → SumFair v x → SumCode v x 0
+  sum_0 k f = record {
+    code_of = λ ts h e. (
+        let s = sums ts x h e in
+        let p : Playable v (totals ts) = record {
+          one_player = omega (arith, f.one_player, s.player_is);
+          some_crate = omega (arith, f.unfinished, s.off_is, s.off_crates);
+          enough = omega (arith, f.matched.enough, s.crate_is, s.goal_is);
+          as_many = λ early. sym s.crate_is ∙ f.matched.as_many early ∙ s.goal_is;
+          unfinished = omega (arith, f.unfinished, s.off_is);
+        } in
+        inr ((coded_tiles ts x h e v).0 k, inr (p, refl)));
+  }
+
 -- a board has at most 961 tiles
 pub area_small : (w h : ℕ) → w ≤ 31 → h ≤ 31 → w * h ≤ 961
 area_small w h a b = mul-le-mul a b
-
--- and its record at most 364 bytes
-pub record_short : (w h : ℕ) → Sized w h → record_length w h ≤ 364
-record_short w h s = omega (arith, area_small w h s.not_wider s.not_higher)

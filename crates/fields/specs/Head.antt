@@ -1,7 +1,8 @@
 -- Parts: the fields in front of the tiles.
 use Rattle.std.specs.Prelude.{◌≡◌, List, ℕ, ◌≤◌}
-use Rattle.level.specs.Level.{Known}
+use Rattle.level.specs.Level.{Known, Level}
 use Rattle.level.specs.Record.{field_at}
+use Rattle.level.specs.Writing.{lent}
 use Rattle.fields.specs.declared.head.Head.{Head}
 
 -- the fields in front of the tiles
@@ -10,6 +11,10 @@ pub record Heads (bs : List ℕ) (r : Head) : Type 0 where
   pub width : r.width ≡ field_at bs 4 5
   pub height : r.height ≡ field_at bs 9 5
   pub par : r.par ≡ field_at bs 14 10
+
+-- the level that is lent to a writer by its fields and its tiles
+abbrev pub lent_as : Head → List ℕ → Level
+lent_as f tiles = lent f.version f.width f.height f.par tiles
 
 -- a version that there is, and that is taken: any up to this one
 pub record VersionTaken (upto version : ℕ) : Type 0 where

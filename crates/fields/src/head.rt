@@ -18,9 +18,9 @@ pub fn head_of(bs: &[u8]) -> Head
     requires { 3 ≤ length bs.now }
     ensures { Heads bs.now result }
 {
-    let a = bs[0] as usize;
-    let b = bs[1] as usize;
-    let c = bs[2] as usize;
+    let a = usize::from(bs[0]);
+    let b = usize::from(bs[1]);
+    let c = usize::from(bs[2]);
     Head {
         version: a / 16,
         width: a % 16 * 2 + b / 128,
@@ -33,30 +33,12 @@ pub fn head_of(bs: &[u8]) -> Head
 pub fn version_taken(upto: usize, version: usize) -> bool
     ensures { Says result (VersionTaken upto version) }
 {
-    if version < 1 {
-        return false;
-    }
-    if NEWEST < version {
-        return false;
-    }
-    if upto < version {
-        return false;
-    }
-    true
+    1 <= version && version <= NEWEST && version <= upto
 }
 
 // The fields are in their ranges; the bits of width, height and par leave no room above.
 pub fn head_ranged(upto: usize, version: usize, width: usize, height: usize) -> bool
     ensures { Says result (HeadRanged upto version width height) }
 {
-    if !version_taken(upto, version) {
-        return false;
-    }
-    if width < 1 {
-        return false;
-    }
-    if height < 1 {
-        return false;
-    }
-    true
+    version_taken(upto, version) && 1 <= width && 1 <= height
 }

@@ -4,4 +4,3 @@
 pub mod head; // the fields in front of the tiles
 pub mod shape; // length and filling
 pub mod tile; // what tiles add
-pub mod judged; // what judging brings

@@ -12,21 +12,14 @@ fn low_bits(b: u8, k: usize) -> usize
     requires { k < 8 }
     ensures { result ≡ b % 2 ^ (8 - k) }
 {
-    (b as usize) & ((256 >> k) - 1)
+    usize::from(b) % (256 >> k)
 }
 
-// No byte is other than zero from a place on.
-fn zeros(bs: &[u8], from: usize) -> bool
-    ensures { Says result ((q : ℕ) → from ≤ q → q < length bs.now → get_or bs.now q 0 ≡ 0) }
+// No byte is other than zero.
+fn zeros(bs: &[u8]) -> bool
+    ensures { Says result ((q : ℕ) → q < length bs.now → get_or bs.now q 0 ≡ 0) }
 {
-    let mut q = from;
-    while q < bs.len() {
-        if bs[q] != 0 {
-            return false;
-        }
-        q += 1;
-    }
-    true
+    bs.iter().all(|b| *b == 0)
 }
 
 // No bit is set from a place on: in the byte of that place, and in those after it.
@@ -34,13 +27,7 @@ pub fn blank(bs: &[u8], from: usize) -> bool
     ensures { Says result ((p : ℕ) → from ≤ p → p < 8 * length bs.now → bit_at bs.now p ≡ 0) }
 {
     let at = from / 8;
-    if bs.len() <= at {
-        return true;
-    }
-    if low_bits(bs[at], from % 8) != 0 {
-        return false;
-    }
-    zeros(bs, at + 1)
+    bs.len() <= at || low_bits(bs[at], from % 8) == 0 && zeros(&bs[at + 1..])
 }
 
 // So many bytes are those of m tiles, for a record (lanes = 1) or the data cells of a strip.
@@ -49,10 +36,7 @@ pub fn fits(len: usize, lanes: usize, m: usize) -> bool
     ensures { Says result (len ≡ lanes * columns lanes (3 + (3 * m + 7) / 8)) }
 {
     let n = 3 + (3 * m + 7) / 8;
-    if len != lanes * ((n + (lanes - 1)) / lanes) {
-        return false;
-    }
-    true
+    len == lanes * ((n + (lanes - 1)) / lanes)
 }
 
 // The length is that of the size, and what is left over is blank.
@@ -60,8 +44,5 @@ pub fn shaped(bs: &[u8], lanes: usize, m: usize) -> bool
     requires { Within 1 16 lanes × (m ≡ field_at bs.now 4 5 * field_at bs.now 9 5) × (m ≤ tiles_most) }
     ensures { Says result (Shaped lanes bs.now) }
 {
-    if !fits(bs.len(), lanes, m) {
-        return false;
-    }
-    blank(bs, 24 + 3 * m)
+    fits(bs.len(), lanes, m) && blank(bs, 24 + 3 * m)
 }

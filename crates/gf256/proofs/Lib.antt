@@ -1,5 +1,4 @@
 pub mod Rules
 pub mod Field256
 pub mod Lookups
-pub mod Laying
 pub mod Signs

@@ -1,5 +1,5 @@
--- The tables of the field, what is lent of them, and what is read from it.
-use Rattle.std.specs.Prelude.{◌≡◌, List, ℕ, suc, ◌+◌, ◌<◌, length, get_or}
+-- The tables of the field, and what is read from them.
+use Rattle.std.specs.Prelude.{◌≡◌, List, ℕ, suc, ◌<◌, length, get_or}
 use Rattle.std.specs.Int.Bits.{bit_xor}
 use Rattle.account.specs.Field.{power}
 use Rattle.account.specs.Errata.{place}
@@ -21,22 +21,7 @@ pub record Halves (t : List ℕ) : Type 0 where
   pub all : length t ≡ 256
   pub half_at : (c : ℕ) → c < 256 → HalfOf gf256 c (bit_xor (get_or t c 0) c)
 
--- ---- what is lent
-
--- the logarithm of a is at logs + a, the square of the half of c at halves + c
-abbrev pub logs : ℕ
-logs = 510
-
-abbrev pub halves : ℕ
-halves = 766
-
--- the three in one, the powers twice around
-pub record Tables (t : List ℕ) : Type 0 where
-  pub power_at : (k : ℕ) → k < logs → get_or t k 0 ≡ power gf256 2 k
-  pub log_at : (a : ℕ) → 0 < a → a < 256 → IsLog a (get_or t (logs + a) 0)
-  pub half_at : (c : ℕ) → c < 256 → HalfOf gf256 c (bit_xor (get_or t (halves + c) 0) c)
-
--- ---- what is read from it
+-- ---- what is read from them
 
 -- the place of cell p of n
 abbrev pub place_of : ℕ → ℕ → ℕ

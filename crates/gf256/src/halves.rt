@@ -1,7 +1,8 @@
 // For each byte c the square of one of the two z with z z + z = c, so that c added to it is z; and c itself where there are none, which gives 0.
-ghost use Rattle.gf256.specs.Tables.{Halves};
+ghost use Rattle.account.specs.Search.{HalfOf};
+ghost use Rattle.gf256.specs.Gf256.{gf256};
 
-const HALVES: [u8; 256] = [
+static HALVES: [u8; 256] = [
     0, 215, 234, 61, 238, 57, 4, 211, 36, 243, 206, 25, 202, 29, 32, 247, 254, 41, 20, 195, 16,
     199, 250, 45, 218, 13, 48, 231, 52, 227, 222, 9, 32, 33, 34, 35, 36, 37, 38, 39, 40, 41, 42,
     43, 44, 45, 46, 47, 48, 49, 50, 51, 52, 53, 54, 55, 56, 57, 58, 59, 60, 61, 62, 63, 100, 179,
@@ -17,8 +18,9 @@ const HALVES: [u8; 256] = [
     244, 245, 246, 247, 248, 249, 250, 251, 252, 253, 254, 255,
 ];
 
-pub(crate) fn table() -> [u8; 256]
-    ensures { Halves result }
+// One of the two z with z z + z = c, wherever there are any.
+pub fn half(c: u8) -> u8
+    ensures { HalfOf gf256 c result }
 {
-    HALVES
+    HALVES[usize::from(c)] ^ c
 }

@@ -1,7 +1,8 @@
 // The logarithms of the 255 bytes other than zero, that of 1 first. Zero has none.
-ghost use Rattle.gf256.specs.Tables.{Logs};
+ghost use Rattle.std.specs.Prelude.{◌<◌};
+ghost use Rattle.gf256.specs.Gf256.{IsLog};
 
-const LOGS: [u8; 255] = [
+static LOGS: [u8; 255] = [
     0, 1, 25, 2, 50, 26, 198, 3, 223, 51, 238, 27, 104, 199, 75, 4, 100, 224, 14, 52, 141, 239,
     129, 28, 193, 105, 248, 200, 8, 76, 113, 5, 138, 101, 47, 225, 36, 15, 33, 53, 147, 142, 218,
     240, 18, 130, 69, 29, 181, 194, 125, 106, 39, 249, 185, 201, 154, 9, 120, 77, 228, 114, 166, 6,
@@ -17,8 +18,10 @@ const LOGS: [u8; 255] = [
     214, 244, 234, 168, 80, 88, 175,
 ];
 
-pub(crate) fn table() -> [u8; 255]
-    ensures { Logs result }
+// The power of α that x is.
+pub fn log(x: u8) -> usize
+    requires { 0 < x }
+    ensures { IsLog x result }
 {
-    LOGS
+    usize::from(LOGS[usize::from(x) - 1])
 }

@@ -8,13 +8,12 @@ use native.Mathlib.Omega.{arith}
 use lib.Dec.{T}
 use lib.ListN.{length}
 use Rattle.gf256.specs.Gf256.{gf256}
-use Rattle.rules.specs.Refusal.{Rule, First}
+use Rattle.std.specs.Prelude.{Bool, true, false, Result, Ok, Err}
+use Rattle.rules.specs.declared.Refusal.{Refusal}
+use Rattle.rules.specs.Refusal.{Rule, First, written_numbers}
 use Rattle.rules.proofs.Laws.{between, at_most, all_hold, either}
-use Rattle.code.specs.Word.{written_numbers, tested_numbers, writing, testing}
+use Rattle.code.specs.Word.{tested_numbers, writing, testing}
 use Rattle.code.specs.Repair.{repaired_numbers, repairing}
-use Rattle.code.specs.declared.word.Written.{Written}
-use Rattle.code.specs.declared.word.Tested.{Tested}
-use Rattle.code.specs.declared.word.Tested.TheVariants as tested
 use Rattle.code.proofs.Answers.{written_zero, repaired_zero}
 use Rattle.code.proofs.Theorems.{repainted_few}
 use Rattle.level.specs.Sizes.{strip_most, scratch_least}
@@ -25,18 +24,16 @@ use Rattle.level.specs.Record.{record_length}
 use Rattle.level.specs.Strip.{LaneCount}
 use Rattle.level.proofs.Lengths.{lanes_within, strip_short}
 use Rattle.record.specs.Reading.{record_numbers}
-use Rattle.record.specs.declared.read.RecordRead.{RecordRead}
-use Rattle.record.specs.declared.read.RecordRead.TheVariants as recordRead
+use Rattle.fields.specs.declared.head.Head.{Head}
 use Rattle.record.proofs.Theorems.{written_is_level}
 use Rattle.text.specs.Reading.{reading_text}
 use Rattle.text.proofs.Written.{text_short}
 use Rattle.text.proofs.Theorems.{written_text_level}
-use Rattle.strip.specs.Reading.{strip_numbers, StripReadsAs}
-use Rattle.strip.specs.declared.read.Reading.{Reading}
+use Rattle.strip.specs.Reading.{Reading, strip_numbers, StripReadsAs}
 use Rattle.strip.proofs.Laid.{record_fits}
 use Rattle.strip.proofs.Reader.{zeros}
 use Rattle.strip.proofs.Theorems.{written_strip_level, mended_most, repainted_most, wear_most}
-use Rattle.pool.specs.declared.Pooling.{Pooling}
+use Rattle.pool.specs.declared.Pooled.{Pooled}
 use Rattle.pool.specs.Pooled.{Picture, Kind, agreed, taken, conflict, both, pool_numbers, told, pooling, PoolsAs}
 use Rattle.pool.proofs.Theorems.{pool_zeros, counts_add_up}
 use Rattle.tiny.specs.Tiny.{Place, next_numbers, stepping}
@@ -50,7 +47,7 @@ few : (rs : List Rule) (c : ℕ) → T (between 1 31 rs) → First rs c → c < 
 few rs c t f = omega (arith, at_most 31 rs c t f)
 
 -- a writer's numbers have room where its length has
-written_room : (rs : List Rule) (a : Written) → T (between 1 31 rs) → First rs (written_numbers a).code
+written_room : (rs : List Rule) (a : Result ℕ Refusal) → T (between 1 31 rs) → First rs (written_numbers a).code
     → ((written_numbers a).code ≡ 0 → (written_numbers a).value < 65536) → Room (written_numbers a)
 written_room rs a t f h = record {
   code = few rs (written_numbers a).code t f;
@@ -79,10 +76,10 @@ word_test_told w r E =
           E.answer;
     })
   where
-    small : (a : Tested) → (tested_numbers a).value < 65536
-    small tested.Clean = omega arith
-    small tested.Damaged = omega arith
-    small (tested.Refused c) = omega arith
+    small : (a : Result Bool Refusal) → (tested_numbers a).value < 65536
+    small (Ok true) = omega arith
+    small (Ok false) = omega arith
+    small (Err r) = omega arith
 
 -- a word or a lane
 pub word_repair_told : (most : ℕ) (marks old new : List ℕ) (r : ℕ) (E : RepairExport most marks old new r) → unpacked_repair r ≡ repaired_numbers E.answer
@@ -124,9 +121,9 @@ strip_write_told R l old new r E =
 -- ---- levels read
 
 -- the numbers of a level, read from a record or from a text
-level_room : (a : RecordRead) (new : List ℕ) → (record_numbers a).code < 32 → ((record_numbers a).code ≡ 0 → IsLevel (returned (record_numbers a) new))
+level_room : (a : Result Head Refusal) (new : List ℕ) → (record_numbers a).code < 32 → ((record_numbers a).code ≡ 0 → IsLevel (returned (record_numbers a) new))
     → ReadRoom (record_numbers a)
-level_room (recordRead.Level v w h p) new f is =
+level_room (Ok r) new f is =
     let l = (is refl).ranged in
     record {
       code = f;
@@ -140,7 +137,7 @@ level_room (recordRead.Level v w h p) new f is =
       wear = omega arith;
       lanes = omega arith;
     }
-level_room (recordRead.Refused c) new f is = record {
+level_room (Err r) new f is = record {
   code = f;
   lane = omega arith;
   version = omega arith;
@@ -223,7 +220,7 @@ strip_read_told upto R s marks tiles tiles' scratch scratch' r E =
 
 -- ---- pictures pooled
 
-module _ (a b out out' : Picture) (r : Pooling) (P : PoolsAs 4 a b out out' r) where
+module _ (a b out out' : Picture) (r : Result Pooled Refusal) (P : PoolsAs 4 a b out out' r) where
   -- no count is past the longest strip's cells
   pool_small : (k : Kind) → told (pool_numbers r) k < 512
   pool_small k = either (told (pool_numbers r) k < 512) (pool_numbers r).code (λ z. within z k) (λ n. omega (arith, pool_zeros r n k))

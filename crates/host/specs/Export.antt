@@ -1,7 +1,8 @@
 -- What an export promises: the number it returns is the packing of an answer that keeps the entry's promise.
 use Rattle.std.specs.Prelude.{◌≡◌, List, ℕ}
 use Rattle.gf256.specs.Gf256.{gf256}
-use Rattle.code.specs.Word.{written_numbers, tested_numbers, WritesAs, TestsAs}
+use Rattle.rules.specs.Refusal.{written_numbers}
+use Rattle.code.specs.Word.{tested_numbers, WritesAs, TestsAs}
 use Rattle.code.specs.Repair.{repaired_numbers, RepairsAs}
 use Rattle.level.specs.Level.{Level}
 use Rattle.record.specs.Writing.{RecordWritesAs}

@@ -14,7 +14,9 @@ ghost use Rattle.packing.specs.Packed.{packed_sums};
 ghost use Rattle.host.specs.Export.{WriteExport, TestExport, RepairExport, RecordExport, RecordReadExport, TextExport, TextReadExport, StripExport, StripReadExport, PoolExport, TinyExport};
 
 use code::lane::{LANE_MOST, Lane};
-use code::repair::Repaired;
+use fields::head::Head;
+use level::NEWEST;
+use rules::Refusal;
 
 // Writes the clean word with the data in front.
 #[unsafe(no_mangle)]
@@ -46,7 +48,7 @@ fn lane_of(s: &[u8]) -> Lane
     ensures { (result.len ≡ length s.now) × (word_of result ≡ s.now) }
 {
     let mut bytes = [0u8; LANE_MOST];
-    rules::copy(s, &mut bytes);
+    bytes[..s.len()].copy_from_slice(s);
     Lane {
         bytes,
         len: s.len(),
@@ -58,9 +60,7 @@ fn put_back(lane: Lane, s: &mut [u8])
     requires { (lane.len ≡ length s.old) × (length s.old ≤ lane_most) }
     ensures { s.new ≡ word_of lane }
 {
-    let n = lane.len;
-    let bytes = lane.bytes;
-    rules::copy(&bytes[0..n], s);
+    s.copy_from_slice(&lane.bytes[..lane.len]);
 }
 
 // Repairs a lane of at most 187 bytes in place.
@@ -69,25 +69,18 @@ pub extern "C" fn zav_lane_repair(lane: &mut [u8], marks: &[u8]) -> u64
     ensures { RepairExport lane_most marks.now lane.old lane.new result }
 {
     let n = lane.len();
-    if LANE_MOST < n {
-        return packing::pack_repaired(Repaired::Refused(1));
-    }
-    if n < 6 {
-        return packing::pack_repaired(Repaired::Refused(1));
+    if LANE_MOST < n || n < 6 {
+        return packing::pack_repaired(Err(Refusal::Length));
     }
     if marks.len() != n {
-        return packing::pack_repaired(Repaired::Refused(2));
+        return packing::pack_repaired(Err(Refusal::MarkCount));
     }
     let r = code::lane::repair_lane(lane_of(lane), lane_of(marks));
     let answer = r.answer;
-    let clean = r.lane;
-    match answer {
-        Repaired::Mended { mended, repainted } => {
-            put_back(clean, lane);
-            packing::pack_repaired(Repaired::Mended { mended, repainted })
-        }
-        Repaired::Refused(c) => packing::pack_repaired(Repaired::Refused(c)),
+    if answer.is_ok() {
+        put_back(r.lane, lane);
     }
+    packing::pack_repaired(answer)
 }
 
 // The product of two bytes.
@@ -106,23 +99,17 @@ pub extern "C" fn zav_power(exponent: i32) -> u8
     code::field::power(exponent)
 }
 
-fn wide(x: u8) -> u64
-    ensures { (result ≡ x) × (result < 256) }
-{
-    x as u64
-}
-
 // The syndrome: S_-2 in the lowest byte, S_2 in bits 32 to 39.
 #[unsafe(no_mangle)]
 pub extern "C" fn zav_syndrome(word: &[u8]) -> u64
     ensures { result ≡ packed_sums (syndrome gf256 word.now) }
 {
     let s = code::word::syndrome_of(word);
-    wide(s[0])
-        + wide(s[1]) * 256
-        + wide(s[2]) * 65536
-        + wide(s[3]) * 16777216
-        + wide(s[4]) * 4294967296
+    u64::from(s[0])
+        + u64::from(s[1]) * 256
+        + u64::from(s[2]) * 65536
+        + u64::from(s[3]) * 16777216
+        + u64::from(s[4]) * 4294967296
 }
 
 // Writes the record of a level.
@@ -137,7 +124,13 @@ pub extern "C" fn zav_record_write(
 ) -> u64
     ensures { RecordExport (lent version width height par tiles.now) «record».old «record».new result }
 {
-    packing::pack_written(record::write::write(version, width, height, par, tiles, record))
+    let f = Head {
+        version,
+        width,
+        height,
+        par,
+    };
+    packing::pack_written(record::write::write(f, tiles, record))
 }
 
 // Reads a record.
@@ -145,7 +138,7 @@ pub extern "C" fn zav_record_write(
 pub extern "C" fn zav_record_read(record: &[u8], tiles: &mut [u8]) -> u64
     ensures { RecordReadExport newest «record».now tiles.old tiles.new result }
 {
-    packing::pack_level(record::read::read(record, tiles))
+    packing::pack_level(record::read::read_upto(NEWEST, record, tiles))
 }
 
 // Reads a record of version 1.
@@ -153,7 +146,7 @@ pub extern "C" fn zav_record_read(record: &[u8], tiles: &mut [u8]) -> u64
 pub extern "C" fn zav_record_read_v1(record: &[u8], tiles: &mut [u8]) -> u64
     ensures { RecordReadExport 1 «record».now tiles.old tiles.new result }
 {
-    packing::pack_level(record::read::read_v1(record, tiles))
+    packing::pack_level(record::read::read_upto(1, record, tiles))
 }
 
 // Writes the text of a level.
@@ -168,7 +161,13 @@ pub extern "C" fn zav_text_write(
 ) -> u64
     ensures { TextExport (lent version width height par tiles.now) text.old text.new result }
 {
-    packing::pack_written(text::write::write(version, width, height, par, tiles, text))
+    let f = Head {
+        version,
+        width,
+        height,
+        par,
+    };
+    packing::pack_written(text::write::write(f, tiles, text))
 }
 
 // Reads a text.
@@ -192,7 +191,13 @@ pub extern "C" fn zav_strip_write(
 ) -> u64
     ensures { StripExport lanes (lent version width height par tiles.now) strip.old strip.new result }
 {
-    packing::pack_written(strip::write::write(lanes, version, width, height, par, tiles, strip))
+    let f = Head {
+        version,
+        width,
+        height,
+        par,
+    };
+    packing::pack_written(strip::write::write(lanes, f, tiles, strip))
 }
 
 // Reads a strip.
@@ -206,7 +211,7 @@ pub extern "C" fn zav_strip_read(
 ) -> u64
     ensures { StripReadExport newest lanes strip.now marks.now tiles.old tiles.new scratch.old scratch.new result }
 {
-    packing::pack_reading(strip::read::read(lanes, strip, marks, tiles, scratch))
+    packing::pack_reading(strip::read::read_upto(NEWEST, lanes, strip, marks, tiles, scratch))
 }
 
 // Reads a strip of version 1.
@@ -220,7 +225,7 @@ pub extern "C" fn zav_strip_read_v1(
 ) -> u64
     ensures { StripReadExport 1 lanes strip.now marks.now tiles.old tiles.new scratch.old scratch.new result }
 {
-    packing::pack_reading(strip::read::read_v1(lanes, strip, marks, tiles, scratch))
+    packing::pack_reading(strip::read::read_upto(1, lanes, strip, marks, tiles, scratch))
 }
 
 // Pools two pictures of a strip.

@@ -2,6 +2,5 @@ pub mod Setting
 pub mod Marks
 pub mod Repairs
 pub mod Sofar
-pub mod Adding
 pub mod Noting
 pub mod Untouched

@@ -12,7 +12,7 @@ use Rattle.account.specs.Reach.{count_to, is_marked, one_if}
 use Rattle.account.proofs.Cells.{count_none}
 use Rattle.account.proofs.Lanes.{length_lane}
 use Rattle.rules.proofs.Numbers.{lt_or_ge}
-use Rattle.marks.specs.Marks.{ListedIn}
+use Rattle.marks.specs.Marks.{AllOf}
 use Rattle.marks.proofs.Counting.{lane_marked, lane_inside}
 use Rattle.marks.proofs.Listing.{none_listed}
 
@@ -35,10 +35,9 @@ module _ (R : ℕ) (marks : List ℕ) (l : ℕ) (h : l < R) (z : count_to (is_ma
       subst (λ (b : Bool). T (not b)) (lane_marked R marks l i h j)
       (zero_count (is_marked marks) (length marks) z (R * i + l) (lane_inside R marks l i h j)))
 
-  pub none_listed_in : (p : List ℕ) → length p ≡ 5 → ListedIn R l marks (record { count = 0; cells = p })
+  pub none_listed_in : (p : List ℕ) → length p ≡ 5 → AllOf (lane R l marks) (record { count = 0; cells = p })
   none_listed_in p e = record {
-    most = omega arith;
-    list = λ _. none_listed (lane R l marks) p 0 (sym none_marked) refl e;
-    count = λ _. sym none_marked;
-    many = λ k. absurd (omega arith);
+    few = omega arith;
+    list = none_listed (lane R l marks) p 0 (sym none_marked) refl e;
+    count = sym none_marked;
   }

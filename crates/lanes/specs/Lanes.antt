@@ -1,6 +1,6 @@
 -- Parts: what the functions that mend the lanes of a strip promise each other, over the lane count R. The mended strip is the strip with the
 -- noted cells put right.
-use Rattle.std.specs.Prelude.{◌≡◌, Bool, true, false, List, ℕ, ◌+◌, ◌*◌, ◌≤◌, ◌<◌, length}
+use Rattle.std.specs.Prelude.{◌≡◌, Bool, false, Option, Some, None, Result, Ok, Err, List, ℕ, ◌+◌, ◌*◌, ◌≤◌, ◌<◌, length}
 use Rattle.account.specs.Lanes.{lane}
 use Rattle.account.specs.Code.{Cells, Clean}
 use Rattle.account.specs.Reach.{count_to, is_marked, Reach, GoodMarks}
@@ -9,14 +9,14 @@ use Rattle.gf256.specs.Gf256.{gf256}
 use Rattle.level.specs.Sizes.{record_most}
 use Rattle.level.specs.Strip.{columns, Legal, wrong_in, mended_of, repainted_in, repainted_of, Mends, Mendable, Lowest}
 use Rattle.code.specs.Lane.{lane_most}
-use Rattle.patches.specs.Patched.{patched}
+use Rattle.marks.specs.declared.Counts.{Counts}
+use Rattle.patches.specs.declared.Fixes.{Fixes}
 use Rattle.dealt.specs.Lanes.{LaneRemains}
-use Rattle.lanes.specs.declared.Mending.{Mending}
-use Rattle.lanes.specs.declared.One.{One}
+use Rattle.lanes.specs.Fixes.{fixed}
 
--- no cell is marked, if f is 0
-pub record NoneSet (f : ℕ) (marks : List ℕ) : Type 0 where
-  pub none : f ≡ 0 → count_to (is_marked marks) (length marks) ≡ 0
+-- no cell is marked, if none is said to be
+pub record NoneSet (marked : Bool) (marks : List ℕ) : Type 0 where
+  pub none : marked ≡ false → count_to (is_marked marks) (length marks) ≡ 0
 
 module _ (R : ℕ) where
   -- what mending goes on with: a legal strip with its marks, of lanes that can travel by value
@@ -46,20 +46,23 @@ module _ (R : ℕ) where
     pub repaints : repainted ≡ repainted_in R marks s t' j
     pub others : (i : ℕ) → i < R → (i ≡ j → ⊥) → lane R i t' ≡ lane R i t
 
-  -- by the answer: lane j, as it was in the strip, is mended by what is noted; or it cannot be
-  abbrev pub OneAs : List ℕ → List ℕ → ℕ → ℕ → List ℕ → List ℕ → List ℕ → List ℕ → Bool → One → Type 0
-  OneAs s marks j k cells bytes cells' bytes' true o =
-      (lane R j (patched cells bytes k s) ≡ lane R j s → OneGood s marks j (patched cells bytes k s) (patched cells' bytes' o.noted s) o.mended o.repainted)
-      × (o.noted ≤ k + 5)
-      × (length cells' ≡ 80)
-      × (length bytes' ≡ 80)
-  OneAs s marks j k cells bytes cells' bytes' false o = Mendable gf256 R marks s j → ⊥
+  -- lane j, as it was in the strip, is mended by what is noted, and so many cells of it are put right; or it cannot be
+  abbrev pub OneAs : List ℕ → List ℕ → ℕ → Fixes → Fixes → Option Counts → Type 0
+  OneAs s marks j f f' (Some c) =
+      (lane R j (fixed f s) ≡ lane R j s → OneGood s marks j (fixed f s) (fixed f' s) c.mended c.repainted)
+      × (f'.count ≤ f.count + 5)
+      × (length f'.cells ≡ 80)
+      × (length f'.bytes ≡ 80)
+  OneAs s marks j f f' None = Mendable gf256 R marks s j → ⊥
 
-  -- every lane mended by what is noted, or the lowest that cannot be
-  pub record MendedAs (s marks cells bytes : List ℕ) (r : Mending) : Type 0 where
-    pub found : R ≤ r.beyond → Mends gf256 R marks s (patched cells bytes r.noted s)
-    pub count : R ≤ r.beyond → r.mended ≡ mended_of R marks s (patched cells bytes r.noted s)
-    pub repaints : R ≤ r.beyond → r.repainted ≡ repainted_of R marks s (patched cells bytes r.noted s)
-    pub small : r.mended ≤ 2 * R
-    pub few : r.noted ≤ 80
-    pub lost : r.beyond < R → Lowest gf256 R marks s r.beyond
+  -- every lane is mended by what is noted, and so many cells are put right
+  pub record AllMended (s marks : List ℕ) (f : Fixes) (c : Counts) : Type 0 where
+    pub found : Mends gf256 R marks s (fixed f s)
+    pub count : c.mended ≡ mended_of R marks s (fixed f s)
+    pub repaints : c.repainted ≡ repainted_of R marks s (fixed f s)
+    pub small : c.mended ≤ 2 * R
+
+  -- or the lowest lane that cannot be
+  abbrev pub MendedAs : List ℕ → List ℕ → Fixes → Result Counts ℕ → Type 0
+  MendedAs s marks f (Ok c) = AllMended s marks f c
+  MendedAs s marks f (Err l) = Lowest gf256 R marks s l

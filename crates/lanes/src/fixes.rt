@@ -3,35 +3,33 @@ ghost use Rattle.lanes.specs.Fixes.{Noting, Noted};
 
 use code::lane::Lane;
 use marks::Counts;
-use patches::FIXES;
+use patches::Fixes;
+use values::Errata;
 
-// The errata e of lane l, of which w are the cells, noted after the first k; how many cells they change.
+// The errata e of lane l, of which w are the cells, noted after the others; how many cells they change.
 pub(crate) fn note(
     w: Lane,
-    e: values::Errata,
+    e: Errata,
     marks: &[u8],
     lanes: usize,
     l: usize,
-    k: usize,
-    cells: &mut [u16; FIXES],
-    bytes: &mut [u8; FIXES],
+    fixes: &mut Fixes,
 ) -> Counts
-    requires { Noting lanes l k w e marks.now cells.old bytes.old }
-    ensures { Noted lanes l k w e marks.now cells.old bytes.old e.count cells.new bytes.new result }
+    requires { Noting lanes l w e marks.now fixes.old }
+    ensures { Noted lanes l w e marks.now fixes.old e.count fixes.new result }
 {
     let mut c = Counts {
         mended: 0,
         repainted: 0,
     };
-    let mut i: usize = 0;
-    while i < e.count {
+    for i in 0..e.count {
         let p = e.cells[i];
         let q = lanes * p + l;
         let v = e.values[i];
-        cells[k + i] = q as u16;
-        bytes[k + i] = w.bytes[p] ^ v;
+        fixes.cells[fixes.count] = q as u16;
+        fixes.bytes[fixes.count] = w.bytes[p] ^ v;
+        fixes.count += 1;
         c = marks::count_one(c, marks, q, v);
-        i += 1;
     }
     c
 }

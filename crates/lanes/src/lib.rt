@@ -2,53 +2,35 @@
 #![tactic(auto)]
 
 ghost use Rattle.std.specs.Prelude.{◌≡◌, ℕ, ◌/◌, ◌≤◌, ◌<◌, length, get_or};
+ghost use Rattle.account.specs.Lanes.{lane};
 ghost use Rattle.rules.specs.Says.{Says};
-ghost use Rattle.gf256.specs.Tables.{Tables};
-ghost use Rattle.marks.specs.Marks.{ListedIn};
+ghost use Rattle.marks.specs.Marks.{ListedIn, AllOf};
 ghost use Rattle.dealt.specs.Lanes.{Remaindered, LaneOf};
 ghost use Rattle.lanes.specs.Fixes.{Room, LaneNoting, LaneNoted};
 ghost use Rattle.lanes.specs.Lanes.{NoneSet, Entered, Ready, OneAs, MendedAs};
 
 use dealt::LANES;
 use marks::{Counts, Listed};
-use patches::FIXES;
+use patches::Fixes;
 use values::Errata;
 
 mod fixes; // what is to be put right in a strip
 
-// Whether a lane is mended, how many unmarked cells were wrong and how many marked ones, and how many cells are noted then.
-#[derive(Clone, Copy)]
-pub struct One {
-    pub good: bool,
-    pub mended: usize,
-    pub repainted: usize,
-    pub noted: usize,
-}
-
-// The lowest lane beyond reach, or how many lanes there are; how many cells were mended in all, and how many repainted; and how many are noted.
-#[derive(Clone, Copy)]
-pub struct Mending {
-    pub beyond: usize,
-    pub mended: usize,
-    pub repainted: usize,
-    pub noted: usize,
-}
-
-// The marked cells of lane l. Most strips have none at all, and then f is 0.
-fn marked_in(marks: &[u8], f: usize, lanes: usize, l: usize) -> Listed
-    requires { (l < lanes) × (lanes ≤ 16) × (length marks.now ≤ 4096) × NoneSet f marks.now }
+// The marked cells of lane l. Most strips have none at all.
+fn marked_in(marks: &[u8], marked: bool, lanes: usize, l: usize) -> Option<Listed>
+    requires { (l < lanes) × (lanes ≤ 16) × (length marks.now ≤ 4096) × NoneSet marked marks.now }
     ensures { ListedIn lanes l marks.now result }
 {
-    if f == 0 {
-        return Listed {
+    if !marked {
+        return Some(Listed {
             count: 0,
             cells: [0; 5],
-        };
+        });
     }
     marks::list(marks, lanes, l)
 }
 
-// The errata e of lane l, noted after the first k. The lane is taken out by value here and not while its errata are looked for, so that its
+// The errata e of lane l, noted after the others. The lane is taken out by value here and not while its errata are looked for, so that its
 // copies do not stand on the stack beside what the search keeps there.
 #[inline(never)]
 fn note_lane(
@@ -57,172 +39,109 @@ fn note_lane(
     lanes: usize,
     l: usize,
     e: Errata,
-    k: usize,
-    cells: &mut [u16; FIXES],
-    bytes: &mut [u8; FIXES],
+    fixes: &mut Fixes,
 ) -> Counts
-    requires { LaneOf lanes l (length strip.now / lanes) strip.now × (lanes ≤ 16) × LaneNoting lanes l k e strip.now marks.now cells.old bytes.old }
-    ensures { LaneNoted lanes l k e strip.now marks.now cells.old bytes.old cells.new bytes.new result }
+    requires { LaneOf lanes l (length strip.now / lanes) strip.now × (lanes ≤ 16) × LaneNoting lanes l e strip.now marks.now fixes.old }
+    ensures { LaneNoted lanes l e strip.now marks.now fixes.old fixes.new result }
 {
     let w = dealt::gather(strip, lanes, l, strip.len() / lanes);
-    fixes::note(w, e, marks, lanes, l, k, cells, bytes)
+    fixes::note(w, e, marks, lanes, l, fixes)
 }
 
-// Lane l, which is not clean: its errata, found by its remainder, noted after the first k.
+// Lane l, which is not clean: its errata, found by its remainder, are noted. How many cells of it are put right; nothing where it is beyond reach.
 fn repair_one(
-    tables: &[u8; 1022],
     strip: &[u8],
     marks: &[u8],
     lanes: usize,
     l: usize,
     r: u64,
-    marked: Listed,
-    k: usize,
-    cells: &mut [u16; FIXES],
-    bytes: &mut [u8; FIXES],
-) -> One
-    requires { Tables tables.now × Ready lanes l strip.now marks.now r × (marked.count ≤ 5) × ListedIn lanes l marks.now marked × Room k cells.old bytes.old }
-    ensures { OneAs lanes strip.now marks.now l k cells.old bytes.old cells.new bytes.new result.good result }
+    listed: Listed,
+    fixes: &mut Fixes,
+) -> Option<Counts>
+    requires { Ready lanes l strip.now marks.now r × AllOf (lane lanes l marks.now) listed × Room fixes.old }
+    ensures { OneAs lanes strip.now marks.now l fixes.old fixes.new result }
 {
     let n = strip.len() / lanes;
-    let found = dealt::search(tables, n, r, marked.cells, marked.count);
-    let good = found.good;
-    if !good {
-        return One {
-            good: false,
-            mended: 0,
-            repainted: 0,
-            noted: k,
-        };
-    }
-    let noted = k + found.errata.count;
-    let c = note_lane(strip, marks, lanes, l, found.errata, k, cells, bytes);
-    One {
-        good: true,
-        mended: c.mended,
-        repainted: c.repainted,
-        noted,
-    }
+    let e = dealt::search(n, r, listed.cells, listed.count)?;
+    Some(note_lane(strip, marks, lanes, l, e, fixes))
 }
 
 // Lane l, with the remainder r. A clean lane is only asked for its marks.
 fn mend_one(
-    tables: &[u8; 1022],
     strip: &[u8],
     marks: &[u8],
-    f: usize,
+    marked: bool,
     lanes: usize,
     l: usize,
     r: u64,
-    k: usize,
-    cells: &mut [u16; FIXES],
-    bytes: &mut [u8; FIXES],
-) -> One
-    requires { Tables tables.now × Ready lanes l strip.now marks.now r × NoneSet f marks.now × Room k cells.old bytes.old }
-    ensures { OneAs lanes strip.now marks.now l k cells.old bytes.old cells.new bytes.new result.good result }
+    fixes: &mut Fixes,
+) -> Option<Counts>
+    requires { Ready lanes l strip.now marks.now r × NoneSet marked marks.now × Room fixes.old }
+    ensures { OneAs lanes strip.now marks.now l fixes.old fixes.new result }
 {
-    let m = marked_in(marks, f, lanes, l);
-    if 5 < m.count {
-        return One {
-            good: false,
-            mended: 0,
-            repainted: 0,
-            noted: k,
-        };
-    }
+    let listed = marked_in(marks, marked, lanes, l)?;
     if r == 0 {
-        return One {
-            good: true,
+        return Some(Counts {
             mended: 0,
             repainted: 0,
-            noted: k,
-        };
+        });
     }
-    repair_one(tables, strip, marks, lanes, l, r, m, k, cells, bytes)
+    repair_one(strip, marks, lanes, l, r, listed, fixes)
 }
 
-// Every lane in its turn, with its remainder. The tables are laid out here, once for all lanes.
+// Every lane in its turn, with its remainder: how many cells are put right in all, or the lowest lane beyond reach.
 fn mend_each(
     strip: &[u8],
     marks: &[u8],
-    f: usize,
+    marked: bool,
     lanes: usize,
-    r: [u64; LANES],
-    cells: &mut [u16; FIXES],
-    bytes: &mut [u8; FIXES],
-) -> Mending
-    requires { Entered lanes strip.now marks.now × NoneSet f marks.now × Remaindered lanes strip.now r × Room 0 cells.old bytes.old }
-    ensures { MendedAs lanes strip.now marks.now cells.new bytes.new result }
+    r: &[u64; LANES],
+    fixes: &mut Fixes,
+) -> Result<Counts, usize>
+    requires { Entered lanes strip.now marks.now × NoneSet marked marks.now × Remaindered lanes strip.now r.now × Room fixes.old × (fixes.old.count ≡ 0) }
+    ensures { MendedAs lanes strip.now marks.now fixes.new result }
 {
-    let tables = gf256::tables::make();
-    let mut mended: usize = 0;
-    let mut repainted: usize = 0;
-    let mut noted: usize = 0;
-    let mut l: usize = 0;
-    while l < lanes {
-        let o = mend_one(
-            &tables, strip, marks, f, lanes, l, r[l], noted, cells, bytes,
-        );
-        let good = o.good;
-        if !good {
-            return Mending {
-                beyond: l,
-                mended: 0,
-                repainted: 0,
-                noted: 0,
-            };
-        }
-        mended += o.mended;
-        repainted += o.repainted;
-        noted = o.noted;
-        l += 1;
+    let mut sum = Counts {
+        mended: 0,
+        repainted: 0,
+    };
+    for l in 0..lanes {
+        let Some(c) = mend_one(strip, marks, marked, lanes, l, r[l], fixes) else {
+            return Err(l);
+        };
+        sum.mended += c.mended;
+        sum.repainted += c.repainted;
     }
-    Mending {
-        beyond: lanes,
-        mended,
-        repainted,
-        noted,
-    }
+    Ok(sum)
 }
 
 // Whether every lane is clean, by the remainders.
-fn all_clean(r: [u64; LANES], lanes: usize) -> bool
+fn all_clean(r: &[u64; LANES], lanes: usize) -> bool
     requires { lanes ≤ 16 }
-    ensures { Says result ((j : ℕ) → j < lanes → get_or r j 0 ≡ 0) }
+    ensures { Says result ((j : ℕ) → j < lanes → get_or r.now j 0 ≡ 0) }
 {
-    let mut j: usize = 0;
-    while j < lanes {
-        if r[j] != 0 {
-            return false;
-        }
-        j += 1;
-    }
-    true
+    r[..lanes].iter().all(|x| *x == 0)
 }
 
-// What is to be put right in a strip, of which no cell is marked if f is 0: all lanes are tested in one pass first, and a clean strip
-// with no marks is left at that.
+// What is to be put right in a strip, of which some cell may be marked or none is; how many cells that are, or the lowest lane beyond reach.
+// All lanes are tested in one pass first, and a clean strip with no marks is left at that.
 pub fn mend(
     strip: &[u8],
     marks: &[u8],
-    f: usize,
+    marked: bool,
     lanes: usize,
-    cells: &mut [u16; FIXES],
-    bytes: &mut [u8; FIXES],
-) -> Mending
-    requires { Entered lanes strip.now marks.now × NoneSet f marks.now × Room 0 cells.old bytes.old }
-    ensures { MendedAs lanes strip.now marks.now cells.new bytes.new result }
+    fixes: &mut Fixes,
+) -> Result<Counts, usize>
+    requires { Entered lanes strip.now marks.now × NoneSet marked marks.now × (length fixes.old.cells ≡ 80) × (length fixes.old.bytes ≡ 80) }
+    ensures { MendedAs lanes strip.now marks.now fixes.new result }
 {
+    fixes.count = 0;
     let r = dealt::remainders(strip, lanes);
-    if f == 0 {
-        if all_clean(r, lanes) {
-            return Mending {
-                beyond: lanes,
-                mended: 0,
-                repainted: 0,
-                noted: 0,
-            };
-        }
+    if !marked && all_clean(&r, lanes) {
+        return Ok(Counts {
+            mended: 0,
+            repainted: 0,
+        });
     }
-    mend_each(strip, marks, f, lanes, r, cells, bytes)
+    mend_each(strip, marks, marked, lanes, &r, fixes)
 }

@@ -1,21 +1,11 @@
 -- A level that is lent: what passes every rule is one.
 use mathlib.Core.Path.{◌≡◌}
-use mathlib.Core.List.{List}
 use Prim.Native.Nat.{ℕ, ◌≤◌}
 use Rattle.rules.specs.Refusal.{First, asked}
 use Rattle.rules.proofs.Laws.{all_hold, hold_first}
-use Rattle.level.specs.Level.{Level, IsLevel, Taken, lending}
-use Rattle.level.specs.Writing.{lent, writing_upto}
+use Rattle.level.specs.Level.{Level, IsLevel, lending}
+use Rattle.level.specs.Writing.{writing_upto}
 use Rattle.level.proofs.Judged.{level_passes, level_passed}
-use Rattle.lending.specs.Lending.{InRange}
-
--- the ranges, of numbers and of the level that has them
-module _ (upto v w h par : ℕ) (tiles : List ℕ) where
-  pub ranged_is : InRange upto v w h par → Taken upto (lent v w h par tiles)
-  ranged_is r = record { ranged = record { known = r.version_taken.known; sized = r.sized; par_small = r.par_small }; not_newer = r.version_taken.not_newer }
-
-  pub ranged_has : Taken upto (lent v w h par tiles) → InRange upto v w h par
-  ranged_has t = record { version_taken = record { known = t.ranged.known; not_newer = t.not_newer }; sized = t.ranged.sized; par_small = t.ranged.par_small }
 
 module _ (upto : ℕ) (l : Level) where
   pub lent_level : (c : ℕ) → c ≡ 0 → First (asked (λ ask. ask l) (lending upto)) c → IsLevel l × (l.version ≤ upto)

@@ -18,11 +18,16 @@ use Rattle.level.proofs.RecordOf.{bit_1, bit_2, bit_3, bit_4, bit_5, record_is}
 use Rattle.level.proofs.Windows.{run, run_append, window}
 use Rattle.boards.specs.Pack.{three_of, tile_byte, PackedIn}
 use Rattle.tiles.proofs.Putting.{sets_at, sets_past, filled}
+use Rattle.fields.specs.declared.head.Head.{Head}
 use Rattle.lending.specs.Lending.{head_bytes, RecordPut}
 
 -- past the tiles are zeros
 pub codes_all : (v : ℕ) (ts : List ℕ) → AllTiles v ts → (q : ℕ) → get_or ts q 0 ≤ code_most v
 codes_all v ts f q = ⊎_elim (λ h. f q h) (λ h. omega (arith, get_d_past ts q h)) (lt_or_ge q (length ts))
+
+-- the fields of a level
+abbrev fields_of : Level → Head
+fields_of l = record { version = l.version; width = l.width; height = l.height; par = l.par }
 
 module _ (l : Level) where
   join : (p m n a b : ℕ) → run (record_bit l) p m ≡ a → run (record_bit l) (p + m) n ≡ b → run (record_bit l) p (m + n) ≡ a * 2 ^ n + b
@@ -119,7 +124,7 @@ module _ (l : Level) where
     head_2 = paired 16 2 8 0 (l.par % 256) (omega arith) (omega arith) (omega arith)
 
     abbrev head : List ℕ
-    head = head_bytes l.version l.width l.height l.par
+    head = head_bytes (fields_of l)
 
     head_is : (i : ℕ) → i < 3 → get_or head i 0 ≡ record_byte l i
     head_is zero h = sym head_0
@@ -171,7 +176,7 @@ module _ (l : Level) (il : IsLevel l) (old new : List ℕ) (n : ℕ) (e : n ≡ 
       size = length_list_of n (record_byte l)
 
   -- the fields first, then the tiles
-  module _ (room : n ≤ length old) (p : PackedIn l.tiles (sets old 0 (head_bytes l.version l.width l.height l.par)) new) where
+  module _ (room : n ≤ length old) (p : PackedIn l.tiles (sets old 0 (head_bytes (fields_of l))) new) where
     v : l.version ≤ 15
     v = omega (arith, il.ranged.known.to)
 

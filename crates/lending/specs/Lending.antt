@@ -3,6 +3,7 @@ use Rattle.std.specs.Prelude.{◌≡◌, List, [], ◌∷◌, ℕ, ◌+◌, ◌*
 use Rattle.level.specs.Sizes.{record_most}
 use Rattle.level.specs.Level.{Level, Sized}
 use Rattle.level.specs.Record.{record_length, IsRecord}
+use Rattle.fields.specs.declared.head.Head.{Head}
 use Rattle.fields.specs.Head.{VersionTaken}
 
 -- the record of a level put in front of a buffer, its length told
@@ -12,12 +13,12 @@ pub record RecordPut (l : Level) (old new : List ℕ) (n : ℕ) : Type 0 where
   pub is_record : IsRecord l (take n new)
   pub past : drop n new ≡ drop n old
 
--- the numbers are within their ranges, and the version is taken
-pub record InRange (upto v w h par : ℕ) : Type 0 where
-  pub version_taken : VersionTaken upto v
-  pub sized : Sized w h
-  pub par_small : par ≤ 1023
+-- the fields are within their ranges, and the version is taken
+pub record InRange (upto : ℕ) (f : Head) : Type 0 where
+  pub version_taken : VersionTaken upto f.version
+  pub sized : Sized f.width f.height
+  pub par_small : f.par ≤ 1023
 
 -- version, width, height and par
-abbrev pub head_bytes : ℕ → ℕ → ℕ → ℕ → List ℕ
-head_bytes v w h par = (v * 16 + w / 2) ∷ (w % 2 * 128 + h * 4 + par / 256) ∷ (par % 256) ∷ []
+abbrev pub head_bytes : Head → List ℕ
+head_bytes f = (f.version * 16 + f.width / 2) ∷ (f.width % 2 * 128 + f.height * 4 + f.par / 256) ∷ (f.par % 256) ∷ []

@@ -1,17 +1,16 @@
 -- The filter on five sums, and cells filtered out one after the other.
 use mathlib.Core.Path.{◌≡◌, refl, sym, ap, ap₂, ◌∙◌, subst}
 use mathlib.Core.List.{List, [], ◌∷◌, ◌++◌, map}
-use Prim.Native.Nat.{ℕ, zero, suc, ◌+◌, ◌<◌, ◌≤◌}
+use Prim.Native.Nat.{ℕ, suc, ◌+◌, ◌<◌}
 use native.Mathlib.Numerals.{add-one}
 use native.Mathlib.Omega.{arith}
 use native.Mathlib.Decide.{ℕ_discrete}
 use lib.Bits.{bit_xor}
 use lib.ListN.{length, get_or, take, length-append}
-use lib.Seq.{take-suc, get_or-take, length-take-le}
+use lib.Seq.{take-suc}
 use Rattle.account.specs.Field.{power}
-use Rattle.account.specs.Errata.{Outside, filt}
+use Rattle.account.specs.Errata.{filt}
 use Rattle.account.specs.Search.{Zeros}
-use Rattle.account.proofs.Cells.{outside_append}
 use Rattle.account.proofs.Filter as filter
 use Rattle.account.proofs.Locate as locate
 use Rattle.gf256.specs.Gf256.{gf256, times}
@@ -19,17 +18,6 @@ use Rattle.gf256.specs.Tables.{place_of}
 use Rattle.gf256.proofs.Field256.{field256}
 use Rattle.values.specs.Values.{at}
 use Rattle.locate.specs.Places.{Filtered, Ratio, Climbs, Bytes5, Drained}
-
-pub filtered : (x a b c d : ℕ) (s : List ℕ) → a ≡ bit_xor (at s 1) (times x (at s 0)) → b ≡ bit_xor (at s 2) (times x (at s 1))
-    → c ≡ bit_xor (at s 3) (times x (at s 2)) → d ≡ bit_xor (at s 4) (times x (at s 3)) → Filtered x s (a ∷ b ∷ c ∷ d ∷ 0 ∷ [])
-filtered x a b c d s ea eb ec ed = record { sum = go }
-  where
-    go : (m : ℕ) → m < 4 → at (a ∷ b ∷ c ∷ d ∷ 0 ∷ []) m ≡ bit_xor (at s (suc m)) (times x (at s m))
-    go zero l = ea
-    go (suc zero) l = eb
-    go (suc (suc zero)) l = ec
-    go (suc (suc (suc zero))) l = ed
-    go (suc (suc (suc (suc m)))) l = absurd (omega arith)
 
 pub filter_one : (x : ℕ) (s r : List ℕ) → Filtered x s r → (m : ℕ) → m < 4 → at r m ≡ filt gf256 (x ∷ []) (at s) m
 filter_one x s r f m l = f.sum m l
@@ -72,21 +60,6 @@ module _ (s : List ℕ) (i m : ℕ) (b : Bytes5 s) (some : 0 < at s m) (l : m < 
 
 pub drain_starts : (n : ℕ) (cells s : List ℕ) → Drained n (take 0 cells) s s
 drain_starts n cells s = record { sum = λ m l. refl }
-
--- p is none of the first i cells, and not the next
-pub free_more : (cells : List ℕ) (i p : ℕ) → i < length cells → Outside (take i cells) p → (get_or cells i 0 ≡ p → ⊥) → Outside (take (i + 1) cells) p
-free_more cells i p l o ne =
-    subst (λ (ps : List ℕ). Outside ps p) (sym (ap (λ (k : ℕ). take k cells) (add-one i) ∙ take-suc cells i 0 l))
-    (outside_append (take i cells) (get_or cells i 0 ∷ []) p o ((λ e. ne (sym e)), tt))
-
-outside_at : (ps : List ℕ) (i p : ℕ) → i < length ps → Outside ps p → get_or ps i 0 ≡ p → ⊥
-outside_at [] i p l o e = absurd (omega arith)
-outside_at (q ∷ ps) zero p l o e = o.0 (sym e)
-outside_at (q ∷ ps) (suc i) p l o e = outside_at ps i p (omega arith) o.1 e
-
--- p is one of the first f cells
-pub not_free : (cells : List ℕ) (f i p : ℕ) → f ≤ length cells → i < f → get_or cells i 0 ≡ p → Outside (take f cells) p → ⊥
-not_free cells f i p h l e o = outside_at (take f cells) i p (omega (arith, length-take-le f cells h)) o (get_or-take f cells i 0 l ∙ e)
 
 pub drain_goes : (n : ℕ) (cells s r u : List ℕ) (i x : ℕ) → i < length cells → Drained n (take i cells) s r → x ≡ place_of n (get_or cells i 0)
     → Filtered x r u → Drained n (take (i + 1) cells) s u

@@ -1,9 +1,9 @@
 -- What locating wrong cells promises, and what its parts promise each other.
-use Rattle.std.specs.Prelude.{◌≡◌, List, ◌∷◌, [], map, ℕ, suc, ◌+◌, ◌-◌, ◌<◌, length}
+use Rattle.std.specs.Prelude.{◌≡◌, ◌≢◌, Option, Some, None, List, ◌∷◌, [], map, ℕ, suc, ◌+◌, ◌-◌, ◌<◌, length}
 use Rattle.std.specs.Int.Bits.{bit_xor}
 use Rattle.account.specs.Field.{power}
-use Rattle.account.specs.Errata.{filt}
-use Rattle.account.specs.Search.{Zeros, Fits, CellOf, Found1, Found2, Joined, Splits, Quadratic}
+use Rattle.account.specs.Errata.{Outside, filt}
+use Rattle.account.specs.Search.{Zeros, Fits, Splits, Quadratic}
 use Rattle.gf256.specs.Gf256.{gf256, times}
 use Rattle.gf256.specs.Tables.{place_of}
 use Rattle.values.specs.Values.{at}
@@ -24,27 +24,47 @@ pub record Drained (n : ℕ) (ps s r : List ℕ) : Type 0 where
 
 -- ---- wrong cells, of a word of n of which the cells ps are marked
 
-abbrev pub CellAt : ℕ → ℕ → List ℕ → ℕ → Type 0
-CellAt = CellOf gf256
+-- p is an unmarked cell whose place is x
+pub record IsCell (x n : ℕ) (ps : List ℕ) (p : ℕ) : Type 0 where
+  pub below : p < n
+  pub place : place_of n p ≡ x
+  pub unmarked : Outside ps p
+
+-- such a cell, or that there is none
+abbrev pub CellAt : ℕ → ℕ → List ℕ → Option ℕ → Type 0
+CellAt x n ps (Some p) = IsCell x n ps p
+CellAt x n ps None = (p : ℕ) → IsCell x n ps p → ⊥
 
 abbrev pub NoneAlone : List ℕ → ℕ → ℕ → List ℕ → Type 0
 NoneAlone t k n ps = (p : ℕ) → p < n → Fits gf256 n ps (at t) k (p ∷ []) → ⊥
 
-abbrev pub One : List ℕ → ℕ → ℕ → List ℕ → ℕ → Type 0
-One t = Found1 gf256 (at t)
+-- a cell that fits alone, or that none does
+abbrev pub One : List ℕ → ℕ → ℕ → List ℕ → Option ℕ → Type 0
+One t k n ps (Some p) = (p < n) × Fits gf256 n ps (at t) k (p ∷ [])
+One t k n ps None = NoneAlone t k n ps
 
-abbrev pub Two : List ℕ → ℕ → ℕ → List ℕ → Pair → Type 0
-Two t k n ps r = Found2 gf256 (at t) k n ps r.p r.q
+-- p and q are two cells that fit together
+pub record Couple (t : List ℕ) (k n : ℕ) (ps : List ℕ) (p q : ℕ) : Type 0 where
+  pub below_p : p < n
+  pub below_q : q < n
+  pub apart : p ≢ q
+  pub fits : Fits gf256 n ps (at t) k (p ∷ q ∷ [])
 
-abbrev pub Both : ℕ → ℕ → List ℕ → ℕ → ℕ → List ℕ → Pair → Type 0
-Both x y t k n ps r = Joined gf256 x y (at t) k n ps r.p r.q
+abbrev pub NoCouple : List ℕ → ℕ → ℕ → List ℕ → Type 0
+NoCouple t k n ps = (p q : ℕ) → p < n → q < p → Fits gf256 n ps (at t) k (p ∷ q ∷ []) → ⊥
+
+-- two cells that fit together, or that no two do
+abbrev pub Two : List ℕ → ℕ → ℕ → List ℕ → Option Pair → Type 0
+Two t k n ps (Some r) = Couple t k n ps r.p r.q
+Two t k n ps None = NoCouple t k n ps
+
+-- the unmarked cells of the places x and y, where those leave the first k sums nothing; or that there are none
+abbrev pub Both : ℕ → ℕ → List ℕ → ℕ → ℕ → List ℕ → Option Pair → Type 0
+Both x y t k n ps (Some r) = IsCell x n ps r.p × IsCell y n ps r.q × Zeros k (filt gf256 (x ∷ y ∷ []) (at t))
+Both x y t k n ps None = (p q : ℕ) → IsCell x n ps p → IsCell y n ps q → Zeros k (filt gf256 (x ∷ y ∷ []) (at t)) → ⊥
 
 abbrev pub Split : ℕ → ℕ → ℕ → Type 0
 Split = Splits gf256
-
--- the sums that are left beside f marked cells are bytes
-abbrev pub Left : List ℕ → ℕ → Type 0
-Left t f = (m : ℕ) → m + f < 5 → at t m < 256
 
 abbrev pub Places : List ℕ → ℕ → ℕ → Type 0
 Places t = Quadratic gf256 (at t)

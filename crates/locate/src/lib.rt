@@ -1,28 +1,26 @@
 // Wrong cells of a word, located by what is left of its syndrome when the marked cells are filtered out: one, by a ratio of sums; two, by a
-// quadratic. The table is lent.
+// quadratic.
 #![tactic(auto)]
 
-ghost use Rattle.std.specs.Prelude.{◌≡◌, [], ◌∷◌, suc, ◌<◌, ◌≤◌, take};
+ghost use Rattle.std.specs.Prelude.{◌≡◌, [], ◌∷◌, suc, ◌<◌, ◌≤◌};
 ghost use Rattle.std.specs.Int.Bits.{bit_xor};
-ghost use Rattle.account.specs.Errata.{Outside, filt};
+ghost use Rattle.account.specs.Errata.{Below, filt};
 ghost use Rattle.account.specs.Search.{Zeros};
 ghost use Rattle.gf256.specs.Gf256.{gf256};
-ghost use Rattle.gf256.specs.Tables.{Tables};
 ghost use Rattle.rules.specs.Says.{Says};
-ghost use Rattle.values.specs.Values.{at, Listed};
-ghost use Rattle.locate.specs.Places.{Filtered, Drained, CellAt, One, Two, Both, Split, Left, Places, Ratio, Climbs, NoneAlone, NotNone, Bytes5};
+ghost use Rattle.values.specs.Values.{at};
+ghost use Rattle.locate.specs.Places.{Filtered, Drained, CellAt, One, Two, Both, Split, Places, Ratio, Climbs, NoneAlone, NotNone};
 
 // ---- the filter
 
 // The sums s, with the place x filtered out.
-fn filter(tables: &[u8; 1022], x: u8, s: [u8; 5]) -> [u8; 5]
-    requires { Tables tables.now }
+fn filter(x: u8, s: [u8; 5]) -> [u8; 5]
     ensures { Filtered x s result }
 {
-    let a = s[1] ^ gf256::product(tables, x, s[0]);
-    let b = s[2] ^ gf256::product(tables, x, s[1]);
-    let c = s[3] ^ gf256::product(tables, x, s[2]);
-    let d = s[4] ^ gf256::product(tables, x, s[3]);
+    let a = s[1] ^ gf256::product(x, s[0]);
+    let b = s[2] ^ gf256::product(x, s[1]);
+    let c = s[3] ^ gf256::product(x, s[2]);
+    let d = s[4] ^ gf256::product(x, s[3]);
     [a, b, c, d, 0]
 }
 
@@ -31,144 +29,98 @@ pub fn zeros(s: [u8; 5], k: usize) -> bool
     requires { k ≤ 5 }
     ensures { Says result (Zeros k (at s)) }
 {
-    let mut i = 0;
-    while i < k {
-        if s[i] != 0 {
-            return false;
-        }
-        i += 1;
-    }
-    true
+    s[..k].iter().all(|sum| *sum == 0)
 }
 
-// The sums s, with the first k cells of a word of n filtered out.
-pub fn drain(tables: &[u8; 1022], s: [u8; 5], cells: [usize; 5], k: usize, n: usize) -> [u8; 5]
-    requires { Tables tables.now × Listed n cells k }
-    ensures { Drained n (take k cells) s result }
+// The sums s, with the cells ps of a word of n filtered out.
+pub fn drain(s: [u8; 5], ps: &[usize], n: usize) -> [u8; 5]
+    requires { Below ps.now n × (n ≤ 255) }
+    ensures { Drained n ps.now s result }
 {
     let mut t = s;
-    let mut i = 0;
-    while i < k {
-        let x = gf256::place(tables, n, cells[i]);
-        let u = filter(tables, x, t);
+    for p in ps {
+        // in a variable of its own, since the check knows no call whose result is laid over the array that it was passed
+        let u = filter(gf256::place(n, *p), t);
         t = u;
-        i += 1;
     }
     t
 }
 
-// ---- wrong cells
+// ---- wrong cells, none of which is one of the marked cells ps
 
-// Whether p is none of the first f cells.
-fn free(cells: [usize; 5], f: usize, p: usize) -> bool
-    requires { f ≤ 5 }
-    ensures { Says result (Outside (take f cells) p) }
-{
-    let mut i = 0;
-    while i < f {
-        if cells[i] == p {
-            return false;
-        }
-        i += 1;
-    }
-    true
-}
-
-// The unmarked cell whose place is x, or n.
-fn cell(tables: &[u8; 1022], x: u8, n: usize, erased: [usize; 5], f: usize) -> usize
-    requires { Tables tables.now × (n ≤ 255) × (f ≤ 5) }
-    ensures { CellAt x n (take f erased) result }
+// The unmarked cell whose place is x.
+fn cell(x: u8, n: usize, ps: &[usize]) -> Option<usize>
+    requires { n ≤ 255 }
+    ensures { CellAt x n ps.now result }
 {
     if x == 0 {
-        return n;
+        return None;
     }
-    let i = gf256::log(tables, x);
+    let i = gf256::log(x);
     if n <= i {
-        return n;
+        return None;
     }
     let p = n - (i + 1);
-    if free(erased, f, p) {
-        return p;
-    }
-    n
+    if ps.contains(&p) { None } else { Some(p) }
 }
 
-// The one cell that fits, by the ratio of two sums; or n.
-pub fn one(
-    tables: &[u8; 1022],
-    t: [u8; 5],
-    k: usize,
-    n: usize,
-    erased: [usize; 5],
-    f: usize,
-) -> usize
-    requires { Tables tables.now × (n ≤ 255) × (f ≤ 5) × (1 ≤ k) × (k ≤ 4) × (Zeros (suc k) (at t) → ⊥) }
-    ensures { One t k n (take f erased) result }
+// The one cell that fits, by the ratio of two sums.
+pub fn one(t: [u8; 5], k: usize, n: usize, ps: &[usize]) -> Option<usize>
+    requires { (n ≤ 255) × (1 ≤ k) × (k ≤ 4) × (Zeros (suc k) (at t) → ⊥) }
+    ensures { One t k n ps.now result }
 {
     if t[0] == 0 {
-        return n;
+        return None;
     }
-    let x = gf256::quotient(tables, t[1], t[0]);
-    let p = cell(tables, x, n, erased, f);
-    if n <= p {
-        return n;
+    let x = gf256::quotient(t[1], t[0]);
+    let p = cell(x, n, ps)?;
+    if zeros(filter(x, t), k) {
+        Some(p)
+    } else {
+        None
     }
-    if zeros(filter(tables, x, t), k) {
-        return p;
-    }
-    n
 }
 
 // The power of α by which x becomes y.
-fn ratio(tables: &[u8; 1022], x: u8, y: u8) -> usize
-    requires { Tables tables.now × (0 < x) × (0 < y) }
+fn ratio(x: u8, y: u8) -> usize
+    requires { (0 < x) × (0 < y) }
     ensures { Ratio x y result }
 {
-    let a = gf256::log(tables, y);
-    let b = gf256::log(tables, x);
-    if a < b {
-        return a + 255 - b;
-    }
-    a - b
+    let a = gf256::log(y);
+    let b = gf256::log(x);
+    if a < b { a + 255 - b } else { a - b }
 }
 
 // Whether each sum is the one before times the power i of α.
-fn climbs(tables: &[u8; 1022], s: [u8; 5], i: usize) -> bool
-    requires { Tables tables.now × Bytes5 s × (0 < at s 0) × (i < 255) }
+fn climbs(s: [u8; 5], i: usize) -> bool
+    requires { (0 < at s 0) × (i < 255) }
     ensures { Says result (Climbs s i) }
 {
-    let mut m = 0;
-    while m < 4 {
-        if s[m + 1] == 0 {
+    for m in 0..4 {
+        if s[m + 1] == 0 || ratio(s[m], s[m + 1]) != i {
             return false;
         }
-        if ratio(tables, s[m], s[m + 1]) != i {
-            return false;
-        }
-        m += 1;
     }
     true
 }
 
-// The one wrong cell of a word with no marks, by the logarithms of its sums, so that nothing is multiplied; or n.
-pub fn alone(tables: &[u8; 1022], s: [u8; 5], n: usize) -> usize
-    requires { Tables tables.now × (n ≤ 255) × Bytes5 s × NotNone s 0 }
+// The one wrong cell of a word with no marks, by the logarithms of its sums, so that nothing is multiplied.
+pub fn alone(s: [u8; 5], n: usize) -> Option<usize>
+    requires { (n ≤ 255) × NotNone s 0 }
     ensures { One s 4 n [] result }
 {
-    if s[0] == 0 {
-        return n;
+    if s[0] == 0 || s[1] == 0 {
+        return None;
     }
-    if s[1] == 0 {
-        return n;
-    }
-    let e = ratio(tables, s[0], s[1]);
+    let e = ratio(s[0], s[1]);
     if n <= e {
-        return n;
+        return None;
     }
-    if climbs(tables, s, e) {
-        return n - (e + 1);
+    if climbs(s, e) {
+        Some(n - (e + 1))
+    } else {
+        None
     }
-    n
 }
 
 #[derive(Clone, Copy)]
@@ -178,90 +130,51 @@ pub struct Pair {
 }
 
 // One of the two places whose sum is u and whose product is v: u z, where z z + z = v / (u u).
-fn split(tables: &[u8; 1022], u: u8, v: u8) -> u8
-    requires { Tables tables.now × (0 < u) }
+fn split(u: u8, v: u8) -> u8
+    requires { 0 < u }
     ensures { Split u v result }
 {
-    let c = gf256::quotient(tables, gf256::quotient(tables, v, u), u);
-    gf256::product(tables, u, gf256::half(tables, c))
+    let c = gf256::quotient(gf256::quotient(v, u), u);
+    gf256::product(u, gf256::half(c))
 }
 
 // Whether the places x and y, whose sum is u, leave the first k sums nothing. Two of these follow from how u and v were made.
-fn joins(tables: &[u8; 1022], t: [u8; 5], k: usize, x: u8, y: u8, u: u8, v: u8) -> bool
-    requires { Tables tables.now × (2 ≤ k) × (k ≤ 3) × Left t 1 × (bit_xor x y ≡ u) × Places t u v }
+fn joins(t: [u8; 5], k: usize, x: u8, y: u8, u: u8, v: u8) -> bool
+    requires { (2 ≤ k) × (k ≤ 3) × (bit_xor x y ≡ u) × Places t u v }
     ensures { Says result (Zeros k (filt gf256 (x ∷ y ∷ []) (at t))) }
 {
-    if gf256::product(tables, x, y) != v {
-        return false;
-    }
-    if k < 3 {
-        return true;
-    }
-    if t[4] != gf256::product(tables, u, t[3]) ^ gf256::product(tables, v, t[2]) {
-        return false;
-    }
-    true
+    gf256::product(x, y) == v
+        && (k < 3 || t[4] == gf256::product(u, t[3]) ^ gf256::product(v, t[2]))
 }
 
-// The cells of the places x and x + u, if they fit; or n.
-fn both(
-    tables: &[u8; 1022],
-    t: [u8; 5],
-    k: usize,
-    n: usize,
-    erased: [usize; 5],
-    f: usize,
-    x: u8,
-    u: u8,
-    v: u8,
-) -> Pair
-    requires { Tables tables.now × (n ≤ 255) × (f ≤ 5) × (2 ≤ k) × (k ≤ 3) × Left t 1 × Places t u v }
-    ensures { Both x (bit_xor x u) t k n (take f erased) result }
+// The cells of the places x and x + u, if they fit.
+fn both(t: [u8; 5], k: usize, n: usize, ps: &[usize], x: u8, u: u8, v: u8) -> Option<Pair>
+    requires { (n ≤ 255) × (2 ≤ k) × (k ≤ 3) × Places t u v }
+    ensures { Both x (bit_xor x u) t k n ps.now result }
 {
     let y = x ^ u;
-    let p = cell(tables, x, n, erased, f);
-    if n <= p {
-        return Pair { p: n, q: n };
+    let p = cell(x, n, ps)?;
+    let q = cell(y, n, ps)?;
+    if joins(t, k, x, y, u, v) {
+        Some(Pair { p, q })
+    } else {
+        None
     }
-    let q = cell(tables, y, n, erased, f);
-    if n <= q {
-        return Pair { p: n, q: n };
-    }
-    if joins(tables, t, k, x, y, u, v) {
-        return Pair { p, q };
-    }
-    Pair { p: n, q: n }
 }
 
-// The two cells that fit, by a quadratic; or n. No cell fits alone.
-pub fn two(
-    tables: &[u8; 1022],
-    t: [u8; 5],
-    k: usize,
-    n: usize,
-    erased: [usize; 5],
-    f: usize,
-) -> Pair
-    requires { Tables tables.now × (n ≤ 255) × (f ≤ 5) × (2 ≤ k) × (k ≤ 3) × Left t 1 × NoneAlone t (suc k) n (take f erased) }
-    ensures { Two t k n (take f erased) result }
+// The two cells that fit, by a quadratic. No cell fits alone.
+pub fn two(t: [u8; 5], k: usize, n: usize, ps: &[usize]) -> Option<Pair>
+    requires { (n ≤ 255) × (2 ≤ k) × (k ≤ 3) × NoneAlone t (suc k) n ps.now }
+    ensures { Two t k n ps.now result }
 {
-    let det = gf256::product(tables, t[1], t[1]) ^ gf256::product(tables, t[0], t[2]);
+    let det = gf256::product(t[1], t[1]) ^ gf256::product(t[0], t[2]);
     if det == 0 {
-        return Pair { p: n, q: n };
+        return None;
     }
-    let u = gf256::quotient(
-        tables,
-        gf256::product(tables, t[1], t[2]) ^ gf256::product(tables, t[0], t[3]),
-        det,
-    );
+    let u = gf256::quotient(gf256::product(t[1], t[2]) ^ gf256::product(t[0], t[3]), det);
     if u == 0 {
-        return Pair { p: n, q: n };
+        return None;
     }
-    let v = gf256::quotient(
-        tables,
-        gf256::product(tables, t[2], t[2]) ^ gf256::product(tables, t[1], t[3]),
-        det,
-    );
-    let x = split(tables, u, v);
-    both(tables, t, k, n, erased, f, x, u, v)
+    let v = gf256::quotient(gf256::product(t[2], t[2]) ^ gf256::product(t[1], t[3]), det);
+    both(t, k, n, ps, split(u, v), u, v)
 }

@@ -16,7 +16,7 @@ use Rattle.account.specs.Search.{add_if, places, erasures}
 use Rattle.account.proofs.Cells.{count_places}
 use Rattle.account.proofs.Lanes.{length_lane, get_d_lane, cell_below}
 use Rattle.values.specs.Values.{Gathered}
-use Rattle.marks.specs.Marks.{Pushed, ListedIn}
+use Rattle.marks.specs.Marks.{Pushed, AllOf}
 
 -- the first k are listed, those below i are still to come
 pub record Listing (marks p : List ℕ) (k i : ℕ) : Type 0 where
@@ -63,21 +63,18 @@ module _ (marks p q : List ℕ) (k r i : ℕ) (L : Listing marks p k (suc i)) (u
           low = omega (arith, u.some ne)
 
   -- a sixth
-  list_full : 5 < r → (r ≤ 6) × (5 < count_to (is_marked marks) (length marks))
+  list_full : 5 < r → 5 < count_to (is_marked marks) (length marks)
   list_full h = go (ℕ_discrete (get_or marks i 0) 0)
     where
-      go : Dec (get_or marks i 0 ≡ 0) → (r ≤ 6) × (5 < count_to (is_marked marks) (length marks))
+      go : Dec (get_or marks i 0 ≡ 0) → 5 < count_to (is_marked marks) (length marks)
       go (yes z) = absurd (omega (arith, u.none z, L.few))
-      go (no ne) = (
-        omega (arith, u.some ne, L.few),
-        omega (
-          arith,
-          u.some ne,
-          count_places (is_marked marks) (length marks),
-          ap length (marked_list ne),
-          length-append (take k p) (i ∷ places (is_marked marks) i),
-          length-take-le k p (omega (arith, L.room, L.few)),
-        ),
+      go (no ne) = omega (
+        arith,
+        u.some ne,
+        count_places (is_marked marks) (length marks),
+        ap length (marked_list ne),
+        length-append (take k p) (i ∷ places (is_marked marks) i),
+        length-take-le k p (omega (arith, L.room, L.few)),
       )
 
 -- the same for lane l of R, with the cell read from the strip
@@ -104,13 +101,8 @@ module _ (R l : ℕ) (inside : l < R) (marks p : List ℕ) (k i : ℕ) (hi : 0 <
     pub lane_goes : r ≤ 5 → Listing (lane R l marks) q r (i - 1)
     lane_goes = list_goes (lane R l marks) p q k r (i - 1) this pushed
 
-    pub lane_many : (cells : List ℕ) → 5 < r → ListedIn R l marks (record { count = r; cells = cells })
-    lane_many cells h = record {
-      most = (list_full (lane R l marks) p q k r (i - 1) this pushed h).0;
-      list = λ g. absurd (omega arith);
-      count = λ g. absurd (omega arith);
-      many = λ g. (list_full (lane R l marks) p q k r (i - 1) this pushed h).1;
-    }
+    pub lane_many : 5 < r → 5 < count_to (is_marked (lane R l marks)) (length (lane R l marks))
+    lane_many h = list_full (lane R l marks) p q k r (i - 1) this pushed h
 
 -- the first five of six
 abbrev five : List ℕ → List ℕ
@@ -131,18 +123,15 @@ five_front (a ∷ b ∷ c ∷ d ∷ e ∷ r) n (suc (suc (suc (suc (suc zero))))
 five_front (a ∷ b ∷ c ∷ d ∷ e ∷ r) n (suc (suc (suc (suc (suc (suc k)))))) h = absurd (omega arith)
 
 -- all are listed
-pub list_ends : (R l : ℕ) (marks p : List ℕ) (k i : ℕ) → i ≡ 0 → Listing (lane R l marks) p k i → ListedIn R l marks (record { count = k; cells = five p })
-list_ends R l marks p k i z L = record {
-  most = omega (arith, L.few);
-  list = λ h. record { room = refl; list = five_front p L.room k L.few ∙ all };
-  count = λ h.
-      sym (length-take-le k p (omega (arith, L.room, L.few))) ∙ ap length all ∙ count_places (is_marked (lane R l marks)) (length (lane R l marks));
-  many = λ h. absurd (omega (arith, L.few));
+pub list_ends : (marks p : List ℕ) (k i : ℕ) → i ≡ 0 → Listing marks p k i → AllOf marks (record { count = k; cells = five p })
+list_ends marks p k i z L = record {
+  few = L.few;
+  list = record { room = refl; list = five_front p L.room k L.few ∙ all };
+  count = sym (length-take-le k p (omega (arith, L.room, L.few))) ∙ ap length all ∙ count_places (is_marked marks) (length marks);
 }
   where
-    all : take k p ≡ erasures (lane R l marks)
-    all =
-        sym (append-nil (take k p)) ∙ ap (λ (j : ℕ). take k p ++ places (is_marked (lane R l marks)) j) (sym z) ∙ L.list
+    all : take k p ≡ erasures marks
+    all = sym (append-nil (take k p)) ∙ ap (λ (j : ℕ). take k p ++ places (is_marked marks) j) (sym z) ∙ L.list
 
 -- where none is marked, nothing is to be listed
 pub none_listed : (marks p : List ℕ) (f : ℕ) → f ≡ count_to (is_marked marks) (length marks) → f ≡ 0 → length p ≡ 5 → Gathered marks p f
@@ -150,46 +139,3 @@ none_listed marks p f e z h = record {
   room = h;
   list = ap (λ (k : ℕ). take k p) z ∙ sym (drop_of_length-le (erasures marks) {i = zero} (omega (arith, count_places (is_marked marks) (length marks), e, z)));
 }
-
--- ---- all f of a word
-
-module _ (marks p : List ℕ) (k i f : ℕ) (L : Listing marks p k i) (is : f ≡ count_to (is_marked marks) (length marks)) where
-  counted : k + length (places (is_marked marks) i) ≡ f
-  counted =
-      omega (
-        arith,
-        is,
-        count_places (is_marked marks) (length marks),
-        ap length L.list,
-        length-append (take k p) (places (is_marked marks) i),
-        length-take-le k p (omega (arith, L.room, L.few)),
-      )
-
-  pub some_left : k < f → 0 < i
-  some_left h = go i counted
-    where
-      go : (j : ℕ) → k + length (places (is_marked marks) j) ≡ f → 0 < j
-      go zero e = absurd (omega arith)
-      go (suc j) e = omega arith
-
-  pub all_gathered : k ≡ f → Gathered marks (five p) f
-  all_gathered e = record { room = refl; list = ap (λ (j : ℕ). take j (five p)) (sym e) ∙ five_front p L.room k L.few ∙ all }
-    where
-      all : take k p ≡ erasures marks
-      all =
-          sym (append-nil (take k p)) ∙ ap (λ (l : List ℕ). take k p ++ l) (sym (drop_of_length-le (places (is_marked marks) i) {i = zero} (omega (arith, counted, e)))) ∙ L.list
-
-  -- one cell more
-  module _ (q : List ℕ) (r : ℕ) (h : 0 < i) (u : Pushed (get_or marks (i - 1) 0) (i - 1) p k q r) where
-    pub one_more : r ≤ k + 1
-    one_more = go (ℕ_discrete (get_or marks (i - 1) 0) 0)
-      where
-        go : Dec (get_or marks (i - 1) 0 ≡ 0) → r ≤ k + 1
-        go (yes z) = omega (arith, u.none z)
-        go (no n) = omega (arith, u.some n)
-
-    pub word_goes : r ≤ 5 → Listing marks q r (i - 1)
-    word_goes = list_goes marks p q k r (i - 1) (subst (Listing marks p k) back L) u
-      where
-        back : i ≡ suc (i - 1)
-        back = omega arith

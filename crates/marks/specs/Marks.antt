@@ -1,24 +1,26 @@
 -- FORMAT 3.1, 3.2: marks tallied and listed, and errata counted beside them, for the crates above.
-use Rattle.std.specs.Prelude.{◌≡◌, ◌≢◌, Bool, not, List, [], ◌∷◌, ℕ, ◌+◌, ◌≤◌, ◌<◌, eqb, length, set}
+use Rattle.std.specs.Prelude.{◌≡◌, ◌≢◌, Bool, not, List, [], ◌∷◌, Option, Some, None, ℕ, ◌+◌, ◌≤◌, ◌<◌, eqb, length, set}
 use Rattle.account.specs.Lanes.{lane}
 use Rattle.account.specs.Reach.{count_to, is_marked, is_read, one_if, and, GoodMarks}
 use Rattle.values.specs.Values.{Gathered}
-use Rattle.marks.specs.declared.Marked.{Marked}
 use Rattle.marks.specs.declared.Listed.{Listed}
 use Rattle.marks.specs.declared.Counts.{Counts}
 
--- or-ed together the marks are at most 1 just where each is, and then their sum counts the marked cells
-pub record Tallied (marks : List ℕ) (t : Marked) : Type 0 where
-  pub good : t.any ≤ 1 → GoodMarks marks
-  pub bad : (t.any ≤ 1 → ⊥) → GoodMarks marks → ⊥
-  pub count : t.any ≤ 1 → t.sum ≡ count_to (is_marked marks) (length marks)
+-- how many marks are set, where each is at most 1; nothing where one is above
+abbrev pub Tallied : List ℕ → Option ℕ → Type 0
+Tallied marks (Some f) = GoodMarks marks × (f ≡ count_to (is_marked marks) (length marks))
+Tallied marks None = GoodMarks marks → ⊥
 
--- the marked cells of lane l of R: at most five are listed, the last first, and of more it is told that there are more
-pub record ListedIn (R l : ℕ) (marks : List ℕ) (r : Listed) : Type 0 where
-  pub most : r.count ≤ 6
-  pub list : r.count ≤ 5 → Gathered (lane R l marks) r.cells r.count
-  pub count : r.count ≤ 5 → r.count ≡ count_to (is_marked (lane R l marks)) (length (lane R l marks))
-  pub many : 5 < r.count → 5 < count_to (is_marked (lane R l marks)) (length (lane R l marks))
+-- at most five marked cells, all there are, the last first
+pub record AllOf (marks : List ℕ) (r : Listed) : Type 0 where
+  pub few : r.count ≤ 5
+  pub list : Gathered marks r.cells r.count
+  pub count : r.count ≡ count_to (is_marked marks) (length marks)
+
+-- the marked cells of lane l of R; nothing where there are more than five
+abbrev pub ListedIn : ℕ → ℕ → List ℕ → Option Listed → Type 0
+ListedIn R l marks (Some r) = AllOf (lane R l marks) r
+ListedIn R l marks None = 5 < count_to (is_marked (lane R l marks)) (length (lane R l marks))
 
 -- ---- parts
 

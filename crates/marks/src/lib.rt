@@ -2,28 +2,17 @@
 // change, counted by their marks.
 #![tactic(auto)]
 
-ghost use Rattle.std.specs.Prelude.{◌≡◌, ◌≢◌, ◌/◌, ◌≤◌, ◌<◌, length};
-ghost use Rattle.account.specs.Reach.{count_to, is_marked};
-ghost use Rattle.account.specs.Lanes.{lane};
-ghost use Rattle.values.specs.Values.{Gathered, cells_of, values_of, ErrataFor};
+ghost use Rattle.std.specs.Prelude.{◌≤◌, ◌<◌, length};
+ghost use Rattle.values.specs.Values.{cells_of, values_of, ErrataFor};
 ghost use Rattle.marks.specs.Marks.{Tallied, AnyOf, SumOf, Pushed, ListedIn, CountsOne, CountsAll};
-
-// All marks or-ed together, and their sum.
-#[derive(Clone, Copy)]
-pub struct Marked {
-    pub any: u8,
-    pub sum: usize,
-}
 
 // All marks or-ed together. One pass with no branch and nothing else in it, so that it runs wide.
 pub fn any(marks: &[u8]) -> u8
     ensures { AnyOf marks.now result }
 {
     let mut x: u8 = 0;
-    let mut i = 0;
-    while i < marks.len() {
-        x = x | marks[i];
-        i += 1;
+    for mark in marks {
+        x |= *mark;
     }
     x
 }
@@ -34,44 +23,35 @@ fn sum(marks: &[u8]) -> usize
     ensures { SumOf marks.now result }
 {
     let mut x: usize = 0;
-    let mut i = 0;
-    while i < marks.len() {
-        x += marks[i] as usize;
-        i += 1;
+    for mark in marks {
+        x += usize::from(*mark);
     }
     x
 }
 
-// Both; where no mark is set there is nothing to sum.
-pub fn tally(marks: &[u8]) -> Marked
+// How many marks are set, or nothing where one is above 1. Where none is set there is nothing to sum.
+pub fn tally(marks: &[u8]) -> Option<usize>
     requires { length marks.now ≤ 4096 }
     ensures { Tallied marks.now result }
 {
     let any = any(marks);
+    if 1 < any {
+        return None;
+    }
     if any == 0 {
-        return Marked { any: 0, sum: 0 };
+        return Some(0);
     }
-    Marked {
-        any,
-        sum: sum(marks),
-    }
+    Some(sum(marks))
 }
 
-// The marked cells of a lane, the last first; where there are more than five, the count is six and the cells are of no account.
+// How many marked cells are within reach.
+const MOST: usize = 5;
+
+// The marked cells of a lane, the last first: the first `count` of five. An array of five, since there is no heap.
 #[derive(Clone, Copy)]
 pub struct Listed {
     pub count: usize,
     pub cells: [usize; 5],
-}
-
-// 1 where a mark is set.
-fn one(mark: u8) -> usize
-    ensures { (result ≤ 1) × (mark ≡ 0 → result ≡ 0) × (mark ≢ 0 → result ≡ 1) }
-{
-    if mark == 0 {
-        return 0;
-    }
-    1
 }
 
 // Cell i after the first k, where it stays if it is marked. It is put there in any case: nothing foretells where marks are, and a store costs less
@@ -81,46 +61,26 @@ fn push(cells: &mut [usize; 6], k: usize, mark: u8, i: usize) -> usize
     ensures { Pushed mark i cells.old k cells.new result }
 {
     cells[k] = i;
-    k + one(mark)
+    k + usize::from(mark != 0)
 }
 
-// The marked cells of lane l, from the last down to the sixth.
-pub fn list(marks: &[u8], lanes: usize, l: usize) -> Listed
+// The marked cells of lane l, or nothing where there are more than five. A word is the one lane of one.
+pub fn list(marks: &[u8], lanes: usize, l: usize) -> Option<Listed>
     requires { (l < lanes) × (lanes ≤ 16) × (length marks.now ≤ 4096) }
     ensures { ListedIn lanes l marks.now result }
 {
     let mut cells = [0usize; 6];
     let mut k: usize = 0;
-    let mut i = marks.len() / lanes;
-    while 0 < i {
-        i -= 1;
+    for i in (0..marks.len() / lanes).rev() {
         k = push(&mut cells, k, marks[lanes * i + l], i);
-        if 5 < k {
-            return Listed {
-                count: k,
-                cells: [0; 5],
-            };
+        if MOST < k {
+            return None;
         }
     }
-    Listed {
+    Some(Listed {
         count: k,
         cells: [cells[0], cells[1], cells[2], cells[3], cells[4]],
-    }
-}
-
-// The f marked cells of a word, the last first.
-pub fn all(marks: &[u8], f: usize) -> [usize; 5]
-    requires { (f ≡ count_to (is_marked marks.now) (length marks.now)) × (f ≤ 5) }
-    ensures { Gathered marks.now result f }
-{
-    let mut cells = [0usize; 6];
-    let mut k: usize = 0;
-    let mut i = marks.len();
-    while k < f {
-        i -= 1;
-        k = push(&mut cells, k, marks[i], i);
-    }
-    [cells[0], cells[1], cells[2], cells[3], cells[4]]
+    })
 }
 
 // How many cells errata change: of those that were read, which are mended, and of the marked ones, which are repainted.
@@ -135,20 +95,18 @@ pub fn count_one(c: Counts, marks: &[u8], p: usize, v: u8) -> Counts
     requires { (p < length marks.now) × (c.mended ≤ 4096) × (c.repainted ≤ 4096) }
     ensures { CountsOne marks.now p v c result }
 {
-    let mended = c.mended;
-    let repainted = c.repainted;
     if v == 0 {
-        return Counts { mended, repainted };
+        return c;
     }
     if marks[p] == 0 {
         return Counts {
-            mended: mended + 1,
-            repainted,
+            mended: c.mended + 1,
+            ..c
         };
     }
     Counts {
-        mended,
-        repainted: repainted + 1,
+        repainted: c.repainted + 1,
+        ..c
     }
 }
 
@@ -157,16 +115,12 @@ pub fn count(e: values::Errata, marks: &[u8]) -> Counts
     requires { ErrataFor (length marks.now) e }
     ensures { CountsAll marks.now (cells_of e) (values_of e) result }
 {
-    let cells = e.cells;
-    let values = e.values;
     let mut c = Counts {
         mended: 0,
         repainted: 0,
     };
-    let mut i: usize = 0;
-    while i < e.count {
-        c = count_one(c, marks, cells[i], values[i]);
-        i += 1;
+    for i in 0..e.count {
+        c = count_one(c, marks, e.cells[i], e.values[i]);
     }
     c
 }

@@ -2,7 +2,8 @@
 #![tactic(auto)]
 
 ghost use Rattle.std.specs.Prelude.{◌≡◌};
-ghost use Rattle.code.specs.Word.{written_numbers, tested_numbers};
+ghost use Rattle.rules.specs.Refusal.{written_numbers};
+ghost use Rattle.code.specs.Word.{tested_numbers};
 ghost use Rattle.code.specs.Repair.{repaired_numbers};
 ghost use Rattle.record.specs.Reading.{record_numbers};
 ghost use Rattle.strip.specs.Reading.{strip_numbers};
@@ -10,51 +11,49 @@ ghost use Rattle.pool.specs.Pooled.{pool_numbers};
 ghost use Rattle.tiny.specs.Tiny.{next_numbers};
 ghost use Rattle.packing.specs.Packed.{packed_length, packed_read, packed_repair, packed_pool};
 
-use code::repair::Repaired;
-use code::word::{Tested, Written};
-use pool::Pooling;
-use record::read::RecordRead;
-use strip::read::Reading;
-use tiny::Found;
+use fields::head::Head;
+use marks::Counts;
+use pool::Pooled;
+use rules::Refusal;
+use strip::read::{Read, Unread};
 
 // A code in the lowest five bits, and a value from bit 48 on.
 fn pack_length(code: u8, value: usize) -> u64
     ensures { result ≡ packed_length record { code = code; value = value } }
 {
-    (code % 32) as u64 + ((value % 65536) as u64) * 281474976710656
+    u64::from(code % 32) + ((value % 65536) as u64) * 281474976710656
 }
 
-pub fn pack_written(a: Written) -> u64
+pub fn pack_written(a: Result<usize, Refusal>) -> u64
     ensures { result ≡ packed_length (written_numbers a) }
 {
     match a {
-        Written::Length(n) => pack_length(0, n),
-        Written::Refused(c) => pack_length(c, 0),
+        Ok(n) => pack_length(0, n),
+        Err(r) => pack_length(r.number(), 0),
     }
 }
 
-pub fn pack_tested(a: Tested) -> u64
+pub fn pack_tested(a: Result<bool, Refusal>) -> u64
     ensures { result ≡ packed_length (tested_numbers a) }
 {
     match a {
-        Tested::Clean => pack_length(0, 1),
-        Tested::Damaged => pack_length(0, 0),
-        Tested::Refused(c) => pack_length(c, 0),
+        Ok(clean) => pack_length(0, usize::from(clean)),
+        Err(r) => pack_length(r.number(), 0),
     }
 }
 
-pub fn pack_found(a: Found) -> u64
+pub fn pack_found(a: Result<Option<usize>, Refusal>) -> u64
     ensures { result ≡ packed_length (next_numbers a) }
 {
     match a {
-        Found::Board(n) => pack_length(0, n),
-        Found::NoneLeft => pack_length(0, 0),
-        Found::Refused(c) => pack_length(c, 0),
+        Ok(n) => pack_length(0, n.unwrap_or(0)),
+        Err(r) => pack_length(r.number(), 0),
     }
 }
 
-// The numbers of a reader or of a repair, each at its place.
-fn pack_numbers(
+// The numbers of a reader or of a repair.
+#[derive(Clone, Copy)]
+struct Numbers {
     code: u8,
     lane: usize,
     version: usize,
@@ -65,51 +64,95 @@ fn pack_numbers(
     repainted: usize,
     wear: usize,
     lanes: usize,
-) -> u64
-    ensures { result ≡ packed_read record { code = code; lane = lane; version = version; width = width; height = height; par = par; mended = mended; repainted = repainted; wear = wear; lanes = lanes } }
-{
-    (code % 32) as u64
-        + ((lane % 16) as u64) * 32
-        + ((version % 4) as u64) * 512
-        + ((width % 32) as u64) * 2048
-        + ((height % 32) as u64) * 65536
-        + ((par % 1024) as u64) * 2097152
-        + ((mended % 64) as u64) * 2147483648
-        + ((repainted % 128) as u64) * 137438953472
-        + ((wear % 64) as u64) * 17592186044416
-        + ((lanes % 32) as u64) * 1125899906842624
 }
 
-pub fn pack_repaired(a: Repaired) -> u64
+// What an answer does not tell.
+const UNTOLD: Numbers = Numbers {
+    code: 0,
+    lane: 0,
+    version: 0,
+    width: 0,
+    height: 0,
+    par: 0,
+    mended: 0,
+    repainted: 0,
+    wear: 0,
+    lanes: 0,
+};
+
+// Each at its place.
+fn pack_numbers(n: Numbers) -> u64
+    ensures { result ≡ packed_read record { code = n.code; lane = n.lane; version = n.version; width = n.width; height = n.height; par = n.par; mended = n.mended; repainted = n.repainted; wear = n.wear; lanes = n.lanes } }
+{
+    u64::from(n.code % 32)
+        + ((n.lane % 16) as u64) * 32
+        + ((n.version % 4) as u64) * 512
+        + ((n.width % 32) as u64) * 2048
+        + ((n.height % 32) as u64) * 65536
+        + ((n.par % 1024) as u64) * 2097152
+        + ((n.mended % 64) as u64) * 2147483648
+        + ((n.repainted % 128) as u64) * 137438953472
+        + ((n.wear % 64) as u64) * 17592186044416
+        + ((n.lanes % 32) as u64) * 1125899906842624
+}
+
+pub fn pack_repaired(a: Result<Counts, Refusal>) -> u64
     ensures { result ≡ packed_repair (repaired_numbers a) }
 {
-    match a {
-        Repaired::Mended { mended, repainted } => pack_numbers(
-            0, 0, 0, 0, 0, 0, mended, repainted, 0, 0,
-        ),
-        Repaired::Refused(c) => pack_numbers(c, 0, 0, 0, 0, 0, 0, 0, 0, 0),
-    }
+    pack_numbers(match a {
+        Ok(Counts { mended, repainted }) => Numbers {
+            mended,
+            repainted,
+            ..UNTOLD
+        },
+        Err(r) => Numbers {
+            code: r.number(),
+            ..UNTOLD
+        },
+    })
 }
 
-pub fn pack_level(a: RecordRead) -> u64
+pub fn pack_level(a: Result<Head, Refusal>) -> u64
     ensures { result ≡ packed_read (record_numbers a) }
 {
-    match a {
-        RecordRead::Level {
+    pack_numbers(match a {
+        Ok(
+            Head {
+                version,
+                width,
+                height,
+                par,
+            },
+        ) => Numbers {
             version,
             width,
             height,
             par,
-        } => pack_numbers(0, 0, version, width, height, par, 0, 0, 0, 0),
-        RecordRead::Refused(c) => pack_numbers(c, 0, 0, 0, 0, 0, 0, 0, 0, 0),
-    }
+            ..UNTOLD
+        },
+        Err(r) => Numbers {
+            code: r.number(),
+            ..UNTOLD
+        },
+    })
 }
 
-pub fn pack_reading(a: Reading) -> u64
+pub fn pack_reading(a: Result<Read, Unread>) -> u64
     ensures { result ≡ packed_read (strip_numbers a) }
 {
-    match a {
-        Reading::Read {
+    pack_numbers(match a {
+        Ok(
+            Read {
+                version,
+                width,
+                height,
+                par,
+                mended,
+                repainted,
+                wear,
+                lanes,
+            },
+        ) => Numbers {
             version,
             width,
             height,
@@ -118,34 +161,40 @@ pub fn pack_reading(a: Reading) -> u64
             repainted,
             wear,
             lanes,
-        } => pack_numbers(
-            0, 0, version, width, height, par, mended, repainted, wear, lanes,
-        ),
-        Reading::Refused { code, lane } => pack_numbers(code, lane, 0, 0, 0, 0, 0, 0, 0, 0),
-    }
+            ..UNTOLD
+        },
+        Err(Unread { refusal, lane }) => Numbers {
+            code: refusal.number(),
+            lane,
+            ..UNTOLD
+        },
+    })
 }
 
 // The numbers of pooling, nine bits for each count.
-fn pack_counts(code: u8, agreed: usize, taken: usize, conflict: usize, both: usize) -> u64
-    ensures { result ≡ packed_pool record { code = code; agreed = agreed; taken = taken; conflict = conflict; both = both } }
+fn pack_counts(code: u8, c: Pooled) -> u64
+    ensures { result ≡ packed_pool record { code = code; agreed = c.agreed; taken = c.taken; conflict = c.conflict; both = c.both } }
 {
-    (code % 32) as u64
-        + ((agreed % 512) as u64) * 32
-        + ((taken % 512) as u64) * 16384
-        + ((conflict % 512) as u64) * 8388608
-        + ((both % 512) as u64) * 4294967296
+    u64::from(code % 32)
+        + ((c.agreed % 512) as u64) * 32
+        + ((c.taken % 512) as u64) * 16384
+        + ((c.conflict % 512) as u64) * 8388608
+        + ((c.both % 512) as u64) * 4294967296
 }
 
-pub fn pack_pooling(a: Pooling) -> u64
+pub fn pack_pooling(a: Result<Pooled, Refusal>) -> u64
     ensures { result ≡ packed_pool (pool_numbers a) }
 {
     match a {
-        Pooling::Pooled {
-            agreed,
-            taken,
-            conflict,
-            both,
-        } => pack_counts(0, agreed, taken, conflict, both),
-        Pooling::Refused(c) => pack_counts(c, 0, 0, 0, 0),
+        Ok(c) => pack_counts(0, c),
+        Err(r) => pack_counts(
+            r.number(),
+            Pooled {
+                agreed: 0,
+                taken: 0,
+                conflict: 0,
+                both: 0,
+            },
+        ),
     }
 }

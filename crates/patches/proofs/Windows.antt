@@ -1,16 +1,11 @@
 -- A window filled from the strip and put right.
 use mathlib.Core.Path.{◌≡◌, refl, sym, ap, ◌∙◌}
-use mathlib.Core.Bool.{true, false}
-use mathlib.Core.Logic.{⊎_elim}
 use mathlib.Core.List.{List, ◌++◌}
-use Prim.Native.Nat.{ℕ, ◌+◌, ◌-◌, ◌≤◌, ◌<◌}
+use Prim.Native.Nat.{ℕ, ◌+◌, ◌-◌, ◌≤◌, ◌<◌, min}
 use native.Mathlib.Decide.{ℕ_discrete}
 use native.Mathlib.Omega.{arith}
-use borrow.Author.Tests.{lt-ltb, le-ltb}
-use lib.Dec.{ltb}
 use lib.ListN.{length, get_or, take, drop, set, length-set, length-drop, get_or-append}
 use lib.Seq.{get_or-set_same, get_or-set_other, set-get_or, get_or-take, get_or-drop, length-take-le}
-use Rattle.rules.proofs.Numbers.{lt_or_ge}
 use Rattle.patches.specs.Patched.{patched}
 use Rattle.patches.proofs.Patching.{patched_0, patched_more, length_patched}
 use Rattle.patches.specs.Window.{Behind, PatchedAt, Shows, WindowPatched, Shown}
@@ -19,7 +14,7 @@ use Rattle.patches.specs.Window.{Behind, PatchedAt, Shows, WindowPatched, Shown}
 
 -- r is how far cell p is behind cell a, and o its place, or some place
 module _ (a p b r o v : ℕ) (w : List ℕ) (room : 186 ≤ length w) (B : Behind a p r) (o_small : o < 186) (place : r < 186 → o ≡ r) where
-  in_window : r < 186 → v ≡ b → PatchedAt a p b w (set w o v)
+  pub in_window : r < 186 → v ≡ b → PatchedAt a p b w (set w o v)
   in_window i e = record {
     long = length-set w o v;
     here = λ q h k. let z : q ≡ o = omega (arith, B.only q h k, place i) in
@@ -27,15 +22,12 @@ module _ (a p b r o v : ℕ) (w : List ℕ) (room : 186 ≤ length w) (B : Behin
     other = λ q h k. get_or-set_other w o q v 0 (λ z. k (omega (arith, z, place i, B.is i)));
   }
 
-  elsewhere : (r < 186 → ⊥) → v ≡ get_or w o 0 → PatchedAt a p b w (set w o v)
+  pub elsewhere : (r < 186 → ⊥) → v ≡ get_or w o 0 → PatchedAt a p b w (set w o v)
   elsewhere out e = record {
     long = length-set w o v;
     here = λ q h k. absurd (out (omega (arith, B.only q h k)));
     other = λ q h k. ap (λ (x : ℕ). get_or (set w o x) q 0) e ∙ ap (λ (x : List ℕ). get_or x q 0) (set-get_or w o 0);
   }
-
-  pub patched_one : (ltb r 186 ≡ true → v ≡ b) → (ltb r 186 ≡ false → v ≡ get_or w o 0) → PatchedAt a p b w (set w o v)
-  patched_one t f = ⊎_elim (λ h. in_window h (t (lt-ltb r 186 h))) (λ h. elsewhere (λ k. omega arith) (f (le-ltb r 186 h))) (lt_or_ge r 186)
 
 -- ---- all cells
 
@@ -62,21 +54,20 @@ module _ (cells bytes : List ℕ) (a : ℕ) (w : List ℕ) where
 -- ---- a window filled
 
 -- a part of the strip, copied to the front
-pub shown : (s old w : List ℕ) (a n : ℕ) → a + n ≤ length s → w ≡ take (a + n - a) (drop a s) ++ drop (length (take (a + n - a) (drop a s))) old → Shows s a n w
-shown s old w a n h e q l =
-    ap (λ (x : List ℕ). get_or x q 0) e
-    ∙ get_or-append (take (a + n - a) (drop a s)) (drop (length (take (a + n - a) (drop a s))) old) 0 q (omega (arith, long))
+shown : (s x rest : List ℕ) (a n : ℕ) → a + n ≤ length s → x ≡ take (a + n - a) (drop a s) → Shows s a n (x ++ rest)
+shown s x rest a n h e q l =
+    get_or-append x rest 0 q (omega (arith, long, ap length e))
+    ∙ ap (λ (y : List ℕ). get_or y q 0) e
     ∙ get_or-take (a + n - a) (drop a s) q 0 (omega arith) ∙ get_or-drop a s q 0
   where
     long : length (take (a + n - a) (drop a s)) ≡ n
     long = length-take-le (a + n - a) (drop a s) (omega (arith, length-drop a s)) ∙ omega arith
 
-pub window_shown : (s cells bytes old w w' : List ℕ) (count a b n : ℕ) → n ≤ 186 → a + n ≤ b → (a + n < b → n ≡ 186) → b ≤ length s
-    → w ≡ take (a + n - a) (drop a s) ++ drop (length (take (a + n - a) (drop a s))) old → WindowPatched cells bytes count a w w'
-    → Shown s cells bytes count a b w' n
-window_shown s cells bytes old w w' count a b n most before full inside e P = record {
-  most = most;
-  before = before;
-  full = full;
-  shows = P.shows s n most (omega arith) (shown s old w a n (omega arith) e);
+pub window_shown : (s cells bytes x rest w' : List ℕ) (count a b n : ℕ) → n ≡ min 186 (b - a) → a ≤ b → b ≤ length s
+    → x ≡ take (a + n - a) (drop a s) → WindowPatched cells bytes count a (x ++ rest) w' → Shown s cells bytes count a b w' n
+window_shown s cells bytes x rest w' count a b n size order inside e P = record {
+  most = omega arith;
+  before = omega arith;
+  full = omega arith;
+  shows = P.shows s n (omega arith) (omega arith) (shown s x rest a n (omega arith) e);
 }

@@ -2,7 +2,7 @@
 // there. The mended strip itself is never made.
 #![tactic(auto)]
 
-ghost use Rattle.std.specs.Prelude.{◌≡◌, true, false, ◌+◌, ◌≤◌, ◌<◌, ◌^◌, length};
+ghost use Rattle.std.specs.Prelude.{◌≡◌, ◌+◌, ◌≤◌, ◌<◌, ◌^◌, length};
 ghost use Rattle.patches.specs.Window.{Behind, PatchedAt, WindowPatched, Shown};
 
 // How many cells can be noted: five in each of sixteen lanes.
@@ -11,10 +11,14 @@ pub const FIXES: usize = 80;
 // How many cells a window has at most.
 const WINDOW: usize = 186;
 
-fn wide(x: u16) -> usize
-    ensures { result ≡ x }
-{
-    x as usize
+// The cells that are to be put right, as far as they are noted, and what belongs there. Two arrays, since a strip's reader has a bound on its
+// stack, and pairs would take a third more.
+#[derive(Clone, Copy)]
+pub struct Fixes {
+    pub cells: [u16; FIXES],
+    pub bytes: [u8; FIXES],
+    pub count: usize,
+    ghost few: { count ≤ 80 },
 }
 
 // How far cell p is behind the first of the window, modulo 2^64: below 186 just where it is in the window. One subtraction, and one test then.
@@ -22,19 +26,7 @@ fn distance(p: usize, from: usize) -> usize
     requires { from < 2 ^ 63 }
     ensures { Behind from p result }
 {
-    if p < from {
-        return p + (usize::MAX - from) + 1;
-    }
-    p - from
-}
-
-fn pick(yes: bool, a: u8, b: u8) -> u8
-    ensures { (yes ≡ true → result ≡ a) × (yes ≡ false → result ≡ b) }
-{
-    if yes {
-        return a;
-    }
-    b
+    p.wrapping_sub(from)
 }
 
 // The place in the window of what is so far behind its first cell; past the window some place in it, not the same for all, so that stores
@@ -42,10 +34,7 @@ fn pick(yes: bool, a: u8, b: u8) -> u8
 fn offset(q: usize) -> usize
     ensures { (result < 186) × (q < 186 → result ≡ q) }
 {
-    if q < WINDOW {
-        return q;
-    }
-    q % 64
+    if q < WINDOW { q } else { q % 64 }
 }
 
 // Cell p put right, if it is in the window. If not, another gets what it has: that costs less than a branch.
@@ -55,47 +44,28 @@ fn patch_one(p: usize, b: u8, from: usize, window: &mut [u8])
 {
     let q = distance(p, from);
     let o = offset(q);
-    window[o] = pick(q < WINDOW, b, window[o]);
+    let inside = q < WINDOW;
+    let had = window[o];
+    window[o] = if inside { b } else { had };
 }
 
 // The window that begins at a cell, with what is to be put right in it.
-fn patch(cells: &[u16; FIXES], bytes: &[u8; FIXES], count: usize, from: usize, window: &mut [u8])
-    requires { (count ≤ 80) × (from < 2 ^ 63) × (186 ≤ length window.old) }
-    ensures { WindowPatched cells.now bytes.now count from window.old window.new }
+fn patch(fixes: &Fixes, from: usize, window: &mut [u8])
+    requires { (from < 2 ^ 63) × (186 ≤ length window.old) }
+    ensures { WindowPatched fixes.now.cells fixes.now.bytes fixes.now.count from window.old window.new }
 {
-    let mut i: usize = 0;
-    while i < count {
-        patch_one(wide(cells[i]), bytes[i], from, window);
-        i += 1;
+    for i in 0..fixes.count {
+        patch_one(usize::from(fixes.cells[i]), fixes.bytes[i], from, window);
     }
-}
-
-// How many cells the window that begins at a cell has, of those before an end.
-fn size(from: usize, to: usize) -> usize
-    requires { from ≤ to }
-    ensures { (result ≤ 186) × (from + result ≤ to) × (from + result < to → result ≡ 186) }
-{
-    if WINDOW < to - from {
-        return WINDOW;
-    }
-    to - from
 }
 
 // The window that begins at a cell of the mended strip, in front of the scratch; how many cells it has, of those before an end.
-pub fn show(
-    strip: &[u8],
-    cells: &[u16; FIXES],
-    bytes: &[u8; FIXES],
-    count: usize,
-    from: usize,
-    to: usize,
-    scratch: &mut [u8],
-) -> usize
-    requires { (count ≤ 80) × (from ≤ to) × (to ≤ length strip.now) × (186 ≤ length scratch.old) }
-    ensures { Shown strip.now cells.now bytes.now count from to scratch.new result }
+pub fn show(strip: &[u8], fixes: &Fixes, from: usize, to: usize, scratch: &mut [u8]) -> usize
+    requires { (from ≤ to) × (to ≤ length strip.now) × (186 ≤ length scratch.old) }
+    ensures { Shown strip.now fixes.now.cells fixes.now.bytes fixes.now.count from to scratch.new result }
 {
-    let n = size(from, to);
-    rules::copy(&strip[from..from + n], scratch);
-    patch(cells, bytes, count, from, scratch);
+    let n = WINDOW.min(to - from);
+    scratch[..n].copy_from_slice(&strip[from..from + n]);
+    patch(fixes, from, scratch);
     n
 }

@@ -1,15 +1,11 @@
 -- A cell in two pictures: its kind, by what the tests of its marks and bytes say.
 use mathlib.Core.Path.{◌≡◌, refl, ap}
-use mathlib.Core.Logic.{◌≢◌}
 use mathlib.Core.Bool.{Bool, true, false, not}
 use Prim.Native.Nat.{ℕ, ◌+◌}
 use lib.Dec.{eqb}
-use borrow.Author.Tests.{eq-eqb, ne_eqb}
+use borrow.Author.Tests.{eq-eqb}
 use Rattle.account.specs.Reach.{one_if, and}
-use Rattle.pool.specs.Pooled.{Kind, agreed, taken, conflict, both, kind_of, byte_of, mark_of, kind, byte, is}
-
-pub set : (m : ℕ) → m ≢ 0 → not (eqb m 0) ≡ true
-set m h = ap not (ne_eqb m 0 h)
+use Rattle.pool.specs.Pooled.{Kind, agreed, taken, conflict, both, kind_of, mark_of, is}
 
 pub unset : (m : ℕ) → m ≡ 0 → not (eqb m 0) ≡ false
 unset m h = ap not (eq-eqb m 0 h)
@@ -42,21 +38,6 @@ both_by false false true = refl
 both_by false true e = refl
 both_by true false e = refl
 both_by true true e = refl
-
-module _ (x m y n : ℕ) where
-  pub byte_is : (i j e : Bool) → not (eqb m 0) ≡ i → not (eqb n 0) ≡ j → eqb x y ≡ e → byte x m y n ≡ byte_of (kind_of i j e) i x y
-  byte_is i j e p q r = rw (p, q, r) refl
-
-  pub taken_is : (i j : Bool) → not (eqb m 0) ≡ i → not (eqb n 0) ≡ j
-      → one_if (is taken (kind x m y n)) ≡ one_if (and (not i) j) + one_if (and i (not j))
-  taken_is i j p q = rw (p, q) (taken_by i j (eqb x y))
-
-  pub conflict_is : (i j e : Bool) → not (eqb m 0) ≡ i → not (eqb n 0) ≡ j → eqb x y ≡ e
-      → one_if (is conflict (kind x m y n)) ≡ one_if (and (and (not i) (not j)) (not e))
-  conflict_is i j e p q r = rw (p, q, r) (ap one_if (conflict_by i j e))
-
-  pub both_is : (i j : Bool) → not (eqb m 0) ≡ i → not (eqb n 0) ≡ j → one_if (is both (kind x m y n)) ≡ one_if (and i j)
-  both_is i j p q = rw (p, q) (ap one_if (both_by i j (eqb x y)))
 
 -- a cell is marked where it is in conflict, or marked in both
 pub mark_is : (k : Kind) → mark_of k ≡ one_if (is conflict k) + one_if (is both k)

@@ -18,6 +18,8 @@ use Rattle.account.proofs.Lanes.{length_lane, get_d_lane, cell_below, get_d_past
 use Rattle.account.proofs.Runs.{differing_in_run}
 use Rattle.gf256.specs.Gf256.{gf256}
 use Rattle.gf256.proofs.Field256.{field256}
+use Rattle.std.specs.Prelude.{Result, Ok, Err}
+use Rattle.rules.specs.declared.Refusal.{Refusal}
 use Rattle.rules.specs.Refusal.{First, Hold}
 use Rattle.rules.proofs.Laws.{first_fixes, first_alike, all_hold, either}
 use Rattle.rules.proofs.Numbers.{lt_or_ge}
@@ -32,8 +34,7 @@ use Rattle.level.proofs.Runs.{lanes_reach, wrong_in_run, six_marks}
 use Rattle.strip.specs.Writing.{WeWrote}
 use Rattle.strip.specs.Reading.{strip_numbers, Answers, Gives}
 use Rattle.strip.proofs.Theorems.{beyond_is_six, wrote_level, wrote_strip, wrote_legal, damaged_read_back}
-use Rattle.pool.specs.declared.Pooling.{Pooling}
-use Rattle.pool.specs.declared.Pooling.TheVariants as answer
+use Rattle.pool.specs.declared.Pooled.{Pooled}
 use Rattle.pool.specs.Pooled.{Picture, photo, Kind, agreed, taken, conflict, both, kind_of, mark_of, is, kind_at, byte_at, pooled, count_of, PoolNumbers, pool_numbers, told, pooling, PoolsAs, WePooled, Shows, GaveLevel}
 use Rattle.pool.proofs.OneCell.{unset, agreed_by, taken_by, conflict_by, both_by}
 use Rattle.pool.proofs.Pouring.{total}
@@ -56,18 +57,18 @@ same_numbers m n e f =
     made c a t k m = record { code = c; agreed = a; taken = t; conflict = k; both = m }
 
 -- with a refusal the counts are zero
-pub pool_zeros : (r : Pooling) → (pool_numbers r).code ≢ 0 → (k : Kind) → told (pool_numbers r) k ≡ 0
-pool_zeros (answer.Pooled a t c m) n k = absurd (n refl)
-pool_zeros (answer.Refused c) n agreed = refl
-pool_zeros (answer.Refused c) n taken = refl
-pool_zeros (answer.Refused c) n conflict = refl
-pool_zeros (answer.Refused c) n both = refl
+pub pool_zeros : (r : Result Pooled Refusal) → (pool_numbers r).code ≢ 0 → (k : Kind) → told (pool_numbers r) k ≡ 0
+pool_zeros (Ok r) n k = absurd (n refl)
+pool_zeros (Err e) n agreed = refl
+pool_zeros (Err e) n taken = refl
+pool_zeros (Err e) n conflict = refl
+pool_zeros (Err e) n both = refl
 
 module _ (R : ℕ) where
   -- ---- the answer
 
   -- FORMAT 10.9: the promise fixes every number and byte.
-  pub pools_fixed : (a b out u v : Picture) (r s : Pooling) → PoolsAs R a b out u r → PoolsAs R a b out v s → (u ≡ v) × (pool_numbers r ≡ pool_numbers s)
+  pub pools_fixed : (a b out u v : Picture) (r s : Result Pooled Refusal) → PoolsAs R a b out u r → PoolsAs R a b out v s → (u ≡ v) × (pool_numbers r ≡ pool_numbers s)
   pools_fixed a b out u v r s P Q = (
     either (u ≡ v) (pool_numbers r).code (λ z. P.picture z ∙ sym (Q.picture (sym codes ∙ z))) (λ n. P.kept n ∙ sym (Q.kept (λ z. n (codes ∙ z)))),
     same_numbers (pool_numbers r) (pool_numbers s) codes (λ k.
@@ -105,7 +106,7 @@ module _ (R : ℕ) where
       )
 
   -- FORMAT 15.7: and what keeps the promise for the one order keeps it for the other,
-  pub exchanged : (a b out out' : Picture) (r : Pooling) → PoolsAs R a b out out' r → PoolsAs R b a out out' r
+  pub exchanged : (a b out out' : Picture) (r : Result Pooled Refusal) → PoolsAs R a b out out' r → PoolsAs R b a out out' r
   exchanged a b out out' r P = record {
     code = refused_alike a b (length out.cells) (length out.marks) (pool_numbers r).code P.code;
     counts = λ z k. P.counts z k ∙ count k (same z);
@@ -123,7 +124,7 @@ module _ (R : ℕ) where
           ∙ ap (count_to (λ p. is k (kind_at b a p))) (sym e)
 
   -- so that two calls, with the pictures exchanged, give the same cells, marks and numbers, refused or not.
-  pub symmetric : (a b out u v : Picture) (r s : Pooling) → PoolsAs R a b out u r → PoolsAs R b a out v s → (u ≡ v) × (pool_numbers r ≡ pool_numbers s)
+  pub symmetric : (a b out u v : Picture) (r s : Result Pooled Refusal) → PoolsAs R a b out u r → PoolsAs R b a out v s → (u ≡ v) × (pool_numbers r ≡ pool_numbers s)
   symmetric a b out u v r s P Q = pools_fixed b a out u v r s (exchanged a b out u r P) Q
 
   -- ---- a picture that we pooled

@@ -1,13 +1,12 @@
 -- FORMAT 15: two pictures of a strip, pooled to one.
-use Rattle.std.specs.Prelude.{◌≡◌, Bool, true, false, not, List, [], ◌∷◌, ℕ, eqb, length, get_or}
+use Rattle.std.specs.Prelude.{◌≡◌, Bool, true, false, not, List, [], ◌∷◌, ℕ, eqb, length, get_or, Result, Ok, Err}
 use Rattle.account.specs.Lists.{list_of}
 use Rattle.account.specs.Reach.{count_to, GoodMarks, SameRead}
-use Rattle.rules.specs.Refusal.{Rule, unless, First}
+use Rattle.rules.specs.declared.Refusal.{Refusal}
+use Rattle.rules.specs.Refusal.{Rule, unless, First, number_of}
 use Rattle.level.specs.Strip.{Legal}
 use Rattle.strip.specs.Reading.{WeRead, strip_numbers}
-use Rattle.pool.specs.declared.Pooling.{Pooling}
-use Rattle.pool.specs.declared.Pooling.TheVariants as answer
-use Rattle.pool.specs.declared.Counts.{Counts}
+use Rattle.pool.specs.declared.Pooled.{Pooled}
 
 -- FORMAT 15.1: a picture: the cells of a strip, and their marks
 pub record Picture : Type 0 where
@@ -98,9 +97,9 @@ pub record PoolNumbers : Type 0 where
   pub both : ℕ
 
 -- FORMAT 9.43: with a refusal all are zero but the code
-abbrev pub pool_numbers : Pooling → PoolNumbers
-pool_numbers (answer.Pooled a t c m) = record { code = 0; agreed = a; taken = t; conflict = c; both = m }
-pool_numbers (answer.Refused c) = record { code = c; agreed = 0; taken = 0; conflict = 0; both = 0 }
+abbrev pub pool_numbers : Result Pooled Refusal → PoolNumbers
+pool_numbers (Ok r) = record { code = 0; agreed = r.agreed; taken = r.taken; conflict = r.conflict; both = r.both }
+pool_numbers (Err e) = record { code = number_of e; agreed = 0; taken = 0; conflict = 0; both = 0 }
 
 -- the count that is told of a kind
 abbrev pub told : PoolNumbers → Kind → ℕ
@@ -120,7 +119,7 @@ pooling R a b room room' =
     ∷ []
 
 -- FORMAT 8.27, 10.2: the promise. The pooled cells and marks are written over the two buffers, or these are as they were.
-pub record PoolsAs (R : ℕ) (a b out out' : Picture) (r : Pooling) : Type 0 where
+pub record PoolsAs (R : ℕ) (a b out out' : Picture) (r : Result Pooled Refusal) : Type 0 where
   pub code : First (pooling R a b (length out.cells) (length out.marks)) (pool_numbers r).code
   pub counts : (pool_numbers r).code ≡ 0 → (k : Kind) → told (pool_numbers r) k ≡ count_of a b k
   pub picture : (pool_numbers r).code ≡ 0 → out' ≡ pooled a b
@@ -131,7 +130,7 @@ pub record PoolsAs (R : ℕ) (a b out out' : Picture) (r : Pooling) : Type 0 whe
 -- FORMAT 15.1: c is what a and b were pooled to
 pub record WePooled (R : ℕ) (a b c : Picture) : Type 0 where
   pub out : Picture
-  pub answer : Pooling
+  pub answer : Result Pooled Refusal
   pub promise : PoolsAs R a b out c answer
   pub done : (pool_numbers answer).code ≡ 0
 
@@ -154,9 +153,7 @@ pub record AsLong (a b out : Picture) : Type 0 where
   pub room : length out.cells ≡ length a.cells
   pub room' : length out.marks ≡ length a.cells
 
--- a and b pooled, and three of the counts
-pub record PoursAs (a b out' : Picture) (r : Counts) : Type 0 where
+-- a and b pooled, and the counts
+pub record PoursAs (a b out' : Picture) (r : Pooled) : Type 0 where
   pub picture : out' ≡ pooled a b
-  pub taken_is : r.taken ≡ count_of a b taken
-  pub conflict_is : r.conflict ≡ count_of a b conflict
-  pub both_is : r.both ≡ count_of a b both
+  pub counts : (k : Kind) → told (pool_numbers (Ok r)) k ≡ count_of a b k

@@ -2,68 +2,26 @@
 #![tactic(auto)]
 
 ghost use Rattle.std.specs.Prelude.{◌≡◌, ℕ, ◌≤◌, length};
-ghost use Rattle.account.specs.Reach.{one_if, GoodMarks};
-ghost use Rattle.rules.specs.Says.{Says};
-ghost use Rattle.rules.specs.Refusal.{First};
+ghost use Rattle.account.specs.Reach.{one_if};
+ghost use Rattle.rules.specs.Refusal.{First, code_of};
 ghost use Rattle.level.specs.Sizes.{strip_most};
-ghost use Rattle.level.specs.Strip.{Legal};
 ghost use Rattle.pool.specs.Pooled.{photo, kind, byte, is, taken, conflict, both, pooling, PoolsAs, AsLong, PoursAs};
+
+use rules::Refusal;
 
 // The lanes of the strips that are pooled.
 const LANES: usize = 4;
 
-// What pooling answers: how many cells are of each kind, or a refusal's number.
+// How many cells are of each kind.
 #[derive(Clone, Copy)]
-pub enum Pooling {
-    Pooled {
-        agreed: usize,
-        taken: usize,
-        conflict: usize,
-        both: usize,
-    },
-    Refused(u8),
+pub struct Pooled {
+    pub agreed: usize,
+    pub taken: usize,
+    pub conflict: usize,
+    pub both: usize,
 }
 
-// Both lengths are legal.
-fn both_legal(first: usize, second: usize) -> bool
-    ensures { Says result (Legal 4 first × Legal 4 second) }
-{
-    if !entry::legal(LANES, first) {
-        return false;
-    }
-    if !entry::legal(LANES, second) {
-        return false;
-    }
-    true
-}
-
-// Both lengths are n.
-fn both_long(first: usize, second: usize, n: usize) -> bool
-    ensures { Says result ((first ≡ n) × (second ≡ n)) }
-{
-    if first != n {
-        return false;
-    }
-    if second != n {
-        return false;
-    }
-    true
-}
-
-// Each mark is 0 or 1.
-fn both_good(first: &[u8], second: &[u8]) -> bool
-    ensures { Says result (GoodMarks first.now × GoodMarks second.now) }
-{
-    if 1 < marks::any(first) {
-        return false;
-    }
-    if 1 < marks::any(second) {
-        return false;
-    }
-    true
-}
-
-// Refusals 1, 13, 2, 3 and 4, or 0.
+// Refusals 1, 13, 2, 3 and 4.
 fn enter(
     first: &[u8],
     first_marks: &[u8],
@@ -71,26 +29,26 @@ fn enter(
     second_marks: &[u8],
     cells: usize,
     marks: usize,
-) -> u8
-    ensures { First (pooling 4 (photo first.now first_marks.now) (photo second.now second_marks.now) cells marks) result }
+) -> Result<(), Refusal>
+    ensures { First (pooling 4 (photo first.now first_marks.now) (photo second.now second_marks.now) cells marks) (code_of result) }
 {
     let n = first.len();
-    if !both_legal(n, second.len()) {
-        return 1;
+    if !entry::legal(LANES, n) || !entry::legal(LANES, second.len()) {
+        return Err(Refusal::Length);
     }
     if second.len() != n {
-        return 13;
+        return Err(Refusal::Unequal);
     }
-    if !both_long(first_marks.len(), second_marks.len(), n) {
-        return 2;
+    if first_marks.len() != n || second_marks.len() != n {
+        return Err(Refusal::MarkCount);
     }
-    if !both_good(first_marks, second_marks) {
-        return 3;
+    if 1 < marks::any(first_marks) || 1 < marks::any(second_marks) {
+        return Err(Refusal::Mark);
     }
-    if !both_long(cells, marks, n) {
-        return 4;
+    if cells != n || marks != n {
+        return Err(Refusal::Buffer);
     }
-    0
+    Ok(())
 }
 
 // What stands under a mark.
@@ -100,72 +58,33 @@ const UNKNOWN: u8 = 0;
 fn byte_of(x: u8, m: u8, y: u8, n: u8) -> u8
     ensures { result ≡ byte x m y n }
 {
-    if m != 0 {
-        if n != 0 {
-            return UNKNOWN;
-        }
-        return y;
+    match (m != 0, n != 0) {
+        (true, true) => UNKNOWN,
+        (true, false) => y,
+        (false, true) => x,
+        (false, false) => if x == y { x } else { UNKNOWN },
     }
-    if n != 0 {
-        return x;
-    }
-    if x == y {
-        return x;
-    }
-    UNKNOWN
 }
 
 // 1 where it is taken from one, whatever its bytes.
 fn one_taken(m: u8, n: u8) -> u16
     ensures { (x y : ℕ) → result ≡ one_if (is taken (kind x m y n)) }
 {
-    if m != 0 {
-        if n != 0 {
-            return 0;
-        }
-        return 1;
-    }
-    if n != 0 {
-        return 1;
-    }
-    0
+    u16::from((m != 0) != (n != 0))
 }
 
 // 1 where it is in conflict.
 fn one_conflict(x: u8, m: u8, y: u8, n: u8) -> u16
     ensures { result ≡ one_if (is conflict (kind x m y n)) }
 {
-    if m != 0 {
-        return 0;
-    }
-    if n != 0 {
-        return 0;
-    }
-    if x != y {
-        return 1;
-    }
-    0
+    u16::from(m == 0 && n == 0 && x != y)
 }
 
 // 1 where it is marked in both.
 fn one_both(m: u8, n: u8) -> u16
     ensures { (x y : ℕ) → result ≡ one_if (is both (kind x m y n)) }
 {
-    if m == 0 {
-        return 0;
-    }
-    if n == 0 {
-        return 0;
-    }
-    1
-}
-
-// How many cells are of these kinds; all others are agreed.
-#[derive(Clone, Copy)]
-struct Counts {
-    taken: u16,
-    conflict: u16,
-    both: u16,
+    u16::from(m != 0 && n != 0)
 }
 
 // All cells, in one pass. The compiler makes it a loop with no branch on what a cell holds, eight cells a step.
@@ -176,19 +95,16 @@ fn pour(
     second_marks: &[u8],
     cells: &mut [u8],
     marks: &mut [u8],
-) -> Counts
+) -> Pooled
     requires { AsLong (photo first.now first_marks.now) (photo second.now second_marks.now) (photo cells.old marks.old) × (length first.now ≤ strip_most) }
     ensures { PoursAs (photo first.now first_marks.now) (photo second.now second_marks.now) (photo cells.new marks.new) result }
 {
     let mut taken: u16 = 0;
     let mut conflict: u16 = 0;
     let mut both: u16 = 0;
-    let mut i = 0;
-    while i < first.len() {
-        let x = first[i];
-        let m = first_marks[i];
-        let y = second[i];
-        let n = second_marks[i];
+    for i in 0..first.len() {
+        let (x, m) = (first[i], first_marks[i]);
+        let (y, n) = (second[i], second_marks[i]);
         let c = one_conflict(x, m, y, n);
         let b = one_both(m, n);
         cells[i] = byte_of(x, m, y, n);
@@ -196,12 +112,12 @@ fn pour(
         taken += one_taken(m, n);
         conflict += c;
         both += b;
-        i += 1;
     }
-    Counts {
-        taken,
-        conflict,
-        both,
+    Pooled {
+        agreed: first.len() - usize::from(taken + conflict + both),
+        taken: usize::from(taken),
+        conflict: usize::from(conflict),
+        both: usize::from(both),
     }
 }
 
@@ -213,28 +129,16 @@ pub fn pool(
     second_marks: &[u8],
     cells: &mut [u8],
     marks: &mut [u8],
-) -> Pooling
+) -> Result<Pooled, Refusal>
     ensures { PoolsAs 4 (photo first.now first_marks.now) (photo second.now second_marks.now) (photo cells.old marks.old) (photo cells.new marks.new) result }
 {
-    let code = enter(
+    enter(
         first,
         first_marks,
         second,
         second_marks,
         cells.len(),
         marks.len(),
-    );
-    if code != 0 {
-        return Pooling::Refused(code);
-    }
-    let c = pour(first, first_marks, second, second_marks, cells, marks);
-    let taken = c.taken as usize;
-    let conflict = c.conflict as usize;
-    let both = c.both as usize;
-    Pooling::Pooled {
-        agreed: first.len() - (taken + conflict + both),
-        taken,
-        conflict,
-        both,
-    }
+    )?;
+    Ok(pour(first, first_marks, second, second_marks, cells, marks))
 }

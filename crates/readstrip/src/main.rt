@@ -3,10 +3,10 @@
 
 ghost use Rattle.std.specs.Prelude.{◌≤◌, length, IfOk};
 
-use level::{SCRATCH_LEAST, TILES_MOST};
+use level::{NEWEST, SCRATCH_LEAST, TILES_MOST};
+use rules::Refusal;
 use std::io;
-use std::io::Read;
-use strip::read::Reading;
+use strip::read::{Read, Unread};
 
 // The lanes of the strips that are read here.
 const LANES: usize = 4;
@@ -15,7 +15,7 @@ const LANES: usize = 4;
 const INPUT_MOST: usize = 768;
 
 // Reads until the buffer is full or the input ends. What was read stands in front; the answer is how many bytes that is.
-fn fill<R: Read>(input: &mut R, buffer: &mut [u8]) -> io::Result<usize>
+fn fill<R: io::Read>(input: &mut R, buffer: &mut [u8]) -> io::Result<usize>
     ensures { IfOk result (λ n. n ≤ length buffer.new) }
 {
     let mut n = 0;
@@ -30,31 +30,36 @@ fn fill<R: Read>(input: &mut R, buffer: &mut [u8]) -> io::Result<usize>
 }
 
 // What the strip reader says of the first half as a strip and the second as its marks.
-fn answer(input: &[u8]) -> Reading {
+fn answer(input: &[u8]) -> Result<Read, Unread> {
     let n = input.len();
     if INPUT_MOST < n || n % 2 == 1 {
-        return Reading::Refused { code: 1, lane: 0 };
+        return Err(Unread::from(Refusal::Length));
     }
     let (cells, marks) = input.split_at(n / 2);
     let mut tiles = [0u8; TILES_MOST];
     let mut scratch = [0u8; SCRATCH_LEAST];
-    strip::read::read(LANES, cells, marks, &mut tiles, &mut scratch)
+    strip::read::read_upto(NEWEST, LANES, cells, marks, &mut tiles, &mut scratch)
 }
 
 // Numbers in decimal: width, height, par, mended, wear, of a level of either version; of a refusal its number and lane.
-fn show(rt: &impl Print, a: Reading) -> io::Result<()> {
+fn show(rt: &impl Print, a: Result<Read, Unread>) -> io::Result<()> {
     match a {
-        Reading::Read {
-            version: _,
-            width,
-            height,
-            par,
-            mended,
-            repainted: _,
-            wear,
-            lanes: _,
-        } => println!(rt; "level {width} {height} par {par} mended {mended} wear {wear}"),
-        Reading::Refused { code, lane } => println!(rt; "refused {code} lane {lane}"),
+        Ok(
+            Read {
+                version: _,
+                width,
+                height,
+                par,
+                mended,
+                repainted: _,
+                wear,
+                lanes: _,
+            },
+        ) => println!(rt; "level {width} {height} par {par} mended {mended} wear {wear}"),
+        Err(Unread { refusal, lane }) => {
+            let code = refusal.number();
+            println!(rt; "refused {code} lane {lane}")
+        }
     }
 }
 

@@ -6,18 +6,19 @@ use Prim.Native.Nat.{ℕ, ◌*◌, ◌≤◌}
 use native.Mathlib.Omega.{arith}
 use lib.ListN.{length}
 use lib.Seq.{take_all}
-use Rattle.rules.specs.Refusal.{First, Within, asked}
+use Rattle.std.specs.Prelude.{Result, Ok, Err}
+use Rattle.rules.specs.declared.Refusal.{Refusal}
+use Rattle.rules.specs.Refusal.{First, Within, number_of}
 use Rattle.rules.specs.Bytes.{Bytes}
-use Rattle.rules.proofs.Laws.{stops}
+use Rattle.rules.proofs.Laws.{some_number}
 use Rattle.level.specs.Level.{Level, IsLevel}
 use Rattle.level.specs.Record.{field_at, record_length, IsRecord}
 use Rattle.level.specs.Strip.{columns}
-use Rattle.level.specs.Reading.{level_of, Shaped, judging, reading_record}
+use Rattle.level.specs.Reading.{level_of, Shaped, reading_record}
 use Rattle.level.proofs.Judged.{spelled_record, spelled_level}
-use Rattle.fields.specs.declared.judged.Judged.{Judged}
+use Rattle.fields.specs.declared.head.Head.{Head}
 use Rattle.fields.specs.Judged.{AcceptedAs}
 use Rattle.fields.proofs.Accepting.{passed, level_is, tiles_past}
-use Rattle.record.specs.declared.read.RecordRead.TheVariants as read
 use Rattle.record.specs.Reading.{RecordReadsAs}
 
 -- the bytes of a record are all of it
@@ -32,30 +33,30 @@ whole_record bs by s =
         go : (B : ℕ) → 1 * columns 1 B ≡ B
         go B = omega arith
 
-module _ (upto : ℕ) (bs old : List ℕ) where
-  none : (new : List ℕ) (c : ℕ) → new ≡ old → (c ≡ 0 → ⊥) → First (reading_record upto bs (length old)) c → RecordReadsAs upto bs old new (read.Refused c)
-  none new c e n f = record { code = f; is_level = λ z. absurd (n z); not_newer = λ z. absurd (n z); is_record = λ z. absurd (n z); past = λ z. absurd (n z); kept = λ _. e }
+module _ (upto : ℕ) (bs old new : List ℕ) where
+  pub not_reads : (e : Refusal) → new ≡ old → First (reading_record upto bs (length old)) (number_of e) → RecordReadsAs upto bs old new (Err e)
+  not_reads e k f = record {
+    code = f;
+    is_level = λ z. absurd (some_number e z);
+    not_newer = λ z. absurd (some_number e z);
+    is_record = λ z. absurd (some_number e z);
+    past = λ z. absurd (some_number e z);
+    kept = λ _. k;
+  }
 
-  pub not_read_1 : (Within 4 364 (length bs) → ⊥) → RecordReadsAs upto bs old old (read.Refused 1)
-  not_read_1 n = none old 1 refl (λ z. omega arith) (stops 0 (reading_record upto bs (length old)) 1 (n, refl))
-
-  pub not_read_4 : Within 4 364 (length bs) → (961 ≤ length old → ⊥) → RecordReadsAs upto bs old old (read.Refused 4)
-  not_read_4 a n = none old 4 refl (λ z. omega arith) (stops 1 (reading_record upto bs (length old)) 4 (a, (n, refl)))
-
-  pub not_read_later : (r : Judged) (new : List ℕ) → (r.code ≡ 0 → ⊥) → AcceptedAs upto 1 bs old new r → Within 4 364 (length bs) → 961 ≤ length old
-      → RecordReadsAs upto bs old new (read.Refused r.code)
-  not_read_later r new n A a b = none new r.code (A.kept n) n (inr (a, inr (b, A.first)))
-
-  pub reads : (r : Judged) (new : List ℕ) → r.code ≡ 0 → AcceptedAs upto 1 bs old new r → Bytes bs → Within 4 364 (length bs) → 961 ≤ length old
-      → RecordReadsAs upto bs old new (read.Level r.version r.width r.height r.par)
-  reads r new z A by a b =
-      let p = passed upto 1 bs r.code z A.first in
-      let e = level_is bs old new r.version r.width r.height r.par (A.version z) (A.width z) (A.height z) (A.par z) (A.tiles z) in
+  -- what is accepted is read
+  pub reads : (r : Result Head Refusal) → AcceptedAs upto 1 bs old new r → Bytes bs → Within 4 364 (length bs) → 961 ≤ length old
+      → RecordReadsAs upto bs old new r
+  reads (Err e) A by a b = not_reads e A.kept (inr (a, inr (b, A.first)))
+  reads (Ok r) A by a b =
+      let p = passed upto 1 bs 0 refl A.first in
+      let h = A.heads in
+      let e = level_is bs old new r.version r.width r.height r.par h.version h.width h.height h.par A.tiles in
       record {
-        code = inr (a, inr (b, subst (First (asked (λ ask. ask bs) (judging upto 1))) z A.first));
+        code = inr (a, inr (b, A.first));
         is_level = λ _. subst IsLevel e (spelled_level bs p.0.ranged p.1.1.0 p.1.1.1.0);
-        not_newer = λ _. omega (arith, A.version z, p.0.not_newer);
+        not_newer = λ _. omega (arith, h.version, p.0.not_newer);
         is_record = λ _. subst (λ (l : Level). IsRecord l bs) e (whole_record bs by p.1.0);
-        past = λ _. tiles_past bs old new r.version r.width r.height r.par (A.version z) (A.width z) (A.height z) (A.par z) (A.tiles z);
+        past = λ _. tiles_past bs old new r.version r.width r.height r.par h.version h.width h.height h.par A.tiles;
         kept = λ k. absurd (k refl);
       }

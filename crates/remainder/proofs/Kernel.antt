@@ -1,16 +1,17 @@
 -- Horner's rule on packed bytes, and the steps.
-use mathlib.Core.Path.{◌≡◌, refl, sym, ap, ap₂, ◌∙◌, subst}
+use mathlib.Core.Path.{◌≡◌, sym, ap, ap₂, ◌∙◌, subst}
 use mathlib.Core.List.{List, [], ◌∷◌}
-use Prim.Native.Nat.{ℕ, ◌+◌, ◌*◌, ◌/◌, ◌%◌, ◌^◌, ◌<◌}
+use Prim.Native.Nat.{ℕ, ◌+◌, ◌*◌, ◌/◌, ◌%◌, ◌<◌}
 use native.Mathlib.Nat.{mod-lt, zero-lt-suc}
 use native.Mathlib.Omega.{arith}
 use lib.ListN.{length}
-use lib.Bits.{bit_xor, xor_shr, xor_mod, xor_lt}
+use lib.Bits.{bit_xor, xor_lt}
 use Rattle.account.specs.Field.{power}
 use Rattle.account.specs.Code.{alpha_to}
 use Rattle.account.proofs.Laws as laws
 use Rattle.gf256.specs.Gf256.{gf256, times}
 use Rattle.gf256.proofs.Field256.{field256}
+use Rattle.reductions.proofs.Packed.{horn_zero, at5_xor}
 use Rattle.remainder.specs.Remainder.{packed_end, unpacked, horn, horn_all, at5, Reduced, Moved}
 
 -- all are bytes
@@ -18,25 +19,9 @@ abbrev pub AllBytes : List ℕ → Type 0
 AllBytes [] = Unit {0}
 AllBytes (b ∷ bs) = (b < 256) × AllBytes bs
 
--- ---- exclusive or, byte by byte
-
-abbrev pub xors : List ℕ → List ℕ → List ℕ
-xors [] cs = []
-xors (b ∷ bs) [] = []
-xors (b ∷ bs) (c ∷ cs) = bit_xor b c ∷ xors bs cs
-
-byte_xor : (k a b : ℕ) → bit_xor a b / 2 ^ k % 256 ≡ bit_xor (a / 2 ^ k % 256) (b / 2 ^ k % 256)
-byte_xor k a b = ap (λ (z : ℕ). z % 256) (xor_shr a b k) ∙ xor_mod (a / 2 ^ k) (b / 2 ^ k) 8
-
-pub unpacked_xor : (a b : ℕ) → unpacked (bit_xor a b) ≡ xors (unpacked a) (unpacked b)
-unpacked_xor a b = rw (byte_xor 32 a b, byte_xor 24 a b, byte_xor 16 a b, byte_xor 8 a b, xor_mod a b 8)
-
 -- ---- Horner's rule
 
 module _ (y : ℕ) where
-  pub horn_zero : (b : ℕ) → horn y 0 b ≡ b
-  horn_zero b = ap (λ (z : ℕ). bit_xor z b) (laws.zero_mul gf256 field256 y) ∙ laws.zero_add gf256 field256 b
-
   -- what stands in front, times the power of what follows
   pub start : (u : ℕ) (bs : List ℕ) → u < 256 → AllBytes bs → horn_all y u bs ≡ bit_xor (times u (power gf256 y (length bs))) (horn_all y 0 bs)
   unfolding power
@@ -46,46 +31,21 @@ module _ (y : ℕ) where
       ∙ ap (λ (z : ℕ). bit_xor z (horn_all y 0 bs)) (laws.add_mul gf256 field256 (times u y) b p)
       ∙ field256.add_assoc (times (times u y) p) (times b p) (horn_all y 0 bs)
       ∙ ap₂ bit_xor (field256.mul_assoc u y p ∙ ap (times u) (field256.mul_comm y p))
-      (sym (start (horn y 0 b) bs (subst (λ (z : ℕ). z < 256) (sym (horn_zero b)) h.0) h.1
-      ∙ ap (λ (z : ℕ). bit_xor (times z p) (horn_all y 0 bs)) (horn_zero b)))
+      (sym (start (horn y 0 b) bs (subst (λ (z : ℕ). z < 256) (sym (horn_zero y b)) h.0) h.1
+      ∙ ap (λ (z : ℕ). bit_xor (times z p) (horn_all y 0 bs)) (horn_zero y b)))
     where
       p : ℕ
       p = power gf256 y (length bs)
 
   pub peel : (a : ℕ) (bs : List ℕ) → a < 256 → AllBytes bs → horn_all y 0 (a ∷ bs) ≡ bit_xor (times a (power gf256 y (length bs))) (horn_all y 0 bs)
   peel a bs ha h =
-      start (horn y 0 a) bs (subst (λ (z : ℕ). z < 256) (sym (horn_zero a)) ha) h
-      ∙ ap (λ (z : ℕ). bit_xor (times z (power gf256 y (length bs))) (horn_all y 0 bs)) (horn_zero a)
-
-  horn_xor : (u v : ℕ) (bs cs : List ℕ) → length bs ≡ length cs → horn_all y (bit_xor u v) (xors bs cs) ≡ bit_xor (horn_all y u bs) (horn_all y v cs)
-  horn_xor u v [] [] e = refl
-  horn_xor u v [] (c ∷ cs) e = absurd (omega arith)
-  horn_xor u v (b ∷ bs) [] e = absurd (omega arith)
-  horn_xor u v (b ∷ bs) (c ∷ cs) e =
-      ap (λ (z : ℕ). horn_all y z (xors bs cs))
-      (ap (λ (z : ℕ). bit_xor z (bit_xor b c)) (laws.add_mul gf256 field256 u v y) ∙ laws.add_swap gf256 field256 (times u y) (times v y) b c)
-      ∙ horn_xor (horn y u b) (horn y v c) bs cs (omega arith)
-
-  pub at5_xor : (a b : ℕ) → at5 y (bit_xor a b) ≡ bit_xor (at5 y a) (at5 y b)
-  unfolding at5
-  at5_xor a b = ap (horn_all y 0) (unpacked_xor a b) ∙ horn_xor 0 0 (unpacked a) (unpacked b) refl
+      start (horn y 0 a) bs (subst (λ (z : ℕ). z < 256) (sym (horn_zero y a)) ha) h
+      ∙ ap (λ (z : ℕ). bit_xor (times z (power gf256 y (length bs))) (horn_all y 0 bs)) (horn_zero y a)
 
 -- ---- the steps
 
--- two bytes at one power, added
-pub joined : (k a b x z : ℕ) → Reduced k a x → Reduced k b z → Reduced k (bit_xor a b) (bit_xor x z)
-joined k a b x z X Z = record {
-  small = xor_lt 40 x z X.small Z.small;
-  roots = λ j l u.
-      at5_xor (alpha_to gf256 j) x z ∙ ap₂ bit_xor (X.roots j l u) (Z.roots j l u)
-      ∙ sym (laws.add_mul gf256 field256 a b (power gf256 (alpha_to gf256 j) (5 + k)));
-}
-
 pub low : (x : ℕ) → x % 256 < 256
 low x = mod-lt x (zero-lt-suc 255)
-
-pub top_byte : (r : ℕ) → r < packed_end → r / 4294967296 < 256
-top_byte r h = omega arith
 
 pub bytes5 : (r : ℕ) → AllBytes (unpacked r)
 bytes5 r = (low _, (low _, (low _, (low _, (low _, tt)))))
@@ -105,9 +65,6 @@ module _ (r : ℕ) (hr : r < packed_end) where
 
   abbrev a0 : ℕ
   a0 = r % 256
-
-  top : r / 4294967296 ≡ a4
-  top = omega arith
 
   -- a byte after a number whose top byte is nothing
   pub moved1 : (b : ℕ) → b < 256 → r < 4294967296 → Moved r (b ∷ []) (r * 256 + b)
@@ -171,12 +128,12 @@ module _ (r : ℕ) (hr : r < packed_end) where
   turned m x y z w v = simp (field256.add_assoc, field256.add_comm, laws.add_left gf256 field256)
 
   module _ (b c d e f x0 x1 x2 x3 x4 : ℕ) (hb : b < 256) (hc : c < 256) (hd : d < 256) (he : e < 256) (hf : f < 256)
-      (X0 : Reduced 0 a0 x0) (X1 : Reduced 1 a1 x1) (X2 : Reduced 2 a2 x2) (X3 : Reduced 3 a3 x3) (X4 : Reduced 4 (r / 4294967296) x4) where
+      (X0 : Reduced 0 a0 x0) (X1 : Reduced 1 a1 x1) (X2 : Reduced 2 a2 x2) (X3 : Reduced 3 a3 x3) (X4 : Reduced 4 a4 x4) where
     abbrev s5 : ℕ
     s5 = b * 4294967296 + c * 16777216 + d * 65536 + e * 256 + f
 
     at_y : (y : ℕ) → at5 y x0 ≡ times a0 (power gf256 y 5) → at5 y x1 ≡ times a1 (power gf256 y 6) → at5 y x2 ≡ times a2 (power gf256 y 7)
-        → at5 y x3 ≡ times a3 (power gf256 y 8) → at5 y x4 ≡ times (r / 4294967296) (power gf256 y 9)
+        → at5 y x3 ≡ times a3 (power gf256 y 8) → at5 y x4 ≡ times a4 (power gf256 y 9)
         → at5 y (bit_xor s5 (bit_xor (bit_xor (bit_xor x0 x1) (bit_xor x2 x3)) x4)) ≡ horn_all y (at5 y r) (b ∷ c ∷ d ∷ e ∷ f ∷ [])
     unfolding at5
     at_y y e0 e1 e2 e3 e4 =
@@ -185,7 +142,7 @@ module _ (r : ℕ) (hr : r < packed_end) where
         (at5_xor y (bit_xor (bit_xor x0 x1) (bit_xor x2 x3)) x4
         ∙ ap₂ bit_xor
         (at5_xor y (bit_xor x0 x1) (bit_xor x2 x3) ∙ ap₂ bit_xor (at5_xor y x0 x1 ∙ ap₂ bit_xor e0 e1) (at5_xor y x2 x3 ∙ ap₂ bit_xor e2 e3))
-        (e4 ∙ ap (λ (a : ℕ). times a (power gf256 y 9)) top))
+        e4)
         ∙ turned (horn_all y 0 (b ∷ c ∷ d ∷ e ∷ f ∷ [])) (times a0 (power gf256 y 5)) (times a1 (power gf256 y 6)) (times a2 (power gf256 y 7))
         (times a3 (power gf256 y 8)) (times a4 (power gf256 y 9))
         ∙ sym

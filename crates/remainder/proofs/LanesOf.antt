@@ -1,25 +1,22 @@
 -- Lanes of one list of cells at once: each is a word of its own.
 use mathlib.Core.Path.{◌≡◌, refl, sym, ap, ◌∙◌, subst}
 use mathlib.Core.List.{List, [], ◌∷◌, ◌++◌, append_assoc}
-use mathlib.Core.Logic.{◌⊎◌, inl, inr, ⊎_elim}
+use mathlib.Core.Logic.{⊎_elim}
 use mathlib.Core.Bool.{Bool, true}
 use Prim.Native.Nat.{ℕ, zero, suc, ◌+◌, ◌*◌, ◌-◌, ◌/◌, ◌%◌, ◌<◌, ◌≤◌}
 use native.Mathlib.Nat.{mul-add, mul-suc, mul-zero, mul-one, mul_comm, mul_assoc, mul-le-mul_left, mul-div-le, div-add-mod, mul-mod_right, mod_self}
 use native.Mathlib.Numerals.{add-one}
 use native.Mathlib.Omega.{arith}
-use borrow.Author.Count.{below_more}
 use lib.Bits.{bit_xor}
 use lib.Dec.{T, eqb, eqb→eq}
-use lib.ListN.{length, get_or, take, drop, set, take-append-drop, length-drop, length-set}
-use lib.Seq.{ext_get_or, get_or-take, get_or-drop, get_or-set_same, get_or-set_other, length-take-le, take-suc, take_all}
+use lib.ListN.{length, get_or, take, drop, take-append-drop, length-drop}
+use lib.Seq.{ext_get_or, get_or-take, get_or-drop, length-take-le, take-suc, take_all}
 use Rattle.rules.proofs.Numbers.{lt_or_ge}
 use Rattle.account.specs.Lanes.{lane}
 use Rattle.account.proofs.Test.{both, both_left, both_right}
-use Rattle.account.proofs.Lanes.{length_lane, get_d_lane, get_d_past, cell_below, columns_of}
-use Rattle.remainder.specs.Remainder.{packed_end, Reduced, Moved, Remains, LanesTo, LanesRemain, LanesCheck, Room, five_at, RowTo, RowMoved, RowsMoved}
-use Rattle.reductions.specs.Tables.{fifth, sixth, seventh, eighth, ninth}
-use Rattle.remainder.proofs.Kernel.{AllBytes, moved1, moved5, low, top_byte}
-use Rattle.remainder.proofs.Rules.{at_5, at_6, at_7, at_8, at_9}
+use Rattle.account.proofs.Lanes.{length_lane, get_d_lane, get_d_past, columns_of}
+use Rattle.remainder.specs.Remainder.{packed_end, Reduced, Moved, Remains, LanesTo, LanesRemain, LanesCheck, Room, five_at, RowMoved, RowsMoved}
+use Rattle.remainder.proofs.Kernel.{AllBytes, moved1, moved5}
 use Rattle.remainder.proofs.Whole.{begins, goes_on, moved_none, moved_more, checked}
 
 -- one element more, and five
@@ -45,26 +42,22 @@ five_same : (R : ℕ) (s : List ℕ) (p a b c d e : ℕ) → a ≡ get_or s p 0 
     → a ∷ b ∷ c ∷ d ∷ e ∷ [] ≡ five_at R s p
 five_same R s p a b c d e ea eb ec ed ee = rw (ea, eb, ec, ed, ee)
 
--- a step, from the bytes read and the entries looked up
-pub stepped : (R : ℕ) (s : List ℕ) (p r : ℕ) → r < packed_end → (a b c d e x0 x1 x2 x3 x4 : ℕ) → (a ≡ get_or s p 0) × (a < 256)
-    → (b ≡ get_or s (p + R) 0) × (b < 256)
-    → (c ≡ get_or s (p + 2 * R) 0) × (c < 256) → (d ≡ get_or s (p + 3 * R) 0) × (d < 256) → (e ≡ get_or s (p + 4 * R) 0) × (e < 256)
-    → x0 ≡ get_or fifth (r % 256) 0 → x1 ≡ get_or sixth (r / 256 % 256) 0 → x2 ≡ get_or seventh (r / 65536 % 256) 0
-    → x3 ≡ get_or eighth (r / 16777216 % 256) 0 → x4 ≡ get_or ninth (r / 4294967296) 0
+-- a step, from the bytes read and the bytes z0 .. z4 of r, reduced
+pub stepped : (R : ℕ) (s : List ℕ) (p r : ℕ) → r < packed_end → (a b c d e : ℕ) → a < 256 → b < 256 → c < 256 → d < 256 → e < 256
+    → a ≡ get_or s p 0 → b ≡ get_or s (p + R) 0 → c ≡ get_or s (p + 2 * R) 0 → d ≡ get_or s (p + 3 * R) 0 → e ≡ get_or s (p + 4 * R) 0
+    → (z0 z1 z2 z3 z4 x0 x1 x2 x3 x4 : ℕ) → z0 ≡ r % 256 → z1 ≡ r / 256 % 256 → z2 ≡ r / 65536 % 256 → z3 ≡ r / 16777216 % 256 → z4 ≡ r / 4294967296 % 256
+    → Reduced 0 z0 x0 → Reduced 1 z1 x1 → Reduced 2 z2 x2 → Reduced 3 z3 x3 → Reduced 4 z4 x4
     → Moved r (five_at R s p) (bit_xor (a * 4294967296 + b * 16777216 + c * 65536 + d * 256 + e) (bit_xor (bit_xor (bit_xor x0 x1) (bit_xor x2 x3)) x4))
-stepped R s p r h a b c d e x0 x1 x2 x3 x4 A B C D E e0 e1 e2 e3 e4 =
+stepped R s p r h a b c d e ha hb hc hd he ea eb ec ed ee z0 z1 z2 z3 z4 x0 x1 x2 x3 x4 e0 e1 e2 e3 e4 X0 X1 X2 X3 X4 =
     subst (λ (v : List ℕ). Moved r v (bit_xor (a * 4294967296 + b * 16777216 + c * 65536 + d * 256 + e) (bit_xor (bit_xor (bit_xor x0 x1) (bit_xor x2 x3)) x4)))
-    (five_same R s p a b c d e A.0 B.0 C.0 D.0 E.0)
-    (moved5 r h a b c d e x0 x1 x2 x3 x4 A.1 B.1 C.1 D.1 E.1
-    (subst (Reduced 0 (r % 256)) (sym e0) (at_5 (r % 256) (low r))) (subst (Reduced 1 (r / 256 % 256)) (sym e1) (at_6 (r / 256 % 256) (low (r / 256))))
-    (subst (Reduced 2 (r / 65536 % 256)) (sym e2) (at_7 (r / 65536 % 256) (low (r / 65536))))
-    (subst (Reduced 3 (r / 16777216 % 256)) (sym e3) (at_8 (r / 16777216 % 256) (low (r / 16777216))))
-    (subst (Reduced 4 (r / 4294967296)) (sym e4) (at_9 (r / 4294967296) (top_byte r h))))
+    (five_same R s p a b c d e ea eb ec ed ee)
+    (moved5 r h a b c d e x0 x1 x2 x3 x4 ha hb hc hd he
+    (subst (λ (z : ℕ). Reduced 0 z x0) e0 X0) (subst (λ (z : ℕ). Reduced 1 z x1) e1 X1) (subst (λ (z : ℕ). Reduced 2 z x2) e2 X2)
+    (subst (λ (z : ℕ). Reduced 3 z x3) e3 X3) (subst (λ (z : ℕ). Reduced 4 z x4) e4 X4))
 
 module _ (R : ℕ) where
   -- the first h cells of the lanes below j
   pub record HeadTo (s : List ℕ) (h : ℕ) (x : List ℕ) (j : ℕ) : Type 0 where
-    pub within : j ≤ R
     pub long : length x ≡ 16
     pub done : (i : ℕ) → i < j → Remains (take h (lane R i s)) (get_or x i 0)
 
@@ -76,9 +69,8 @@ module _ (R : ℕ) where
     pub long : length x ≡ 16
     pub moved : (j : ℕ) → j < R → Moved (get_or o j 0) (take (5 * m) (lane R j s)) (get_or x j 0)
 
-  -- after i cells of lane j, the next at p
-  pub record Few (s : List ℕ) (j x p i : ℕ) : Type 0 where
-    pub at : p ≡ R * i + j
+  -- after i cells of lane j
+  pub record Few (s : List ℕ) (j x i : ℕ) : Type 0 where
     pub small : i ≤ 4 → x < 4294967296
     pub smaller : i ≤ 3 → x < 16777216
     pub smallest : i ≤ 2 → x < 65536
@@ -106,64 +98,6 @@ module _ (R : ℕ) (some : 0 < R) where
       at1 : get_or s (R * i + j + R) 0 ≡ get_or (lane R j s) (i + 1) 0
       at1 = let z : R * i + j + R ≡ R * i + j + 1 * R = omega arith in ap (λ (p : ℕ). get_or s p 0) z ∙ at 1 (omega arith)
 
-  -- ---- a row
-
-  pub row_0 : (s : List ℕ) (q a : ℕ) (o : List ℕ) → a ≤ R → RowTo R s q a o o a
-  row_0 s q a o w =
-      record { from = omega arith; within = w; long = refl; done = λ i h l. absurd (omega arith); front = λ i h. refl; rest = λ i h. refl }
-
-  pub row_more : (s : List ℕ) (q a : ℕ) (o x : List ℕ) (j v : ℕ) → j < R → j < length o → RowTo R s q a o x j → Moved (get_or x j 0) (five_at R s (q + j)) v
-      → RowTo R s q a o (set x j v) (j + 1)
-  row_more s q a o x j v hj room W N = record {
-    from = omega (arith, W.from);
-    within = omega arith;
-    long = simp length-set W.long;
-    done = λ i h l. below_more (λ i. a ≤ i → Moved (get_or o i 0) (five_at R s (q + i)) (get_or (set x j v) i 0)) j
-        (λ i l h. subst (Moved (get_or o i 0) (five_at R s (q + i))) (sym (get_or-set_other x j i v 0 (λ e. omega (arith, e)))) (W.done i h l))
-        (λ h. subst (Moved (get_or o j 0) (five_at R s (q + j))) (sym (get_or-set_same x j v 0 (omega (arith, W.long))))
-        (subst (λ (r : ℕ). Moved r (five_at R s (q + j)) v) (W.rest j (omega arith)) N)) i l h;
-    front = λ i h. get_or-set_other x j i v 0 (λ e. omega (arith, e, W.from)) ∙ W.front i h;
-    rest = λ i h. get_or-set_other x j i v 0 (λ e. omega (arith, e)) ∙ W.rest i (omega arith);
-  }
-
-  -- group after group
-  pub row_after : (s : List ℕ) (q j k : ℕ) (o x y : List ℕ) → RowTo R s q 0 o x j → RowTo R s q j x y k → RowTo R s q 0 o y k
-  row_after s q j k o x y W X = record {
-    from = omega arith;
-    within = X.within;
-    long = X.long ∙ W.long;
-    done = λ i h l. go i l (lt_or_ge i j);
-    front = λ i h. absurd (omega arith);
-    rest = λ i h. X.rest i h ∙ W.rest i (omega (arith, X.from));
-  }
-    where
-      go : (i : ℕ) → i < k → (i < j) ⊎ (j ≤ i) → Moved (get_or o i 0) (five_at R s (q + i)) (get_or y i 0)
-      go i l (inl b) = subst (Moved (get_or o i 0) (five_at R s (q + i))) (sym (X.front i b)) (W.done i (omega arith) b)
-      go i l (inr g) = subst (λ (r : ℕ). Moved r (five_at R s (q + i)) (get_or y i 0)) (W.rest i g) (X.done i g l)
-
-  -- and the numbers stay small
-  pub row_small : (s : List ℕ) (q a : ℕ) (o x : List ℕ) (j : ℕ) → Room R o → RowTo R s q a o x j → (i : ℕ) → i < R → get_or x i 0 < packed_end
-  row_small s q a o x j room W i h = go (lt_or_ge i a) (lt_or_ge i j)
-    where
-      go : (i < a) ⊎ (a ≤ i) → (i < j) ⊎ (j ≤ i) → get_or x i 0 < packed_end
-      go (inl b) _ = rw (W.front i b) (room.small i h)
-      go (inr g) (inl b) = (W.done i g b).small
-      go (inr g) (inr k) = rw (W.rest i k) (room.small i h)
-
-  pub row_keeps : (s : List ℕ) (q a : ℕ) (o x : List ℕ) (j : ℕ) → Room R o → RowTo R s q a o x j → Room R x
-  row_keeps s q a o x j room W =
-      record { some = room.some; few = room.few; long = W.long ∙ room.long; small = row_small s q a o x j room W }
-
-  pub head_more : (s : List ℕ) (h : ℕ) (x : List ℕ) (j v : ℕ) → j < R → j < 16 → HeadTo R s h x j → Remains (take h (lane R j s)) v
-      → HeadTo R s h (set x j v) (j + 1)
-  head_more s h x j v hj room W N = record {
-    within = omega arith;
-    long = simp length-set W.long;
-    done = below_more (λ i. Remains (take h (lane R i s)) (get_or (set x j v) i 0)) j
-        (λ i l. subst (Remains (take h (lane R i s))) (sym (get_or-set_other x j i v 0 (λ e. omega (arith, e)))) (W.done i l))
-        (subst (Remains (take h (lane R j s))) (sym (get_or-set_same x j v 0 (omega (arith, W.long)))) N);
-  }
-
   -- ---- rows
 
   module _ (s o : List ℕ) (room : Room R o) (whole : length s % (5 * R) ≡ 0) where
@@ -190,11 +124,8 @@ module _ (R : ℕ) (some : 0 < R) where
       below h =
           ⊎_elim (λ l. l) (λ l. absurd (omega (arith, W.at, all, mul-le-mul_left (5 * R) l))) (lt_or_ge W.m (length s / (5 * R)))
 
-      pub row_fits : q < length s → q + 5 * R ≤ length s
+      row_fits : q < length s → q + 5 * R ≤ length s
       row_fits h = omega (arith, W.at, all, mul-le-mul_left (5 * R) (below h), mul-suc (5 * R) W.m)
-
-      pub row_room : Room R x
-      row_room = record { some = room.some; few = room.few; long = W.long; small = λ j h. (W.moved j h).small }
 
       pub rows_more : (x' : List ℕ) → q < length s → length x' ≡ length x → RowMoved R s q x x' → Rows R s o x' (q + 5 * R)
       rows_more x' h long N = record {
@@ -224,9 +155,8 @@ module _ (R : ℕ) (some : 0 < R) where
 
   -- ---- the first cells
 
-  pub few_0 : (s : List ℕ) (j : ℕ) → Few R s j 0 j 0
+  pub few_0 : (s : List ℕ) (j : ℕ) → Few R s j 0 0
   few_0 s j = record {
-    at = omega (arith, mul-zero R);
     small = λ _. omega arith;
     smaller = λ _. omega arith;
     smallest = λ _. omega arith;
@@ -235,13 +165,9 @@ module _ (R : ℕ) (some : 0 < R) where
     remains = begins;
   }
 
-  pub few_cell : (s : List ℕ) (j x p i : ℕ) → j < R → i < length s / R → Few R s j x p i → p < length s
-  few_cell s j x p i hj hi W = omega (arith, W.at, cell_below R some (length s) i j hj hi)
-
-  pub few_more : (s : List ℕ) (j x p i b : ℕ) → j < R → i < length s / R → i < 4 → b < 256 → b ≡ get_or s p 0 → Few R s j x p i
-      → Few R s j (x * 256 + b) (p + R) (i + 1)
-  few_more s j x p i b hj hi h4 hb e W = record {
-    at = omega (arith, W.at, mul-add R i 1, mul-one R);
+  pub few_more : (s : List ℕ) (j x i b : ℕ) → j < R → i < length s / R → i < 4 → b < 256 → b ≡ get_or s (R * i + j) 0 → Few R s j x i
+      → Few R s j (x * 256 + b) (i + 1)
+  few_more s j x i b hj hi h4 hb e W = record {
     small = λ l. omega (arith, W.smaller (omega arith), hb);
     smaller = λ l. omega (arith, W.smallest (omega arith), hb);
     smallest = λ l. omega (arith, W.one (omega arith), hb);
@@ -254,7 +180,7 @@ module _ (R : ℕ) (some : 0 < R) where
   }
     where
       byte : get_or (lane R j s) i 0 ≡ b
-      byte = get_d_lane R some j s i hi ∙ ap (λ (n : ℕ). get_or s n 0) (sym W.at) ∙ sym e
+      byte = get_d_lane R some j s i hi ∙ sym e
 
   -- ---- a lane, its first cells and the others
 
@@ -344,10 +270,7 @@ zero_room R l a b e t = record { some = a; few = b; long = e; small = λ j h. om
 -- ---- what the whole asks
 
 module _ (R : ℕ) (some : 0 < R) (s : List ℕ) where
-  pub head_inside : R * (length s / R % 5) ≤ R * (length s / R)
-  head_inside = mul-le-mul_left R (omega arith)
-
-  pub all_inside : R * (length s / R) ≤ length s
+  all_inside : R * (length s / R) ≤ length s
   all_inside = mul-div-le (length s) R
 
   pub rest_whole : length (take (R * (length s / R) - R * (length s / R % 5)) (drop (R * (length s / R % 5)) s)) % (5 * R) ≡ 0
@@ -372,15 +295,15 @@ module _ (R : ℕ) (some : 0 < R) (s : List ℕ) where
 
 -- the first cells of eighty zeros
 pub zero_part : (R : ℕ) (l : List ℕ) → R ≤ 16 → length l ≡ 80 → T (all_zero l)
-    → (length (take (5 * R - 0) l) ≡ 5 * R) × ((p : ℕ) → get_or (take (5 * R - 0) l) p 0 ≡ 0)
+    → (length (take (5 * R) l) ≡ 5 * R) × ((p : ℕ) → get_or (take (5 * R) l) p 0 ≡ 0)
 zero_part R l h e t = (
   long,
-  λ p. ⊎_elim (λ k. get_or-take (5 * R - 0) l p 0 k ∙ zero_at l t p) (λ k. get_d_past (take (5 * R - 0) l) p (omega (arith, long)))
-      (lt_or_ge p (5 * R - 0)),
+  λ p. ⊎_elim (λ k. get_or-take (5 * R) l p 0 k ∙ zero_at l t p) (λ k. get_d_past (take (5 * R) l) p (omega (arith, long)))
+      (lt_or_ge p (5 * R)),
 )
   where
-    long : length (take (5 * R - 0) l) ≡ 5 * R
-    long = length-take-le (5 * R - 0) l (omega arith) ∙ omega arith
+    long : length (take (5 * R) l) ≡ 5 * R
+    long = length-take-le (5 * R) l (omega arith) ∙ omega arith
 
 pub fives_whole : (R k : ℕ) → k ≡ 5 * R → k % (5 * R) ≡ 0
 fives_whole R k e = ap (λ (x : ℕ). x % (5 * R)) e ∙ mod_self (5 * R)

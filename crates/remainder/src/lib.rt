@@ -3,19 +3,13 @@
 // whose chains of steps need not wait for each other.
 #![tactic(auto)]
 
-ghost use Rattle.std.specs.Prelude.{◌≡◌, ◌+◌, ◌*◌, ◌/◌, ◌%◌, ◌<◌, ◌≤◌, length};
+ghost use Rattle.std.specs.Prelude.{◌≡◌, ◌+◌, ◌*◌, ◌/◌, ◌%◌, ◌<◌, ◌≤◌, min, length};
 ghost use Rattle.account.specs.Code.{syndrome};
 ghost use Rattle.gf256.specs.Gf256.{gf256};
-ghost use Rattle.remainder.specs.Remainder.{packed_end, Remains, Checks, LanesTo, LanesRemain, LanesCheck, five_at, FewOf, Room, Moved, lower, RowTo, RowMoved, RowsMoved, unpacked};
+ghost use Rattle.remainder.specs.Remainder.{packed_end, Remains, Checks, LanesTo, LanesRemain, LanesCheck, five_at, FewOf, Room, Moved, RowTo, RowMoved, RowsMoved, unpacked};
 
 // Room for the numbers of sixteen lanes.
-const LANES: usize = 16;
-
-fn wide(x: u8) -> u64
-    ensures { (result ≡ x) × (result < 256) }
-{
-    x as u64
-}
+pub const LANES: usize = 16;
 
 // The lowest byte.
 pub fn low(x: u64) -> u8
@@ -24,35 +18,46 @@ pub fn low(x: u64) -> u8
     (x % 256) as u8
 }
 
-// Five cells more of a lane: those at p, p + lanes and so on. Each table is used in this one place, so that it stays one load.
+// The five packed bytes, the highest power first.
+pub fn bytes(x: u64) -> [u8; 5]
+    ensures { result ≡ unpacked x }
+{
+    [
+        low(x / 4294967296),
+        low(x / 16777216),
+        low(x / 65536),
+        low(x / 256),
+        low(x),
+    ]
+}
+
+// Five cells more of a lane: those at p, p + lanes and so on. The five bytes are spelled out and no loop is made of them, since this is timed.
 fn step(s: &[u8], lanes: usize, p: usize, r: u64) -> u64
     requires { (r < packed_end) × (lanes ≤ 16) × (p + 4 * lanes < length s.now) }
     ensures { Moved r (five_at lanes s.now p) result }
 {
-    let high = wide(s[p]) * 4294967296 + wide(s[p + lanes]) * 16777216;
-    let five = high
-        + wide(s[p + 2 * lanes]) * 65536
-        + wide(s[p + 3 * lanes]) * 256
-        + wide(s[p + 4 * lanes]);
-    let a = reductions::at_5((r % 256) as usize) ^ reductions::at_6((r / 256 % 256) as usize);
-    let b = reductions::at_7((r / 65536 % 256) as usize)
-        ^ reductions::at_8((r / 16777216 % 256) as usize);
-    five ^ ((a ^ b) ^ reductions::at_9((r / 4294967296) as usize))
+    let five = u64::from(s[p]) * 4294967296
+        + u64::from(s[p + lanes]) * 16777216
+        + u64::from(s[p + 2 * lanes]) * 65536
+        + u64::from(s[p + 3 * lanes]) * 256
+        + u64::from(s[p + 4 * lanes]);
+    let a = reductions::at(0, low(r)) ^ reductions::at(1, low(r / 256));
+    let b = reductions::at(2, low(r / 65536)) ^ reductions::at(3, low(r / 16777216));
+    five ^ ((a ^ b) ^ reductions::at(4, low(r / 4294967296)))
 }
 
 // Five cells more of each lane from lane j on, of four at most. The loop has no more turns than that, whatever the lanes, and so the compiler
 // writes it out.
 fn group(s: &[u8], lanes: usize, q: usize, j: usize, out: &mut [u64; LANES])
     requires { Room lanes out.old × (q + 5 * lanes ≤ length s.now) × (j ≤ lanes) }
-    ensures { RowTo lanes s.now q j out.old out.new (lower (j + 4) lanes) }
+    ensures { RowTo lanes s.now q j out.old out.new (min (j + 4) lanes) }
 {
-    let mut i: usize = 0;
-    while i < 4 {
-        if lanes <= j + i {
+    for i in 0..4 {
+        let l = j + i;
+        if lanes <= l {
             return;
         }
-        out[j + i] = step(s, lanes, q + (j + i), out[j + i]);
-        i += 1;
+        out[l] = step(s, lanes, q + l, out[l]);
     }
 }
 
@@ -61,10 +66,8 @@ fn row(s: &[u8], lanes: usize, q: usize, out: &mut [u64; LANES])
     requires { Room lanes out.old × (q + 5 * lanes ≤ length s.now) }
     ensures { RowMoved lanes s.now q out.old out.new × (length out.new ≡ 16) }
 {
-    let mut j: usize = 0;
-    while j < lanes {
+    for j in (0..lanes).step_by(4) {
         group(s, lanes, q, j, out);
-        j += 4;
     }
 }
 
@@ -73,10 +76,8 @@ fn rows(s: &[u8], lanes: usize, out: &mut [u64; LANES])
     requires { Room lanes out.old × (length s.now % (5 * lanes) ≡ 0) }
     ensures { RowsMoved lanes s.now out.old out.new × (length out.new ≡ 16) }
 {
-    let mut q: usize = 0;
-    while q < s.len() {
+    for q in (0..s.len()).step_by(5 * lanes) {
         row(s, lanes, q, out);
-        q += 5 * lanes;
     }
 }
 
@@ -86,12 +87,8 @@ fn few(s: &[u8], lanes: usize, j: usize, h: usize) -> u64
     ensures { FewOf lanes j h s.now result }
 {
     let mut x: u64 = 0;
-    let mut p = j;
-    let mut i: usize = 0;
-    while i < h {
-        x = x * 256 + wide(s[p]);
-        p += lanes;
-        i += 1;
+    for i in 0..h {
+        x = x * 256 + u64::from(s[lanes * i + j]);
     }
     x
 }
@@ -101,14 +98,13 @@ fn heads(s: &[u8], lanes: usize, h: usize, out: &mut [u64; LANES])
     requires { Room lanes out.old × (h ≤ 4) × (h ≤ length s.now / lanes) }
     ensures { LanesTo lanes h s.now out.new × (length out.new ≡ 16) }
 {
-    let mut j: usize = 0;
-    while j < lanes {
+    for j in 0..lanes {
         out[j] = few(s, lanes, j, h);
-        j += 1;
     }
 }
 
-// The remainders of the lanes of s. Cells after the last whole column count for nothing.
+// The remainders of the lanes of s. Cells after the last whole column count for nothing. The lane count stays a number with its clause, here and
+// above: it is in every index and length, and a word is one lane.
 pub fn remainders(s: &[u8], lanes: usize) -> [u64; LANES]
     requires { (1 ≤ lanes) × (lanes ≤ 16) }
     ensures { LanesRemain lanes s.now result }
@@ -128,7 +124,7 @@ pub fn lane_checks_of(data: &[u8], lanes: usize) -> [u64; LANES]
 {
     let zeros = [0u8; 80];
     let mut out = remainders(data, lanes);
-    rows(&zeros[0..5 * lanes], lanes, &mut out);
+    rows(&zeros[..5 * lanes], lanes, &mut out);
     out
 }
 
@@ -136,16 +132,14 @@ pub fn lane_checks_of(data: &[u8], lanes: usize) -> [u64; LANES]
 pub fn remainder_of(w: &[u8]) -> u64
     ensures { Remains w.now result }
 {
-    let r = remainders(w, 1);
-    r[0]
+    remainders(w, 1)[0]
 }
 
 // The five check bytes after data.
 pub fn checks_of(data: &[u8]) -> u64
     ensures { Checks «data».now result }
 {
-    let x = lane_checks_of(data, 1);
-    x[0]
+    lane_checks_of(data, 1)[0]
 }
 
 // The five sums of the packed bytes, packed too: those of each half byte, added.
@@ -154,11 +148,9 @@ fn sums(r: u64) -> u64
 {
     let mut x: u64 = 0;
     let mut rest = r;
-    let mut k: usize = 0;
-    while k < 10 {
-        x = x ^ reductions::sums_at(16 * k + (rest % 16) as usize);
-        rest = rest / 16;
-        k += 1;
+    for k in 0..10 {
+        x ^= reductions::sums_at(k, (rest % 16) as usize);
+        rest /= 16;
     }
     x
 }
@@ -167,12 +159,5 @@ fn sums(r: u64) -> u64
 pub fn syndrome_of(r: u64) -> [u8; 5]
     ensures { result ≡ syndrome gf256 (unpacked r) }
 {
-    let x = sums(r);
-    [
-        low(x / 4294967296),
-        low(x / 16777216),
-        low(x / 65536),
-        low(x / 256),
-        low(x),
-    ]
+    bytes(sums(r))
 }

@@ -7,7 +7,28 @@ use Prim.Native.Nat.{ℕ, zero, suc, ◌≤◌}
 use native.Mathlib.Decide.{ℕ_discrete}
 use native.Mathlib.Omega.{arith}
 use lib.Dec.{T, leb, leb→le}
-use Rattle.rules.specs.Refusal.{Rule, First, Hold, Question, asked, Numbers}
+use Rattle.rules.specs.declared.Refusal.{Refusal}
+use Rattle.rules.specs.declared.Refusal.TheVariants as refusal
+use Rattle.rules.specs.Refusal.{Rule, First, Hold, Question, asked, Numbers, number_of}
+
+-- ---- refusals have numbers
+
+pub some_number : (r : Refusal) → number_of r ≢ 0
+some_number refusal.Length e = omega arith
+some_number refusal.MarkCount e = omega arith
+some_number refusal.Mark e = omega arith
+some_number refusal.Buffer e = omega arith
+some_number refusal.Scratch e = omega arith
+some_number refusal.OutOfReach e = omega arith
+some_number refusal.Fields e = omega arith
+some_number refusal.Shape e = omega arith
+some_number refusal.TileCode e = omega arith
+some_number refusal.Board e = omega arith
+some_number refusal.Text e = omega arith
+some_number refusal.Rows e = omega arith
+some_number refusal.Unequal e = omega arith
+some_number refusal.NotTiny e = omega arith
+some_number refusal.LaneCount e = omega arith
 
 -- ---- one number
 

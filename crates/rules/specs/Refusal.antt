@@ -1,5 +1,30 @@
 -- Refusals: rules asked in their order, and the number of the first that does not hold.
-use Rattle.std.specs.Prelude.{◌≡◌, ◌⊎◌, List, [], ◌∷◌, ℕ, ◌≤◌}
+use Rattle.std.specs.Prelude.{◌≡◌, ◌⊎◌, List, [], ◌∷◌, ℕ, ◌≤◌, Result, Ok, Err}
+use Rattle.rules.specs.declared.Refusal.{Refusal}
+use Rattle.rules.specs.declared.Refusal.TheVariants as refusal
+
+-- FORMAT 9.1 to 9.15: the number of a refusal
+abbrev pub number_of : Refusal → ℕ
+number_of refusal.Length = 1
+number_of refusal.MarkCount = 2
+number_of refusal.Mark = 3
+number_of refusal.Buffer = 4
+number_of refusal.Scratch = 5
+number_of refusal.OutOfReach = 6
+number_of refusal.Fields = 7
+number_of refusal.Shape = 8
+number_of refusal.TileCode = 9
+number_of refusal.Board = 10
+number_of refusal.Text = 11
+number_of refusal.Rows = 12
+number_of refusal.Unequal = 13
+number_of refusal.NotTiny = 14
+number_of refusal.LaneCount = 15
+
+-- FORMAT 9.42: the code of an answer, 0 where there is a result
+abbrev pub code_of : {A : Type 0} → Result A Refusal → ℕ
+code_of (Ok a) = 0
+code_of (Err r) = number_of r
 
 -- what must hold, and the number of the refusal where it does not
 pub record Rule : Type 1 where
@@ -48,6 +73,11 @@ done v = record { code = 0; value = v }
 
 abbrev pub refused : ℕ → Numbers
 refused c = record { code = c; value = 0 }
+
+-- of an answer that is a length
+abbrev pub written_numbers : Result ℕ Refusal → Numbers
+written_numbers (Ok n) = done n
+written_numbers (Err r) = refused (number_of r)
 
 -- a length from a to b
 pub record Within (a b n : ℕ) : Type 0 where

@@ -24,8 +24,7 @@ use Rattle.level.proofs.Mended.{reached_spells}
 use Rattle.level.proofs.Counts.{legal_some}
 use Rattle.level.proofs.Theorems.{wear_one}
 use Rattle.level.proofs.Unread.{same_reached, same_mends, same_mendable, same_mended}
-use Rattle.strip.specs.declared.read.Reading.{Reading}
-use Rattle.strip.specs.Reading.{strip_numbers, LevelRead, ReadsWith}
+use Rattle.strip.specs.Reading.{Reading, strip_numbers, LevelRead, ReadsWith}
 use Rattle.strip.proofs.Reader.{zeros, not_six}
 
 -- ---- the numbers of an answer

@@ -1,5 +1,5 @@
 -- The record, its filling and the check cells are the level's strip.
-use mathlib.Core.Path.{◌≡◌, refl, sym, ap, ◌∙◌, subst}
+use mathlib.Core.Path.{◌≡◌, sym, ap, ◌∙◌, subst}
 use mathlib.Core.Logic.{◌⊎◌, inl, inr}
 use mathlib.Core.List.{List}
 use Prim.Native.Nat.{ℕ, ◌+◌, ◌*◌, ◌-◌, ◌≤◌, ◌<◌}
@@ -10,21 +10,19 @@ use lib.Seq.{ext_get_or, get_or-take, get_or-drop, length-take-le}
 use Rattle.account.specs.Code.{Cells}
 use Rattle.account.proofs.Lanes.{get_d_past, cell}
 use Rattle.gf256.specs.Gf256.{gf256}
-use Rattle.rules.specs.Refusal.{First, Within, asked}
+use Rattle.rules.specs.Refusal.{Within}
 use Rattle.rules.specs.Placed.{Placed}
 use Rattle.dealt.specs.Lanes.{ChecksPut}
-use Rattle.code.specs.declared.word.Written.TheVariants as written
 use Rattle.level.specs.Sizes.{strip_most}
-use Rattle.level.specs.Level.{Level, IsLevel, lending}
+use Rattle.level.specs.Level.{Level, IsLevel}
 use Rattle.level.specs.Record.{record_length}
 use Rattle.level.specs.Strip.{LaneCount, columns, IsStrip}
-use Rattle.level.specs.Writing.{writing_strip}
 use Rattle.rules.proofs.Numbers.{lt_or_ge}
 use Rattle.level.proofs.Dealing.{within}
 use Rattle.level.proofs.Lengths.{lanes_within, columns_few, strip_short}
 use Rattle.lending.specs.Lending.{RecordPut}
 use Rattle.fields.proofs.Tiles.{area_small}
-use Rattle.strip.specs.Writing.{strip_length, LaidAs, StripWritesAs}
+use Rattle.strip.specs.Writing.{strip_length, LaidAs}
 
 -- how far a record reaches
 pub record_fits : (l : Level) → IsLevel l → (4 ≤ record_length l.width l.height) × (record_length l.width l.height ≤ 364)
@@ -136,19 +134,3 @@ module _ (R : ℕ) (some : 0 < R) (l : Level) (o x1 x2 x3 : List ℕ) (b k : ℕ
     where
       length_is : R * (k + 5) ≡ strip_length R l
       length_is = ap (λ (n : ℕ). R * (n + 5)) (ek ∙ ap (columns R) put.size)
-
--- ---- the writer's answers
-
-module _ (R : ℕ) (l : Level) (old : List ℕ) where
-  pub wrote_none : (c : ℕ) → (c ≡ 0 → ⊥) → First (writing_strip R l (length old)) c → StripWritesAs R l old old (written.Refused c)
-  wrote_none c n f = record { code = f; value = λ z. absurd (n z); strip = λ z. absurd (n z); past = λ z. absurd (n z); kept = λ _. refl }
-
-  pub wrote_strip : (new : List ℕ) (c n : ℕ) → LaneCount R → strip_most ≤ length old → c ≡ 0 → First (asked (λ ask. ask l) (lending 2)) c → LaidAs R l old new n
-      → StripWritesAs R l old new (written.Length n)
-  wrote_strip new c n lanes room z f L = record {
-    code = inr (lanes, inr (room, subst (First (asked (λ ask. ask l) (lending 2))) z f));
-    value = λ _. L.size;
-    strip = λ _. L.strip;
-    past = λ _. L.past;
-    kept = λ k. absurd (k refl);
-  }

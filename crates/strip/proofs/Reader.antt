@@ -8,8 +8,11 @@ use native.Mathlib.Omega.{arith}
 use lib.ListN.{length, take}
 use Rattle.gf256.specs.Gf256.{gf256}
 use Rattle.gf256.proofs.Field256.{field256}
-use Rattle.rules.specs.Refusal.{First, Hold, Within, asked}
-use Rattle.rules.proofs.Laws.{before, after, stops, numbered, at_most, none_first}
+use Rattle.std.specs.Prelude.{Ok, Err}
+use Rattle.rules.specs.declared.Refusal.{Refusal}
+use Rattle.rules.specs.declared.Refusal.TheVariants as refusal
+use Rattle.rules.specs.Refusal.{First, Hold, Within, asked, number_of}
+use Rattle.rules.proofs.Laws.{some_number, before, after, stops, numbered, at_most, none_first}
 use Rattle.level.specs.Sizes.{scratch_least}
 use Rattle.level.specs.Level.{Level}
 use Rattle.level.specs.Strip.{LaneCount, Legal, Reached, Mends, Lowest, mended_of, repainted_of, IsWear}
@@ -20,12 +23,10 @@ use Rattle.level.proofs.Strips.{mendable, reached_mends}
 use Rattle.level.proofs.Mended.{level_reached, reached_spells, found, none_reached}
 use Rattle.patches.specs.Patched.{patched}
 use Rattle.patches.proofs.Patching.{patched_0, length_patched}
-use Rattle.fields.specs.declared.judged.Judged.{Judged}
+use Rattle.fields.specs.declared.head.Head.{Head}
 use Rattle.fields.specs.Judged.{AcceptedAs}
 use Rattle.fields.proofs.Accepting.{passed, level_is, tiles_past}
-use Rattle.strip.specs.declared.read.Reading.{Reading}
-use Rattle.strip.specs.declared.read.Reading.TheVariants as reading
-use Rattle.strip.specs.Reading.{strip_numbers, LevelRead, StripReadsAs, FinishedAs}
+use Rattle.strip.specs.Reading.{Reading, strip_numbers, LevelRead, StripReadsAs, FinishedAs}
 
 -- nothing that is asked early is refused with 6
 pub not_six : (least R : ℕ) (s marks : List ℕ) (room scratch c : ℕ) → First (naming R ∷ entering_with least R s marks room scratch) c → c ≢ 6
@@ -35,37 +36,37 @@ not_six least R s marks room scratch c (inr p) e = omega (arith, e, at_most 5 (e
 module _ (upto R : ℕ) where
   -- ---- with what was mended and repainted
 
-  module _ (bs tiles tiles' : List ℕ) (N e d : ℕ) (j : Judged) (A : AcceptedAs upto R bs tiles tiles' j) where
-    pub finish_refused : (j.code ≡ 0 → ⊥) → FinishedAs upto R bs N e d tiles tiles' (refused_at j.code 0)
-    finish_refused n = record {
+  module _ (bs tiles tiles' : List ℕ) (N e d : ℕ) where
+    pub finish_refused : (r : Refusal) → AcceptedAs upto R bs tiles tiles' (Err r) → FinishedAs upto R bs N e d tiles tiles' (refused_at (number_of r) 0)
+    finish_refused r A = record {
       first = A.first;
       lane = refl;
-      version = λ z. absurd (n z);
-      wide = λ z. absurd (n z);
-      high = λ z. absurd (n z);
-      par = λ z. absurd (n z);
-      mended = λ z. absurd (n z);
-      repainted = λ z. absurd (n z);
-      wear = λ z. absurd (n z);
-      lanes = λ z. absurd (n z);
-      tiles_are = λ z. absurd (n z);
-      kept = A.kept;
+      version = λ z. absurd (some_number r z);
+      wide = λ z. absurd (some_number r z);
+      high = λ z. absurd (some_number r z);
+      par = λ z. absurd (some_number r z);
+      mended = λ z. absurd (some_number r z);
+      repainted = λ z. absurd (some_number r z);
+      wear = λ z. absurd (some_number r z);
+      lanes = λ z. absurd (some_number r z);
+      tiles_are = λ z. absurd (some_number r z);
+      kept = λ _. A.kept;
     }
 
-    pub finish_read : (v : ℕ) → j.code ≡ 0 → IsWear e N v → FinishedAs upto R bs N e d tiles tiles'
-        (strip_numbers (reading.Read j.version j.width j.height j.par e d v R))
-    finish_read v z ev = record {
-      first = subst (First (asked (λ ask. ask bs) (judging upto R))) z A.first;
+    pub finish_read : (f : Head) (v : ℕ) → IsWear e N v → AcceptedAs upto R bs tiles tiles' (Ok f) → FinishedAs upto R bs N e d tiles tiles'
+        (strip_numbers (Ok (record { version = f.version; width = f.width; height = f.height; par = f.par; mended = e; repainted = d; wear = v; lanes = R })))
+    finish_read f v ev A = record {
+      first = A.first;
       lane = refl;
-      version = λ _. A.version z;
-      wide = λ _. A.width z;
-      high = λ _. A.height z;
-      par = λ _. A.par z;
+      version = λ _. A.heads.version;
+      wide = λ _. A.heads.width;
+      high = λ _. A.heads.height;
+      par = λ _. A.heads.par;
       mended = λ _. refl;
       repainted = λ _. refl;
       wear = λ _. ev;
       lanes = λ _. refl;
-      tiles_are = λ _. A.tiles z;
+      tiles_are = λ _. A.tiles;
       kept = λ n. absurd (n refl);
     }
 
@@ -73,14 +74,14 @@ module _ (upto R : ℕ) where
 
   module _ (s marks tiles scratch : List ℕ) where
     -- refused before the picture is looked at
-    pub early_as : (c : ℕ) → (c ≡ 0 → ⊥) → First (entering R s marks (length tiles) (length scratch)) c
-        → StripReadsAs upto R s marks tiles tiles scratch scratch (reading.Refused c 0)
-    early_as c n f = record {
-      code = before (entering R s marks (length tiles) (length scratch)) (mending gf256 R upto s marks) c n f;
-      lane = λ z. absurd (not_six scratch_least R s marks (length tiles) (length scratch) c f z);
+    pub early_as : (r : Refusal) → First (entering R s marks (length tiles) (length scratch)) (number_of r)
+        → StripReadsAs upto R s marks tiles tiles scratch scratch (Err (record { refusal = r; lane = 0 }))
+    early_as r f = record {
+      code = before (entering R s marks (length tiles) (length scratch)) (mending gf256 R upto s marks) (number_of r) (some_number r) f;
+      lane = λ z. absurd (not_six scratch_least R s marks (length tiles) (length scratch) (number_of r) f z);
       other_lane = λ _. refl;
-      level = λ z. absurd (n z);
-      no_level = λ h k. absurd (n (none_first (entering R s marks (length tiles) (length scratch)) c h f));
+      level = λ z. absurd (some_number r z);
+      no_level = λ h k. absurd (some_number r (none_first (entering R s marks (length tiles) (length scratch)) (number_of r) h f));
       tiles_kept = λ _. refl;
       scratch_kept = λ _. refl;
     }
@@ -93,7 +94,7 @@ module _ (upto R : ℕ) where
       some = omega (arith, two)
 
       -- a lane is beyond reach
-      pub lane_as : (j : ℕ) → Lowest gf256 R marks s j → StripReadsAs upto R s marks tiles tiles scratch scratch' (reading.Refused 6 j)
+      pub lane_as : (j : ℕ) → Lowest gf256 R marks s j → StripReadsAs upto R s marks tiles tiles scratch scratch' (Err (record { refusal = refusal.OutOfReach; lane = j }))
       lane_as j low = record {
         code =
             after (entering R s marks (length tiles) (length scratch)) (mending gf256 R upto s marks) 6 h
@@ -181,17 +182,12 @@ module _ (R : ℕ) (s cells bytes : List ℕ) (count : ℕ) where
   data_mended = ap (λ (n : ℕ). take (n - R * 5) (patched cells bytes count s)) (length_patched cells bytes s count)
 
   -- with nothing to put right they are those of the strip, as it is lent
-  pub data_clean : count ≡ 0 → data_of R (patched cells bytes count s) ≡ take (length s - R * 5 - 0) s
-  data_clean z =
-      data_mended ∙ ap (λ (k : ℕ). take (length s - R * 5) (patched cells bytes k s)) z ∙ ap (take (length s - R * 5)) (patched_0 cells bytes s)
-      ∙ ap (λ (n : ℕ). take n s) whole
-    where
-      whole : length s - R * 5 ≡ length s - R * 5 - 0
-      whole = omega arith
+  pub data_clean : count ≡ 0 → data_of R (patched cells bytes count s) ≡ take (length s - R * 5) s
+  data_clean z = data_mended ∙ ap (λ (k : ℕ). take (length s - R * 5) (patched cells bytes k s)) z ∙ ap (take (length s - R * 5)) (patched_0 cells bytes s)
 
 -- ---- the numbers of an answer
 
 -- with a refusal all but the code and the lane is zero
 pub zeros : (x : Reading) → (strip_numbers x).code ≢ 0 → strip_numbers x ≡ refused_at (strip_numbers x).code (strip_numbers x).lane
-zeros (reading.Read x w h p e d v r) n = absurd (n refl)
-zeros (reading.Refused c j) n = refl
+zeros (Ok r) n = absurd (n refl)
+zeros (Err u) n = refl

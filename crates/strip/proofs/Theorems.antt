@@ -14,10 +14,10 @@ use Rattle.account.proofs.Theorems.{read_itself}
 use Rattle.account.proofs.Runs.{differing_in_run, repainted_in_run, unmarked_wrong, unmarked_differing}
 use Rattle.gf256.specs.Gf256.{gf256}
 use Rattle.gf256.proofs.Field256.{field256}
-use Rattle.rules.specs.Refusal.{First, Hold, asked}
+use Rattle.rules.specs.Refusal.{First, Hold, asked, written_numbers}
 use Rattle.rules.proofs.Laws.{first_fixes, all_hold, after, rest, hold_both, numbered, first_alike, asked_alike, decided, either}
-use Rattle.code.specs.Word.{written_numbers}
-use Rattle.code.specs.declared.word.Written.{Written}
+use Rattle.std.specs.Prelude.{Result}
+use Rattle.rules.specs.declared.Refusal.{Refusal}
 use Rattle.code.proofs.Answers.{written_zero}
 use Rattle.level.specs.Sizes.{strip_most, scratch_least}
 use Rattle.level.specs.Level.{Level, IsLevel, newest, Counted, Coded, lending}
@@ -35,9 +35,8 @@ use Rattle.level.proofs.Judged.{late_coded, not_nine}
 use Rattle.level.proofs.Mended.{reached_spells, board_found}
 use Rattle.level.proofs.Theorems as levels
 use Rattle.lending.proofs.Lent.{written_level, level_written}
-use Rattle.strip.specs.declared.read.Reading.{Reading}
 use Rattle.strip.specs.Writing.{strip_length, WritesWith, StripWritesAs, WeWrote, changed_most, marked_most}
-use Rattle.strip.specs.Reading.{strip_numbers, LevelRead, ReadsWith, StripReadsAs, WeRead, Answers, Gives}
+use Rattle.strip.specs.Reading.{Reading, strip_numbers, LevelRead, ReadsWith, StripReadsAs, WeRead, Answers, Gives}
 use Rattle.strip.proofs.Laid.{record_fits}
 use Rattle.strip.proofs.Alike as alike
 use Rattle.strip.proofs.Reader.{zeros}
@@ -217,7 +216,7 @@ module _ (R : ℕ) (lanes : LaneCount R) where
   -- ---- writing
 
   -- two writers that are asked the same of the level write the same
-  writes_alike : (x y : ℕ) (l : Level) (old u v : List ℕ) (a b : Written) → (x ≤ length old → y ≤ length old) → (y ≤ length old → x ≤ length old)
+  writes_alike : (x y : ℕ) (l : Level) (old u v : List ℕ) (a b : Result ℕ Refusal) → (x ≤ length old → y ≤ length old) → (y ≤ length old → x ≤ length old)
       → WritesWith R (naming R ∷ writing_level x l (length old)) l old u a → WritesWith R (naming R ∷ writing_level y l (length old)) l old v b
       → (u ≡ v) × (written_numbers a ≡ written_numbers b)
   writes_alike x y l old u v a b to from A B = (
@@ -244,18 +243,18 @@ module _ (R : ℕ) (lanes : LaneCount R) where
           ∙ take-append-drop (strip_length R l) v
 
   -- FORMAT 10.9: the writer's promise fixes every number and byte.
-  pub strip_writes_fixed : (l : Level) (old u v : List ℕ) (a b : Written) → StripWritesAs R l old u a → StripWritesAs R l old v b
+  pub strip_writes_fixed : (l : Level) (old u v : List ℕ) (a b : Result ℕ Refusal) → StripWritesAs R l old u a → StripWritesAs R l old v b
       → (u ≡ v) × (written_numbers a ≡ written_numbers b)
   strip_writes_fixed l old u v a b = writes_alike strip_most strip_most l old u v a b (λ h. h) (λ h. h)
 
   -- FORMAT 8.16: each level is written, and nothing else is.
-  pub level_strip_written : (l : Level) (old new : List ℕ) (a : Written) → IsLevel l → strip_most ≤ length old → StripWritesAs R l old new a
+  pub level_strip_written : (l : Level) (old new : List ℕ) (a : Result ℕ Refusal) → IsLevel l → strip_most ≤ length old → StripWritesAs R l old new a
       → (written_numbers a).code ≡ 0
   level_strip_written l old new a il room A =
       first_fixes (writing_strip R l (length old)) (written_numbers a).code 0 A.code
       (inr (lanes, level_written 2 l strip_most (length old) room il il.ranged.known.to))
 
-  pub written_strip_level : (l : Level) (old new : List ℕ) (a : Written) → StripWritesAs R l old new a → (written_numbers a).code ≡ 0 → IsLevel l
+  pub written_strip_level : (l : Level) (old new : List ℕ) (a : Result ℕ Refusal) → StripWritesAs R l old new a → (written_numbers a).code ≡ 0 → IsLevel l
   written_strip_level l old new a A z =
       (written_level 2 l strip_most (length old) (written_numbers a).code z
       (rest (naming R ∷ []) (writing_level strip_most l (length old)) (written_numbers a).code (lanes, tt) A.code)).1
@@ -434,7 +433,7 @@ module _ (R : ℕ) (lanes : LaneCount R) where
   -- length of the strip read, and is the strip within reach; where it differs from the strip read, unmarked cells are mended in number, and marked
   -- ones repainted.
   module _ (upto : ℕ) (s marks tiles tiles' scratch scratch' : List ℕ) (a : Reading) (A : StripReadsAs upto R s marks tiles tiles' scratch scratch' a)
-      (z : (strip_numbers a).code ≡ 0) (old new : List ℕ) (b : Written) (W : StripWritesAs R (returned (strip_numbers a) tiles') old new b)
+      (z : (strip_numbers a).code ≡ 0) (old new : List ℕ) (b : Result ℕ Refusal) (W : StripWritesAs R (returned (strip_numbers a) tiles') old new b)
       (room : strip_most ≤ length old) where
     abbrev level : Level
     level = returned (strip_numbers a) tiles'
@@ -496,7 +495,7 @@ module _ (R : ℕ) (other : LaneCount R → ⊥) where
       none : (strip_numbers a).code ≢ 0
       none z = omega (arith, code, z)
 
-  pub lanes_unwritten : (l : Level) (old new : List ℕ) (a : Written) → StripWritesAs R l old new a → ((written_numbers a).code ≡ 15) × (new ≡ old)
+  pub lanes_unwritten : (l : Level) (old new : List ℕ) (a : Result ℕ Refusal) → StripWritesAs R l old new a → ((written_numbers a).code ≡ 15) × (new ≡ old)
   lanes_unwritten l old new a A = (code, A.kept (λ z. omega (arith, code, z)))
     where
       code : (written_numbers a).code ≡ 15
@@ -540,7 +539,7 @@ four_as_before upto least s marks tiles t1 t2 u u' v v' a b hu hv A B =
     (alike.rule_added upto 4 (naming 4) (entering_with least 4 s marks (length tiles) (length v)) s marks tiles t2 v v' b four B)
 
 -- and every number and every cell written, where a buffer of `least` cells was asked for, 384, and each is long enough.
-pub four_written_as_before : (least : ℕ) (l : Level) (old u v : List ℕ) (a b : Written) → strip_most ≤ length old → least ≤ length old
+pub four_written_as_before : (least : ℕ) (l : Level) (old u v : List ℕ) (a b : Result ℕ Refusal) → strip_most ≤ length old → least ≤ length old
     → StripWritesAs 4 l old u a → WritesWith 4 (writing_level least l (length old)) l old v b → (u ≡ v) × (written_numbers a ≡ written_numbers b)
 four_written_as_before least l old u v a b hu hv A B =
     writes_alike 4 four strip_most least l old u v a b (λ _. hv) (λ _. hu) A

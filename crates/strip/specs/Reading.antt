@@ -1,33 +1,38 @@
 -- FORMAT 8.13, 11.2: reading a strip. A level is returned exactly when one has a strip of that length within reach.
-use Rattle.std.specs.Prelude.{◌≡◌, List, ◌++◌, ℕ, ◌*◌, ◌≤◌, length, drop}
+use Rattle.std.specs.Prelude.{◌≡◌, List, ◌++◌, ℕ, ◌*◌, ◌≤◌, length, drop, Result, Ok, Err}
 use Rattle.account.specs.Field.{Ops}
 use Rattle.gf256.specs.Gf256.{gf256}
-use Rattle.rules.specs.Refusal.{Rule, First, Hold, asked}
+use Rattle.rules.specs.Refusal.{Rule, First, Hold, asked, number_of}
 use Rattle.level.specs.Sizes.{tiles_most, scratch_least}
 use Rattle.level.specs.Level.{Level}
 use Rattle.level.specs.Record.{field_at}
 use Rattle.level.specs.Strip.{Reached, Lowest, mended_of, repainted_of, IsWear}
 use Rattle.level.specs.Reading.{ReadNumbers, refused_at, returned, entering, mending, judging, tiles_of}
-use Rattle.strip.specs.declared.read.Reading.{Reading}
-use Rattle.strip.specs.declared.read.Reading.TheVariants as reading
+use Rattle.strip.specs.declared.read.Read.{Read}
+use Rattle.strip.specs.declared.read.Unread.{Unread}
 use Rattle.fields.specs.Judged.{AcceptedAs}
-use Rattle.fields.specs.declared.judged.Judged.{Judged}
+use Rattle.fields.specs.declared.head.Head.{Head}
+use Rattle.marks.specs.declared.Counts.{Counts}
+
+-- what reading answers: a level's numbers, or why there is none
+abbrev pub Reading : Type 0
+Reading = Result Read Unread
 
 -- the numbers of an answer
 abbrev pub strip_numbers : Reading → ReadNumbers
-strip_numbers (reading.Read n w h p e d v r) = record {
+strip_numbers (Ok r) = record {
   code = 0;
   lane = 0;
-  version = n;
-  width = w;
-  height = h;
-  par = p;
-  mended = e;
-  repainted = d;
-  wear = v;
-  lanes = r;
+  version = r.version;
+  width = r.width;
+  height = r.height;
+  par = r.par;
+  mended = r.mended;
+  repainted = r.repainted;
+  wear = r.wear;
+  lanes = r.lanes;
 }
-strip_numbers (reading.Refused c j) = refused_at c j
+strip_numbers (Err u) = refused_at (number_of u.refusal) u.lane
 
 -- FORMAT 11.4 to 11.7, 11.13, 10.6: the level returned has a strip within reach, and no other level has, of the versions up to this one. Mended and
 -- repainted count against that strip; tiles past the level keep their value.
@@ -95,6 +100,7 @@ pub record FinishedAs (upto R : ℕ) (bs : List ℕ) (N e d : ℕ) (tiles tiles'
   pub tiles_are : n.code ≡ 0 → tiles' ≡ tiles_of bs ++ drop (n.width * n.height) tiles
   pub kept : (n.code ≡ 0 → ⊥) → tiles' ≡ tiles
 
--- the answer n for a record that was judged as j is the one for every such record
-abbrev pub FinishesAs : ℕ → Judged → ℕ → ℕ → ℕ → ReadNumbers → Type 0
-FinishesAs R j N e d n = (upto : ℕ) (bs tiles tiles' : List ℕ) → AcceptedAs upto R bs tiles tiles' j → FinishedAs upto R bs N e d tiles tiles' n
+-- the answer r for a record that was accepted with the fields f is the one for every such record
+abbrev pub FinishesAs : ℕ → Head → ℕ → Counts → Read → Type 0
+FinishesAs R f N c r = (upto : ℕ) (bs tiles tiles' : List ℕ) → AcceptedAs upto R bs tiles tiles' (Ok f)
+    → FinishedAs upto R bs N c.mended c.repainted tiles tiles' (strip_numbers (Ok r))

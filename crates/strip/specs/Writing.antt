@@ -1,9 +1,8 @@
 -- FORMAT 8.12: writing a strip.
-use Rattle.std.specs.Prelude.{◌≡◌, List, ℕ, ◌+◌, ◌*◌, length, take, drop}
+use Rattle.std.specs.Prelude.{◌≡◌, List, ℕ, ◌+◌, ◌*◌, length, take, drop, Result}
 use Rattle.gf256.specs.Gf256.{gf256}
-use Rattle.rules.specs.Refusal.{Rule, First}
-use Rattle.code.specs.Word.{written_numbers}
-use Rattle.code.specs.declared.word.Written.{Written}
+use Rattle.rules.specs.declared.Refusal.{Refusal}
+use Rattle.rules.specs.Refusal.{Rule, First, written_numbers}
 use Rattle.level.specs.Level.{Level}
 use Rattle.level.specs.Record.{record_length}
 use Rattle.level.specs.Strip.{columns, IsStrip}
@@ -14,7 +13,7 @@ abbrev pub strip_length : ℕ → Level → ℕ
 strip_length R l = R * (columns R (record_length l.width l.height) + 5)
 
 -- FORMAT 8.12, 10.5: the level's strip in front, its length returned; what is past it keeps its value. These are the rules asked.
-pub record WritesWith (R : ℕ) (rules : List Rule) (l : Level) (old new : List ℕ) (a : Written) : Type 0 where
+pub record WritesWith (R : ℕ) (rules : List Rule) (l : Level) (old new : List ℕ) (a : Result ℕ Refusal) : Type 0 where
   pub code : First rules (written_numbers a).code
   pub value : (written_numbers a).code ≡ 0 → (written_numbers a).value ≡ strip_length R l
   pub strip : (written_numbers a).code ≡ 0 → IsStrip gf256 R l (take (strip_length R l) new)
@@ -22,14 +21,14 @@ pub record WritesWith (R : ℕ) (rules : List Rule) (l : Level) (old new : List 
   pub kept : ((written_numbers a).code ≡ 0 → ⊥) → new ≡ old
 
 -- the promise of the strip writer
-abbrev pub StripWritesAs : ℕ → Level → List ℕ → List ℕ → Written → Type 0
+abbrev pub StripWritesAs : ℕ → Level → List ℕ → List ℕ → Result ℕ Refusal → Type 0
 StripWritesAs R l old new = WritesWith R (writing_strip R l (length old)) l old new
 
 -- FORMAT 7.12: t is a strip that we wrote, for the level l: the first N cells of the buffer where the strip writer returned N
 pub record WeWrote (R : ℕ) (l : Level) (t : List ℕ) : Type 0 where
   pub old : List ℕ
   pub new : List ℕ
-  pub answer : Written
+  pub answer : Result ℕ Refusal
   pub promise : StripWritesAs R l old new answer
   pub done : (written_numbers answer).code ≡ 0
   pub front : t ≡ take (written_numbers answer).value new

@@ -1,25 +1,20 @@
 -- A text written: letters, rows, and the first line in front; and the writer's answers.
-use mathlib.Core.Path.{◌≡◌, refl, sym, ap, ap₂, ◌∙◌, subst}
-use mathlib.Core.Logic.{inr}
+use mathlib.Core.Path.{◌≡◌, refl, sym, ap, ap₂, ◌∙◌}
 use mathlib.Core.List.{List, [], ◌∷◌, ◌++◌, map, append_assoc, map-append}
-use Prim.Native.Nat.{ℕ, zero, suc, ◌+◌, ◌*◌, ◌-◌, ◌≤◌, ◌<◌}
+use Prim.Native.Nat.{ℕ, zero, suc, ◌+◌, ◌*◌, ◌≤◌, ◌<◌}
 use native.Mathlib.Nat.{add-zero, zero-mul, suc-mul, mul_comm, mul-le-mul_right}
 use native.Mathlib.Numerals.{add-one}
 use native.Mathlib.Omega.{arith}
 use lib.ListN.{length, get_or, take, drop, set, length-append, length-drop, length-map}
 use lib.Seq.{sets, sets-eq, take-suc, drop-drop, get_or-drop, length-take-le, take_at, drop-append-add}
 use Rattle.typed.specs.Letters.{letter_of}
-use Rattle.rules.specs.Refusal.{First, asked}
-use Rattle.rules.proofs.Laws.{stops}
-use Rattle.level.specs.Level.{Level, IsLevel, lending}
-use Rattle.level.specs.Writing.{lent, writing_upto}
-use Rattle.code.specs.declared.word.Written.TheVariants as written
+use Rattle.level.specs.Level.{IsLevel}
+use Rattle.fields.specs.declared.head.Head.{Head}
+use Rattle.fields.specs.Head.{lent_as}
 use Rattle.typed.specs.Text.{joined, first_line, rows_of, text_of}
 use Rattle.typed.specs.Parts.{LineIs, line_of}
-use Rattle.text.specs.Parts.{TextPut}
-use Rattle.text.specs.Writing.{TextWritesAs}
 use Rattle.typed.specs.declared.line.Line.{Line}
-use Rattle.typed.proofs.Lines.{line_part}
+use Rattle.text.specs.Parts.{TextPut}
 use Rattle.text.proofs.Written.{joined_long, text_size, text_short}
 
 -- ---- stores
@@ -76,9 +71,6 @@ module _ (w h y : ℕ) (l : y < h) where
   pub row_tiles : y * w + w ≤ w * h
   row_tiles = omega (arith, mul-le-mul_right {m = suc y} {n = h} w l, suc-mul y w, mul_comm w h)
 
-  pub row_bytes : y * (w + 1) + (w + 1) ≤ h * (w + 1)
-  row_bytes = omega (arith, mul-le-mul_right {m = suc y} {n = h} (w + 1) l, suc-mul y (w + 1))
-
 module _ (w : ℕ) where
   -- one row more
   joined_next : (y : ℕ) (ts : List ℕ) → joined (rows_of w (suc y) ts) ≡ joined (rows_of w y ts) ++ (lettered ts (y * w) w ++ 10 ∷ [])
@@ -103,49 +95,32 @@ module _ (w : ℕ) where
 -- ---- a text
 
 -- the first line copied in front, and the rows put behind it
-module _ (w h par : ℕ) (ts o : List ℕ) (il : IsLevel (lent 1 w h par ts)) (room : 1001 ≤ length o) (r : Line) (line : LineIs par r) where
+module _ (f : Head) (ts o : List ℕ) (il : IsLevel (lent_as f ts)) (is_first : f.version ≡ 1) (room : 1001 ≤ length o) (r : Line)
+    (line : LineIs f.par r) where
   abbrev body : List ℕ
-  body = joined (rows_of w h ts)
+  body = joined (rows_of f.width f.height ts)
 
-  sized : r.len + h * (w + 1) ≡ length (text_of (lent 1 w h par ts))
-  sized = omega (arith, line.size, length-append (first_line par) (10 ∷ []), text_size (lent 1 w h par ts) il refl)
+  sized : r.len + f.height * (f.width + 1) ≡ length (text_of (lent_as f ts))
+  sized = omega (arith, line.size, length-append (first_line f.par) (10 ∷ []), text_size (lent_as f ts) il is_first)
 
-  pub rows_fit : r.len + h * (w + 1) ≤ length o
-  rows_fit = omega (arith, sized, text_short (lent 1 w h par ts) il refl)
+  pub rows_fit : r.len + f.height * (f.width + 1) ≤ length o
+  rows_fit = omega (arith, sized, text_short (lent_as f ts) il is_first)
 
-  long : length body ≡ h * (w + 1)
-  long = joined_long w h ts (omega (arith, il.count, mul_comm w h))
+  pub line_fits : length (take r.len o) ≡ length (take r.len r.bytes)
+  line_fits = length-take-le r.len o (omega (arith, rows_fit)) ∙ line.size ∙ sym (ap length line.is)
 
-  pub text_put : (t u : List ℕ) → t ≡ take (r.len - 0) r.bytes ++ drop (length (take (r.len - 0) r.bytes)) o → u ≡ sets t r.len body
-      → TextPut (lent 1 w h par ts) o u (r.len + h * (w + 1))
+  long : length body ≡ f.height * (f.width + 1)
+  long = joined_long f.width f.height ts (omega (arith, il.count, mul_comm f.width f.height))
+
+  pub text_put : (t u : List ℕ) → t ≡ take r.len r.bytes ++ drop r.len o → u ≡ sets t r.len body
+      → TextPut (lent_as f ts) o u (r.len + f.height * (f.width + 1))
   text_put t u et eu = record {
     size = sized;
     text = eu
-        ∙ ap₂ (λ (v : List ℕ) (n : ℕ). sets v n body) (et ∙ ap (λ (f : List ℕ). f ++ drop (length f) o) (line_part par r line)) line.size
-        ∙ sets_behind o (line_of par) body (omega (arith, line.size, long, rows_fit))
-        ∙ ap₂ (λ (a : List ℕ) (n : ℕ). a ++ drop n o) (append_assoc (first_line par) (10 ∷ []) body) end;
+        ∙ ap₂ (λ (v : List ℕ) (n : ℕ). sets v n body) (et ∙ ap₂ (λ (s : List ℕ) (n : ℕ). s ++ drop n o) line.is line.size) line.size
+        ∙ sets_behind o (line_of f.par) body (omega (arith, line.size, long, rows_fit))
+        ∙ ap₂ (λ (a : List ℕ) (n : ℕ). a ++ drop n o) (append_assoc (first_line f.par) (10 ∷ []) body) end;
   }
     where
-      end : length (line_of par) + length body ≡ r.len + h * (w + 1)
+      end : length (line_of f.par) + length body ≡ r.len + f.height * (f.width + 1)
       end = omega (arith, line.size, long)
-
--- ---- the answers of the writer
-
-module _ (l : Level) (old : List ℕ) where
-  none : (c : ℕ) → (c ≡ 0 → ⊥) → First (writing_upto 1 1001 l (length old)) c → TextWritesAs l old old (written.Refused c)
-  none c n f = record { code = f; value = λ z. absurd (n z); text = λ z. absurd (n z); kept = λ _. refl }
-
-  pub refused_4 : (1001 ≤ length old → ⊥) → TextWritesAs l old old (written.Refused 4)
-  refused_4 n = none 4 (λ z. omega arith) (stops 0 (writing_upto 1 1001 l (length old)) 4 (n, refl))
-
-  pub refused_later : (c : ℕ) → 1001 ≤ length old → (c ≡ 0 → ⊥) → First (asked (λ ask. ask l) (lending 1)) c → TextWritesAs l old old (written.Refused c)
-  refused_later c a n f = none c n (inr (a, f))
-
-  pub wrote : (new : List ℕ) (c n : ℕ) → 1001 ≤ length old → c ≡ 0 → First (asked (λ ask. ask l) (lending 1)) c → TextPut l old new n
-      → TextWritesAs l old new (written.Length n)
-  wrote new c n a z f P = record {
-    code = inr (a, subst (First (asked (λ ask. ask l) (lending 1))) z f);
-    value = λ _. P.size;
-    text = λ _. P.text ∙ ap (λ (k : ℕ). text_of l ++ drop k old) P.size;
-    kept = λ k. absurd (k refl);
-  }

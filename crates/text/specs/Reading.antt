@@ -1,11 +1,12 @@
 -- FORMAT 8.26: reading a text.
-use Rattle.std.specs.Prelude.{◌≡◌, List, [], ◌∷◌, ℕ, ◌*◌, ◌≤◌, length, drop}
+use Rattle.std.specs.Prelude.{◌≡◌, List, [], ◌∷◌, ℕ, ◌*◌, ◌≤◌, length, drop, Result}
+use Rattle.fields.specs.declared.head.Head.{Head}
+use Rattle.rules.specs.declared.Refusal.{Refusal}
 use Rattle.rules.specs.Refusal.{Rule, unless, Question, asked, First}
 use Rattle.level.specs.Sizes.{tiles_most}
 use Rattle.level.specs.Level.{Level, Sized, ruling, IsLevel}
 use Rattle.level.specs.Reading.{returned}
 use Rattle.record.specs.Reading.{record_numbers}
-use Rattle.record.specs.declared.read.RecordRead.{RecordRead}
 use Rattle.typed.specs.Text.{IsText, SaysLevel}
 
 -- FORMAT 9.53: what is asked holds of whatever level the text says
@@ -22,7 +23,7 @@ reading_text text room = unless 4 (tiles_most ≤ room) ∷ unless 11 (IsText te
 
 -- FORMAT 8.26, 10.6, 13.8: the text says the level returned; tile bytes past the level keep their value. An answer has the numbers of a
 -- record's
-pub record TextReadsAs (text old new : List ℕ) (a : RecordRead) : Type 0 where
+pub record TextReadsAs (text old new : List ℕ) (a : Result Head Refusal) : Type 0 where
   pub code : First (reading_text text (length old)) (record_numbers a).code
   pub is_level : (record_numbers a).code ≡ 0 → IsLevel (returned (record_numbers a) new)
   pub says : (record_numbers a).code ≡ 0 → SaysLevel text (returned (record_numbers a) new)

@@ -3,7 +3,7 @@ use mathlib.Core.Path.{◌≡◌, refl, sym, ap, ◌∙◌}
 use mathlib.Core.Logic.{⊎_elim}
 use mathlib.Core.List.{List}
 use Prim.Native.Nat.{ℕ, zero, suc, ◌+◌, ◌*◌, ◌-◌, ◌/◌, ◌%◌, ◌^◌, ◌≤◌, ◌<◌}
-use native.Mathlib.Numerals.{unary_clauses}
+use native.Mathlib.Numerals.{unary_clauses, add-one}
 use native.Mathlib.Nat.{zero-div}
 use native.Mathlib.Omega.{arith}
 use lib.ListN.{length, get_or}
@@ -11,39 +11,62 @@ use Rattle.rules.proofs.Numbers.{lt_or_ge}
 use Rattle.account.specs.Lists.{list_of, sum_of}
 use Rattle.account.proofs.Lanes.{get_d_past}
 use Rattle.level.specs.Record.{bit_at, field_at}
+use Rattle.triples.specs.Weights.{tripled}
 use Rattle.tiles.specs.Part.{tiles_from, three_at}
 use Rattle.tiles.specs.Sum.{weighed, weight, PartSummed, adds_at, Counted, pairs_of, triples_of}
 use Rattle.tiles.specs.Word.{word_at}
 use Rattle.tiles.proofs.Digits.{three_groups}
+use Rattle.tiles.proofs.Rows.{weighed_small}
 use Rattle.tiles.proofs.Eight.{eight, eight_at, four_pairs}
 
--- one pair more
-pub pairs_next : (w : ℕ → ℕ) (n u : ℕ) → 0 < n → pairs_of w n u ≡ w (u % 64 / 8) + w (u % 64 % 8) + pairs_of w (n - 1) (u / 64)
+-- eight tiles are two, and twice three
+pub two_three_three : (v : ℕ) → (tripled (v / 262144 % 64) + tripled (v / 512 % 512) + tripled (v % 512) ≡ pairs_of weighed 4 v)
+    × (tripled (v / 262144 % 64) + tripled (v / 512 % 512) + tripled (v % 512) ≤ 9007199254740992)
 unfolding pairs_of
-pairs_next w zero u h = absurd (omega arith)
-pairs_next w (suc n) u h = let e : suc n - 1 ≡ n = omega arith in ap (λ (k : ℕ). w (u % 64 / 8) + w (u % 64 % 8) + pairs_of w k (u / 64)) (sym e)
-
-pub pairs_none : (w : ℕ → ℕ) (n u : ℕ) → n ≡ 0 → pairs_of w n u ≡ 0
-unfolding pairs_of
-pairs_none w zero u h = refl
-pairs_none w (suc n) u h = absurd (omega arith)
+two_three_three v =
+    let none : weighed (v / 262144 % 64 / 64) ≡ 0 = ap weighed (at (v / 262144 % 64 / 64) 0 (omega arith)) in (
+      omega (
+        arith,
+        none,
+        ap weighed (at (v / 262144 % 64 / 8 % 8) (v / 64 / 64 / 64 % 64 / 8) (omega arith)),
+        ap weighed (at (v / 262144 % 64 % 8) (v / 64 / 64 / 64 % 64 % 8) (omega arith)),
+        ap weighed (at (v / 512 % 512 / 64) (v / 64 / 64 % 64 / 8) (omega arith)),
+        ap weighed (at (v / 512 % 512 / 8 % 8) (v / 64 / 64 % 64 % 8) (omega arith)),
+        ap weighed (at (v / 512 % 512 % 8) (v / 64 % 64 / 8) (omega arith)),
+        ap weighed (at (v % 512 / 64) (v / 64 % 64 % 8) (omega arith)),
+        ap weighed (at (v % 512 / 8 % 8) (v % 64 / 8) (omega arith)),
+        ap weighed (at (v % 512 % 8) (v % 64 % 8) (omega arith)),
+      ),
+      omega (
+        arith,
+        none,
+        weighed_small (v / 262144 % 64 / 8 % 8),
+        weighed_small (v / 262144 % 64 % 8),
+        weighed_small (v / 512 % 512 / 64),
+        weighed_small (v / 512 % 512 / 8 % 8),
+        weighed_small (v / 512 % 512 % 8),
+        weighed_small (v % 512 / 64),
+        weighed_small (v % 512 / 8 % 8),
+        weighed_small (v % 512 % 8),
+      ),
+    )
+  where
+    at : (a b : ℕ) → a ≡ b → a ≡ b
+    at a b e = e
 
 -- three more
-pub triples_next : (w : ℕ → ℕ) (n t u : ℕ) → 0 < n
+pub triples_next : (w : ℕ → ℕ) (n m t u : ℕ) → n ≡ m + 1
     → triples_of w n (u * 512 + t % 512)
-    ≡ w (t % 512 / 64) + w (t % 512 / 8 % 8) + w (t % 512 % 8) + triples_of w (n - 1) (u / 512 * 512 + u % 512)
+    ≡ w (t % 512 / 64) + w (t % 512 / 8 % 8) + w (t % 512 % 8) + triples_of w m (u / 512 * 512 + u % 512)
 unfolding triples_of
-triples_next w zero t u h = absurd (omega arith)
-triples_next w (suc n) t u h =
-    let e : suc n - 1 ≡ n = omega arith in
+triples_next w n m t u e =
     let low : (u * 512 + t % 512) % 512 ≡ t % 512 = omega arith in
     let high : (u * 512 + t % 512) / 512 ≡ u / 512 * 512 + u % 512 = omega arith in
-    rw (e, low, high)
+    rw (e, add-one, low, high)
 
 pub triples_none : (w : ℕ → ℕ) (n v : ℕ) → n ≡ 0 → triples_of w n v ≡ 0
 unfolding triples_of
-triples_none w zero v h = refl
-triples_none w (suc n) v h = absurd (omega arith)
+triples_none w n v e = rw e
 
 -- the four pairs of three bytes are their eight tiles
 pairs_eight : (w : ℕ → ℕ) (x y z : ℕ) → x < 256 → y < 256 → z < 256

@@ -4,4 +4,3 @@ pub mod Part
 pub mod Digits
 pub mod Counting
 pub mod Putting
-pub mod Word

@@ -1,12 +1,13 @@
 -- Tiles written from their bytes.
-use mathlib.Core.Path.{◌≡◌, refl, sym, ap, ◌∙◌, subst}
+use mathlib.Core.Path.{◌≡◌, refl, sym, ap, ap₂, ◌∙◌, subst}
 use mathlib.Core.Logic.{⊎_elim}
-use mathlib.Core.List.{List, [], ◌∷◌, ◌++◌}
+use mathlib.Core.List.{List, [], ◌∷◌, ◌++◌, append_assoc}
 use Prim.Native.Nat.{ℕ, zero, suc, ◌+◌, ◌*◌, ◌-◌, ◌/◌, ◌%◌, ◌≤◌, ◌<◌}
-use native.Mathlib.Numerals.{unary_clauses}
 use native.Mathlib.Omega.{arith}
+use borrow.Rule.Slice.PartMut.{put_mid}
+use Rattle.std.specs.Int.{w64, to_le_bytes}
 use lib.ListN.{length, get_or, take, drop, set, length-append, length-drop, get_or-append}
-use lib.Seq.{sets, sets-eq, get_or-take, get_or-drop, get_or-append-add, length-take-le, ext_get_or, get_or-set_same, get_or-set_other}
+use lib.Seq.{sets, sets-eq, get_or-take, get_or-drop, get_or-append-add, length-take-le, ext_get_or, get_or-set_same, get_or-set_other, drop-drop}
 use Rattle.rules.proofs.Numbers.{lt_or_ge}
 use Rattle.account.specs.Lists.{list_of}
 use Rattle.account.proofs.Lists.{length_list_of, get_d_list_of}
@@ -17,35 +18,6 @@ use Rattle.tiles.specs.Put.{spread_of, byte_of, Puts}
 use Rattle.tiles.proofs.Eight.{eight, eight_at, four_pairs}
 
 -- ---- pairs spread
-
--- what is left of 64 bits when n pairs are still to come
-unfoldable pub limit : ℕ → ℕ
-limit zero = 18446744073709551616
-limit (suc n) = limit n / 65536
-
-pub limit_top : (n : ℕ) → limit n ≤ 18446744073709551616
-unfolding limit
-limit_top zero = omega arith
-limit_top (suc n) = omega (arith, limit_top n)
-
-pub limit_next : (n : ℕ) → 0 < n → limit n ≡ limit (n - 1) / 65536
-unfolding limit
-limit_next zero h = absurd (omega arith)
-limit_next (suc n) h = let e : suc n - 1 ≡ n = omega arith in ap (λ (k : ℕ). limit k / 65536) (sym e)
-
-pub limit_4 : 0 < limit 4
-unfolding limit
-limit_4 = omega arith
-
-pub spread_next : (n u s t : ℕ) → 0 < n → t ≡ u % 64 / 8 + 256 * (u % 64 % 8) → spread_of n u s ≡ spread_of (n - 1) (u / 64) (s * 65536 + t)
-unfolding spread_of
-spread_next zero u s t h e = absurd (omega arith)
-spread_next (suc n) u s t h e = let z : suc n - 1 ≡ n = omega arith in rw (z, e)
-
-pub spread_none : (n u s : ℕ) → n ≡ 0 → spread_of n u s ≡ s
-unfolding spread_of
-spread_none zero u s h = refl
-spread_none (suc n) u s h = absurd (omega arith)
 
 -- the number whose bytes are a list, the lowest first
 unfoldable number_of : List ℕ → ℕ
@@ -79,38 +51,12 @@ pub spread_sum : (x y z : ℕ) → x < 256 → y < 256 → z < 256 → spread_of
 unfolding number_of
 spread_sum x y z hx hy hz = spread_three x y z hx hy hz ∙ omega arith
 
-first_small : (x a : ℕ) → x < 256 → a ≡ first_of x → a < 1048576
-first_small x a h e = omega arith
-
-second_small : (y b : ℕ) → y < 256 → b ≡ second_of y → b < 281474976710656
-second_small y b h e = omega arith
-
-third_small : (z c : ℕ) → z < 256 → c ≡ third_of z → c < 576460752303423488
-third_small z c h e = omega arith
-
-pub pair_small : (x y a b : ℕ) → x < 256 → y < 256 → a ≡ first_of x → b ≡ second_of y → a + b < 562949953421312
-pair_small x y a b hx hy ea eb = two a b (first_small x a hx ea) (second_small y b hy eb)
-  where
-    two : (a b : ℕ) → a < 1048576 → b < 281474976710656 → a + b < 562949953421312
-    two a b ha hb = omega arith
-
-pub sum_small : (x y z a b c : ℕ) → x < 256 → y < 256 → z < 256 → a ≡ first_of x → b ≡ second_of y → c ≡ third_of z → a + b + c < 18446744073709551616
-sum_small x y z a b c hx hy hz ea eb ec = three (a + b) c (pair_small x y a b hx hy ea eb) (third_small z c hz ec)
-  where
-    three : (d c : ℕ) → d < 562949953421312 → c < 576460752303423488 → d + c < 18446744073709551616
-    three d c hd hc = omega arith
-
 spread_byte : (x y z : ℕ) → x < 256 → y < 256 → z < 256 → (j : ℕ) → byte_of j (spread_of 4 (x * 65536 + y * 256 + z) 0) ≡ get_or (eight x y z) j 0
 spread_byte x y z hx hy hz j =
     ap (byte_of j) (spread_three x y z hx hy hz)
     ∙ byte_number (eight x y z) (omega arith, (omega arith, (omega arith, (omega arith, (omega arith, (omega arith, (omega arith, (omega arith, tt)))))))) j
 
 -- ---- eight bytes put
-
-stored : (l : List ℕ) (k a b c d e f g h : ℕ)
-    → set (set (set (set (set (set (set (set l k a) (k + 1) b) (k + 2) c) (k + 3) d) (k + 4) e) (k + 5) f) (k + 6) g) (k + 7) h
-    ≡ sets l k (a ∷ b ∷ c ∷ d ∷ e ∷ f ∷ g ∷ h ∷ [])
-stored l k a b c d e f g h = simp unary_clauses
 
 -- a run of elements put into a list
 module _ (l vs : List ℕ) (k : ℕ) (room : k + length vs ≤ length l) where
@@ -154,23 +100,30 @@ run_puts l vs k w n room at = record {
   past = λ i h. sets_past l vs k room i (omega (arith, n));
 }
 
--- eight stores, each of its byte
-pub word_puts : (l : List ℕ) (k w a b c d e f g h : ℕ) → k + 8 ≤ length l
-    → a ≡ byte_of 0 w → b ≡ byte_of 1 w → c ≡ byte_of 2 w → d ≡ byte_of 3 w → e ≡ byte_of 4 w → f ≡ byte_of 5 w → g ≡ byte_of 6 w → h ≡ byte_of 7 w
-    → Puts l (set (set (set (set (set (set (set (set l k a) (k + 1) b) (k + 2) c) (k + 3) d) (k + 4) e) (k + 5) f) (k + 6) g) (k + 7) h) k (k + 8) w
-word_puts l k w a b c d e f g h room ea eb ec ed ee ef eg eh =
-    subst (λ (x : List ℕ). Puts l x k (k + 8) w) (sym (stored l k a b c d e f g h)) (run_puts l (a ∷ b ∷ c ∷ d ∷ e ∷ f ∷ g ∷ h ∷ []) k w refl room at)
+-- the bytes of a number, the lowest first
+le_byte : (w j : ℕ) → j < 8 → get_or (to_le_bytes w64 w) j 0 ≡ byte_of j w
+unfolding byte_of
+le_byte w zero m = refl
+le_byte w (suc zero) m = refl
+le_byte w (suc (suc zero)) m = omega arith
+le_byte w (suc (suc (suc zero))) m = omega arith
+le_byte w (suc (suc (suc (suc zero)))) m = omega arith
+le_byte w (suc (suc (suc (suc (suc zero))))) m = omega arith
+le_byte w (suc (suc (suc (suc (suc (suc zero)))))) m = omega arith
+le_byte w (suc (suc (suc (suc (suc (suc (suc zero))))))) m = omega arith
+le_byte w (suc (suc (suc (suc (suc (suc (suc (suc j)))))))) m = absurd (omega arith)
+
+-- put in one go
+pub word_puts : (l : List ℕ) (k n w : ℕ) (vs : List ℕ) → k + 8 ≤ length l → n ≡ 8 → vs ≡ to_le_bytes w64 w → Puts l (put_mid k n l vs) k (k + 8) w
+word_puts l k n w vs room en ev = subst (λ (x : List ℕ). Puts l x k (k + 8) w) (sym same) (run_puts l bs k w refl room (λ j m. le_byte w j m))
   where
-    at : (j : ℕ) → j < 8 → get_or (a ∷ b ∷ c ∷ d ∷ e ∷ f ∷ g ∷ h ∷ []) j 0 ≡ byte_of j w
-    at zero m = ea
-    at (suc zero) m = eb
-    at (suc (suc zero)) m = ec
-    at (suc (suc (suc zero))) m = ed
-    at (suc (suc (suc (suc zero)))) m = ee
-    at (suc (suc (suc (suc (suc zero))))) m = ef
-    at (suc (suc (suc (suc (suc (suc zero)))))) m = eg
-    at (suc (suc (suc (suc (suc (suc (suc zero))))))) m = eh
-    at (suc (suc (suc (suc (suc (suc (suc (suc j)))))))) m = absurd (omega arith)
+    bs : List ℕ
+    bs = to_le_bytes w64 w
+
+    same : put_mid k n l vs ≡ sets l k bs
+    same =
+        ap₂ (λ (m : ℕ) (x : List ℕ). put_mid k m l x) en ev ∙ sym (append_assoc (take k l) bs (drop 8 (drop k l)))
+        ∙ ap (λ (x : List ℕ). (take k l ++ bs) ++ x) (drop-drop 8 k l) ∙ sym (sets-eq bs l k room)
 
 -- ---- bytes put one by one
 

@@ -1,15 +1,14 @@
 -- Rows packed.
-use mathlib.Core.Path.{◌≡◌, refl}
+use mathlib.Core.Path.{◌≡◌, refl, sym, ap, ◌∙◌}
 use mathlib.Core.Logic.{◌⊎◌, inl, inr}
-use mathlib.Core.List.{[], ◌∷◌}
-use Prim.Native.Nat.{ℕ, zero, suc, ◌+◌, ◌≤◌, ◌<◌}
+use mathlib.Core.List.{List, [], ◌∷◌}
+use Prim.Native.Nat.{ℕ, zero, suc, ◌≤◌, ◌<◌, min}
 use native.Mathlib.Omega.{arith}
 use lib.ListN.{get_or}
 use borrow.Author.Tests.{lt-ltb, le-ltb}
 use Rattle.level.specs.Tile.{adds}
 use Rattle.rules.proofs.Numbers.{lt_or_ge}
 use Rattle.tiles.specs.Sum.{packed, weighed}
-use Rattle.tiles.specs.Rows.{Packs}
 
 -- rows are small, and a crate off its goal is a crate
 pub adds_small : (t : ℕ) → ((adds t).player ≤ 1) × ((adds t).crate' ≤ 1) × ((adds t).goal ≤ 1) × ((adds t).off ≤ (adds t).crate')
@@ -50,17 +49,19 @@ weighed_small t = go (lt_or_ge t 7) (lt_or_ge t 8)
     go (inr h) (inl k) = omega (arith, weighed_pit t h k)
     go (inr h) (inr k) = omega (arith, weighed_out t k)
 
-pub packs : (a b c d e f g h : ℕ) → a ≡ packed (adds 0) → b ≡ packed (adds 1) → c ≡ packed (adds 2) → d ≡ packed (adds 3) → e ≡ packed (adds 4)
-    → f ≡ packed (adds 5) → g ≡ packed (adds 6) → h ≡ packed (adds 7) → Packs (a ∷ b ∷ c ∷ d ∷ e ∷ f ∷ g ∷ (h + 1099511627776) ∷ 1125899906842624 ∷ [])
-packs a b c d e f g h ea eb ec ed ee ef eg eh = record { row_at = go; other = refl }
-  where
-    go : (t : ℕ) → t < 8 → get_or (a ∷ b ∷ c ∷ d ∷ e ∷ f ∷ g ∷ (h + 1099511627776) ∷ 1125899906842624 ∷ []) t 0 ≡ weighed t
-    go zero l = ea
-    go (suc zero) l = eb
-    go (suc (suc zero)) l = ec
-    go (suc (suc (suc zero))) l = ed
-    go (suc (suc (suc (suc zero)))) l = ee
-    go (suc (suc (suc (suc (suc zero))))) l = ef
-    go (suc (suc (suc (suc (suc (suc zero)))))) l = eg
-    go (suc (suc (suc (suc (suc (suc (suc zero))))))) l = omega (arith, eh)
-    go (suc (suc (suc (suc (suc (suc (suc (suc t)))))))) l = absurd (omega arith)
+-- the rows packed, one by one
+abbrev pub rows : List ℕ
+rows = 0 ∷ 0 ∷ 1073742848 ∷ 1048576 ∷ 1049600 ∷ 1 ∷ 1048577 ∷ 1099511627776 ∷ 1125899906842624 ∷ []
+
+pub row_at : (t k : ℕ) → k ≡ min t 8 → get_or rows k 0 ≡ weighed t
+row_at zero k e = ap (λ (i : ℕ). get_or rows i 0) e
+row_at (suc zero) k e = ap (λ (i : ℕ). get_or rows i 0) e
+row_at (suc (suc zero)) k e = ap (λ (i : ℕ). get_or rows i 0) e
+row_at (suc (suc (suc zero))) k e = ap (λ (i : ℕ). get_or rows i 0) e
+row_at (suc (suc (suc (suc zero)))) k e = ap (λ (i : ℕ). get_or rows i 0) e
+row_at (suc (suc (suc (suc (suc zero))))) k e = ap (λ (i : ℕ). get_or rows i 0) e
+row_at (suc (suc (suc (suc (suc (suc zero)))))) k e = ap (λ (i : ℕ). get_or rows i 0) e
+row_at (suc (suc (suc (suc (suc (suc (suc zero))))))) k e = ap (λ (i : ℕ). get_or rows i 0) e
+row_at (suc (suc (suc (suc (suc (suc (suc (suc t)))))))) k e =
+    let z : k ≡ 8 = omega arith in
+    ap (λ (i : ℕ). get_or rows i 0) z ∙ sym (weighed_out (suc (suc (suc (suc (suc (suc (suc (suc t)))))))) (omega arith))

@@ -1,15 +1,16 @@
 -- The first tiles stepped: the last of them by one, or a carry to the one before it.
-use mathlib.Core.Path.{◌≡◌, refl, sym, subst, ◌∙◌}
+use mathlib.Core.Path.{◌≡◌, refl, sym, ap, subst, ◌∙◌}
 use mathlib.Core.Logic.{⊎_elim}
 use mathlib.Core.Bool.{Bool, true, false}
-use mathlib.Core.List.{List}
+use mathlib.Core.List.{List, ◌++◌}
 use Prim.Native.Nat.{ℕ, suc, ◌+◌, ◌-◌, ◌≤◌, ◌<◌}
 use native.Mathlib.Decide.{ℕ_discrete}
 use native.Mathlib.Nat.{le_refl}
 use native.Mathlib.Omega.{arith}
 use lib.Dec.{T}
-use lib.ListN.{length, get_or, set, length-set}
-use lib.Seq.{get_or-set_same, get_or-set_other}
+use lib.ListN.{length, get_or, set, take, drop, replicate, length-set, length-append, length-drop, length-replicate, get_or-append, get_or-replicate}
+use lib.Seq.{get_or-set_same, get_or-set_other, get_or-append-add, get_or-take, length-take-le}
+use borrow.Rule.Slice.PartMut.{put_mid}
 use Rattle.rules.proofs.Numbers.{lt_or_ge}
 use Rattle.account.proofs.Lanes.{get_d_past}
 use Rattle.level.specs.Level.{AllTiles}
@@ -82,35 +83,33 @@ module _ (b : List ℕ) (k : ℕ) (f : AllTiles 1 b) (some : k ≡ 0 → ⊥) (h
 
 -- ---- floor from a place on
 
-pub record Cleared (old new : List ℕ) (k i : ℕ) : Type 0 where
-  pub long : length new ≡ length old
-  pub front : (j : ℕ) → j < k → get_or new j 0 ≡ get_or old j 0
-  pub floor : (j : ℕ) → k ≤ j → j < i → get_or new j 0 ≡ 0
+module _ (b z : List ℕ) (k n m : ℕ) (h : k ≤ length b) (e : n ≡ length b - k) (is : z ≡ replicate m 0) where
+  size : length (take k b) ≡ k
+  size = length-take-le k b h
 
-pub clear_none : (b : List ℕ) (k : ℕ) → Cleared b b k k
-clear_none b k = record { long = refl; front = λ j h. refl; floor = λ j a c. absurd (omega arith) }
+  pub filled_front : (i : ℕ) → i < k → get_or (put_mid k n b z) i 0 ≡ get_or b i 0
+  filled_front i l = get_or-append (take k b) (z ++ drop n (drop k b)) 0 i (omega (arith, size)) ∙ get_or-take k b i 0 l
 
-pub clear_more : (old new : List ℕ) (k i : ℕ) → k ≤ i → i < length new → Cleared old new k i → Cleared old (set new i 0) k (i + 1)
-clear_more old new k i h l s = record {
-  long = length-set new i 0 ∙ s.long;
-  front = λ j g. get_or-set_other new i j 0 0 (λ e. omega (arith, e, g, h)) ∙ s.front j g;
-  floor = λ j a c. go j a c (ℕ_discrete j i);
-}
-  where
-    go : (j : ℕ) → k ≤ j → j < i + 1 → Dec (j ≡ i) → get_or (set new i 0) j 0 ≡ 0
-    go j a c (yes e) = subst (λ (m : ℕ). get_or (set new i 0) m 0 ≡ 0) (sym e) (get_or-set_same new i 0 0 l)
-    go j a c (no n) = get_or-set_other new i j 0 0 n ∙ s.floor j a (omega (arith, c, n))
+  floor_in : (j : ℕ) → get_or (z ++ drop n (drop k b)) j 0 ≡ 0
+  floor_in j = ⊎_elim inside (λ l. get_d_past (z ++ drop n (drop k b)) j (omega (arith, l, none, length-append z (drop n (drop k b))))) (lt_or_ge j (length z))
+    where
+      none : length (drop n (drop k b)) ≡ 0
+      none = omega (arith, length-drop n (drop k b), length-drop k b, e)
 
--- all of it
-pub clear_end : (old new : List ℕ) (k i : ℕ) → length new ≤ i → Cleared old new k i → (j : ℕ) → k ≤ j → get_or new j 0 ≡ 0
-clear_end old new k i h s j a = ⊎_elim (λ l. s.floor j a (omega arith)) (λ l. get_d_past new j l) (lt_or_ge j (length new))
+      inside : j < length z → get_or (z ++ drop n (drop k b)) j 0 ≡ 0
+      inside l =
+          get_or-append z (drop n (drop k b)) 0 j l ∙ ap (λ (y : List ℕ). get_or y j 0) is
+          ∙ get_or-replicate m j 0 0 (omega (arith, l, ap length is, length-replicate {A = ℕ} m 0))
+
+  pub filled_floor : (i : ℕ) → k ≤ i → get_or (put_mid k n b z) i 0 ≡ 0
+  filled_floor i l =
+      let at : i ≡ length (take k b) + (i - k) = omega (arith, size) in
+      ap (λ (j : ℕ). get_or (put_mid k n b z) j 0) at ∙ get_or-append-add (take k b) (z ++ drop n (drop k b)) (i - k) 0 ∙ floor_in (i - k)
 
 -- then stepped
+
 module _ (old cleared : List ℕ) (k : ℕ) (f : AllTiles 1 old)
     (front : (i : ℕ) → i < k → get_or cleared i 0 ≡ get_or old i 0) (floor : (i : ℕ) → k ≤ i → get_or cleared i 0 ≡ 0) where
-  pub cleared_codes : AllTiles 1 cleared
-  cleared_codes i h = ⊎_elim (λ l. omega (arith, front i l, codes_all 1 old f i)) (λ l. omega (arith, floor i l)) (lt_or_ge i k)
-
   pub passed : (new : List ℕ) (r : Bool) → Stepped k cleared new r → Passed k old new r
   passed new r s =
       let same : digits k cleared ≡ digits k old = same_digits k cleared old front in

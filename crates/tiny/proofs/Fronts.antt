@@ -10,7 +10,7 @@ use Rattle.level.specs.Level.{AllTiles, Playable}
 use Rattle.tiles.specs.Sum.{weighed, weight}
 use Rattle.fields.proofs.Tiles.{at_most_each, sums}
 use Rattle.lending.proofs.Writing.{codes_all}
-use Rattle.tiny.specs.Parts.{Lost, Stuck}
+use Rattle.tiny.specs.Parts.{Lost, StuckAt}
 
 -- ---- what two parts of a board add
 
@@ -87,23 +87,18 @@ same_front b c k h l f = ext_get_or 0 (take k c) (take k b) (in_c ∙ sym in_b) 
 
 module _ (b : List ℕ) (codes : AllTiles 1 b) (short : length b ≤ 6) where
   -- some first tiles are lost
-  pub stuck_front : (k x left : ℕ) → 1 ≤ k → k ≤ length b → x ≡ weight (take k b) → k + left ≡ length b → Lost x left → Stuck b k
-  stuck_front k x left some h e s lost = record {
-    fair = λ z. absurd (omega arith);
+  pub stuck_front : (k x left : ℕ) → k ≤ length b → x ≡ weight (take k b) → k + left ≡ length b → Lost x left → StuckAt b k
+  stuck_front k x left h e s lost = record {
     within = h;
-    never = λ z c R f.
+    never = λ c R f.
         lost.never (take k b) (drop k c) e (codes_front b k codes) (omega (arith, length-take-le k b h, short)) (omega (arith, length-drop k c, R.long, s))
         (subst (λ (d : List ℕ). Playable 1 (totals d))
         (sym (take-append-drop k c) ∙ ap (λ (d : List ℕ). d ++ drop k c) (same_front b c k h R.long f)) R.fair);
   }
 
   -- all of them are as they should be, and it does not keep the rule
-  pub stuck_whole : (k : ℕ) → 1 ≤ k → k ≡ length b → (Playable 1 (totals b) → ⊥) → Stuck b k
-  stuck_whole k some e f = record {
-    fair = λ z. absurd (omega arith);
-    within = omega (arith, e);
-    never = λ z c R g. f (subst (λ (d : List ℕ). Playable 1 (totals d)) (ext_get_or 0 c b R.long (λ i h. g i (omega (arith, h, e, R.long)))) R.fair);
+  pub stuck_whole : (Playable 1 (totals b) → ⊥) → StuckAt b (length b)
+  stuck_whole f = record {
+    within = omega arith;
+    never = λ c R g. f (subst (λ (d : List ℕ). Playable 1 (totals d)) (ext_get_or 0 c b R.long (λ i h. g i (omega (arith, h, R.long)))) R.fair);
   }
-
-  pub stuck_free : Playable 1 (totals b) → Stuck b 0
-  stuck_free p = record { fair = λ z. p; within = omega arith; never = λ z. absurd (z refl) }

@@ -1,11 +1,12 @@
 -- A size that is tiny, and a board that is judged.
-use mathlib.Core.Path.{◌≡◌}
+use mathlib.Core.Path.{refl}
 use mathlib.Core.List.{List}
 use Prim.Native.Nat.{ℕ, ◌*◌, ◌≤◌}
 use native.Mathlib.Nat.{mul-le-mul, le_refl}
 use native.Mathlib.Omega.{arith}
-use Rattle.rules.specs.Refusal.{asked}
-use Rattle.rules.proofs.Laws.{all_hold, none_first}
+use Rattle.rules.specs.declared.Refusal.{Refusal}
+use Rattle.rules.specs.Refusal.{asked, number_of}
+use Rattle.rules.proofs.Laws.{some_number, all_hold, none_first}
 use Rattle.level.specs.Tile.{totals}
 use Rattle.level.specs.Level.{Sized, AllTiles, Playable, boarding}
 use Rattle.fields.specs.Sum.{board_of, BoardCode}
@@ -24,15 +25,10 @@ module _ (w h : ℕ) (t : Tiny w h) where
   pub some_tile : 1 ≤ w * h
   some_tile = omega (arith, mul-le-mul t.wide t.high)
 
--- neither number is above six
-pub product_most : (w h : ℕ) → w ≤ 6 → h ≤ 6 → w * h ≤ 36
-product_most w h a b = mul-le-mul a b
-
 -- ---- a board judged by refusals 9 and 10
 
-module _ (ts : List ℕ) (c : ℕ) (f : BoardCode 1 ts c) where
-  pub is_fair : c ≡ 0 → Playable 1 (totals ts)
-  is_fair z = (all_hold 10 (asked (λ ask. ask (board_of 1 ts)) boarding) c tt f z).1.0
+pub is_fair : (ts : List ℕ) → BoardCode 1 ts 0 → Playable 1 (totals ts)
+is_fair ts f = (all_hold 10 (asked (λ ask. ask (board_of 1 ts)) boarding) 0 tt f refl).1.0
 
-  pub not_fair : AllTiles 1 ts → (c ≡ 0 → ⊥) → Playable 1 (totals ts) → ⊥
-  not_fair a n p = n (none_first (asked (λ ask. ask (board_of 1 ts)) boarding) c (a, (p, tt)) f)
+pub not_fair : (ts : List ℕ) (e : Refusal) → BoardCode 1 ts (number_of e) → AllTiles 1 ts → Playable 1 (totals ts) → ⊥
+not_fair ts e f a p = some_number e (none_first (asked (λ ask. ask (board_of 1 ts)) boarding) (number_of e) (a, (p, tt)) f)

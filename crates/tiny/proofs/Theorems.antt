@@ -10,8 +10,8 @@ use lib.ListN.{length, get_or, take, take-append-drop}
 use Rattle.rules.proofs.Laws.{between, first_fixes, none_first, all_hold, same_numbers}
 use Rattle.rules.proofs.Numbers.{lt_or_ge}
 use Rattle.level.specs.Sizes.{tiles_most}
-use Rattle.tiny.specs.declared.Found.{Found}
-use Rattle.tiny.specs.declared.Found.TheVariants as answer
+use Rattle.std.specs.Prelude.{Option, Some, None, Result, Ok, Err}
+use Rattle.rules.specs.declared.Refusal.{Refusal}
 use Rattle.tiny.specs.Tiny.{Tiny, LegalBoard, number, Place, start, after, Later, IsNext, NoneLeft, next_numbers, stepping, StepsAs, Gave, Walk, WholeWalk, AllInOrder}
 use Rattle.tiny.proofs.Digits.{same_board, digits_below}
 
@@ -31,7 +31,7 @@ module _ (w h : ℕ) where
   none_between p b k c l e s = omega (arith, (gave_next p b k).least c l e, s)
 
   -- none is left exactly if there is none
-  pub none_left : (p : Place) (old new : List ℕ) (a : Found) → StepsAs w h p old new a → (next_numbers a).code ≡ 0
+  pub none_left : (p : Place) (old new : List ℕ) (a : Result (Option ℕ) Refusal) → StepsAs w h p old new a → (next_numbers a).code ≡ 0
       → ((next_numbers a).value ≡ 0 → NoneLeft w h p) × (NoneLeft w h p → (next_numbers a).value ≡ 0)
   none_left p old new a P z = (P.none z, λ n. go n (lt_or_ge (next_numbers a).value 1))
     where
@@ -45,14 +45,14 @@ module _ (w h : ℕ) where
   numbers_small (after g) room = tt
 
   -- the answer has at most six tiles
-  pub few_tiles : (p : Place) (old new : List ℕ) (a : Found) → StepsAs w h p old new a → (next_numbers a).value ≤ 6
-  few_tiles p old new (answer.Board n) P = go (lt_or_ge n 1)
+  pub few_tiles : (p : Place) (old new : List ℕ) (a : Result (Option ℕ) Refusal) → StepsAs w h p old new a → (next_numbers a).value ≤ 6
+  few_tiles p old new (Ok (Some n)) P = go (lt_or_ge n 1)
     where
       go : (n < 1) ⊎ (1 ≤ n) → n ≤ 6
       go (inl l) = omega (arith, l)
       go (inr l) = omega (arith, P.size l, (all_hold 31 (stepping w h p (length old)) 0 (numbers_small p (length old)) P.code refl).1.0.few)
-  few_tiles p old new answer.NoneLeft P = omega arith
-  few_tiles p old new (answer.Refused c) P = omega arith
+  few_tiles p old new (Ok None) P = omega arith
+  few_tiles p old new (Err e) P = omega arith
 
   -- the next board is one board
   pub next_fixed : (p : Place) (a b : List ℕ) → IsNext w h p a → IsNext w h p b → a ≡ b
@@ -62,17 +62,17 @@ module _ (w h : ℕ) where
 
   -- ---- FORMAT 10.9: the promise fixes every number and byte
 
-  refused_zero : (a : Found) → (next_numbers a).code ≢ 0 → (next_numbers a).value ≡ 0
-  refused_zero (answer.Board n) k = absurd (k refl)
-  refused_zero answer.NoneLeft k = refl
-  refused_zero (answer.Refused c) k = refl
+  refused_zero : (a : Result (Option ℕ) Refusal) → (next_numbers a).code ≢ 0 → (next_numbers a).value ≡ 0
+  refused_zero (Ok (Some n)) k = absurd (k refl)
+  refused_zero (Ok None) k = refl
+  refused_zero (Err e) k = refl
 
-  found_done : (a : Found) → 1 ≤ (next_numbers a).value → (next_numbers a).code ≡ 0
-  found_done (answer.Board n) l = refl
-  found_done answer.NoneLeft l = refl
-  found_done (answer.Refused c) l = absurd (omega (arith, l))
+  found_done : (a : Result (Option ℕ) Refusal) → 1 ≤ (next_numbers a).value → (next_numbers a).code ≡ 0
+  found_done (Ok (Some n)) l = refl
+  found_done (Ok None) l = refl
+  found_done (Err e) l = absurd (omega (arith, l))
 
-  module _ (p : Place) (old new new' : List ℕ) (a b : Found) (P : StepsAs w h p old new a) (Q : StepsAs w h p old new' b) where
+  module _ (p : Place) (old new new' : List ℕ) (a b : Result (Option ℕ) Refusal) (P : StepsAs w h p old new a) (Q : StepsAs w h p old new' b) where
     same_code : (next_numbers a).code ≡ (next_numbers b).code
     same_code = first_fixes (stepping w h p (length old)) (next_numbers a).code (next_numbers b).code P.code Q.code
 
@@ -80,7 +80,7 @@ module _ (w h : ℕ) where
     steps_fixed = go (lt_or_ge (next_numbers a).value 1) (lt_or_ge (next_numbers b).value 1)
       where
         -- the one has a board, and the other has none
-        differ : (x y : Found) (m n : List ℕ) → StepsAs w h p old m x → StepsAs w h p old n y → (next_numbers x).code ≡ (next_numbers y).code
+        differ : (x y : Result (Option ℕ) Refusal) (m n : List ℕ) → StepsAs w h p old m x → StepsAs w h p old n y → (next_numbers x).code ≡ (next_numbers y).code
             → 1 ≤ (next_numbers x).value → (next_numbers y).value < 1 → ⊥
         differ x y m n X Y e l k =
             Y.none (sym e ∙ found_done x l) (omega (arith, k)) (take (w * h) m) (X.next l).board (X.next l).later
@@ -100,7 +100,7 @@ module _ (w h : ℕ) where
 
   -- ---- FORMAT 16.8: a walk is not refused on its way
 
-  module _ (t : Tiny w h) (old new : List ℕ) (a : Found) (room : tiles_most ≤ length old) where
+  module _ (t : Tiny w h) (old new : List ℕ) (a : Result (Option ℕ) Refusal) (room : tiles_most ≤ length old) where
     pub start_taken : StepsAs w h start old new a → (next_numbers a).code ≡ 0
     start_taken P = none_first (stepping w h start (length old)) (next_numbers a).code (room, (t, tt)) P.code
 

@@ -1,11 +1,10 @@
 -- Parts: a board stepped, what can no more become legal, and the search for the next.
-use Rattle.std.specs.Prelude.{◌≡◌, Bool, true, false, List, ◌++◌, ℕ, ◌+◌, ◌≤◌, ◌<◌, length, get_or, take, drop}
+use Rattle.std.specs.Prelude.{◌≡◌, Bool, true, false, Option, Some, None, List, ◌++◌, ℕ, ◌+◌, ◌≤◌, ◌<◌, length, get_or, take, drop}
 use Rattle.level.specs.Sizes.{tiles_most}
 use Rattle.level.specs.Tile.{totals}
 use Rattle.level.specs.Level.{AllTiles, Playable}
 use Rattle.tiles.specs.Sum.{weight}
-use Rattle.tiny.specs.Tiny.{digits, number, next_numbers}
-use Rattle.tiny.specs.declared.Found.{Found}
+use Rattle.tiny.specs.Tiny.{digits, number}
 
 -- n tiles that keep the rule
 pub record Ruled (n : ℕ) (b : List ℕ) : Type 0 where
@@ -38,11 +37,15 @@ pub record Lost (x left : ℕ) : Type 0 where
   pub never : (front back : List ℕ) → x ≡ weight front → AllTiles 1 front → length front ≤ tiles_most → length back ≡ left
       → Playable 1 (totals (front ++ back)) → ⊥
 
--- 0 for a board that keeps the rule, or so many first tiles that no board with them keeps it
-pub record Stuck (b : List ℕ) (r : ℕ) : Type 0 where
-  pub fair : r ≡ 0 → Playable 1 (totals b)
-  pub within : r ≤ length b
-  pub never : (r ≡ 0 → ⊥) → (c : List ℕ) → Ruled (length b) c → ((i : ℕ) → i < r → get_or c i 0 ≡ get_or b i 0) → ⊥
+-- no board with the first k tiles of this one keeps it
+pub record StuckAt (b : List ℕ) (k : ℕ) : Type 0 where
+  pub within : k ≤ length b
+  pub never : (c : List ℕ) → Ruled (length b) c → ((i : ℕ) → i < k → get_or c i 0 ≡ get_or b i 0) → ⊥
+
+-- or the board keeps the rule
+abbrev pub Stuck : List ℕ → Option ℕ → Type 0
+Stuck b (Some k) = StuckAt b k
+Stuck b None = Playable 1 (totals b)
 
 -- ---- the search
 
@@ -56,21 +59,18 @@ pub record NoneBetween (old new : List ℕ) : Type 0 where
 abbrev pub Over : List ℕ → Type 0
 Over old = (c : List ℕ) → Ruled (length old) c → number old < number c → ⊥
 
--- the search goes on at new, or is over
-abbrev pub Goes : List ℕ → List ℕ → Bool → Type 0
-Goes old new true = NoneBetween old new
-Goes old new false = Over old
-
 -- what it finds: that new keeps the rule, or that none later does
 abbrev pub Seeks : List ℕ → List ℕ → Bool → Type 0
 Seeks old new true = NoneBetween old new × Playable 1 (totals new)
 Seeks old new false = Over old
 
--- the next after the tiles `from` put in a buffer, or none
-pub record GoesOn (from old new : List ℕ) (a : Found) : Type 0 where
-  pub code : (next_numbers a).code ≡ 0
-  pub size : 1 ≤ (next_numbers a).value → (next_numbers a).value ≡ length from
-  pub next : 1 ≤ (next_numbers a).value → Seeks from (take (length from) new) true
-  pub past : 1 ≤ (next_numbers a).value → drop (length from) new ≡ drop (length from) old
-  pub none : (next_numbers a).value ≡ 0 → Over from
-  pub kept : (next_numbers a).value ≡ 0 → new ≡ old
+-- the next after the tiles `from` put in a buffer, of n tiles
+pub record BoardPut (from old new : List ℕ) (n : ℕ) : Type 0 where
+  pub size : n ≡ length from
+  pub next : Seeks from (take (length from) new) true
+  pub past : drop (length from) new ≡ drop (length from) old
+
+-- or none
+abbrev pub GoesOn : List ℕ → List ℕ → List ℕ → Option ℕ → Type 0
+GoesOn from old new (Some n) = BoardPut from old new n
+GoesOn from old new None = Over from × (new ≡ old)

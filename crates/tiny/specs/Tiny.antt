@@ -1,11 +1,10 @@
 -- FORMAT 16: the legal boards of a tiny size, one after another.
-use Rattle.std.specs.Prelude.{◌≡◌, Bool, true, false, List, [], ◌∷◌, ℕ, zero, suc, ◌+◌, ◌*◌, ◌≤◌, ◌<◌, length, get_or, take, drop}
-use Rattle.rules.specs.Refusal.{Rule, unless, First, Numbers, done, refused}
+use Rattle.std.specs.Prelude.{◌≡◌, Bool, true, false, List, [], ◌∷◌, ℕ, zero, suc, ◌+◌, ◌*◌, ◌≤◌, ◌<◌, length, get_or, take, drop, Option, Some, None, Result, Ok, Err}
+use Rattle.rules.specs.declared.Refusal.{Refusal}
+use Rattle.rules.specs.Refusal.{Rule, unless, First, Numbers, number_of, done, refused}
 use Rattle.level.specs.Sizes.{tiles_most}
 use Rattle.level.specs.Level.{IsLevel, Counted, Coded}
 use Rattle.level.specs.Writing.{lent}
-use Rattle.tiny.specs.declared.Found.{Found}
-use Rattle.tiny.specs.declared.Found.TheVariants as answer
 
 -- FORMAT 16.1: a size of at most six tiles
 abbrev pub tiny_most : ℕ
@@ -58,10 +57,10 @@ place_of true g = start
 place_of false g = after g
 
 -- FORMAT 8.28: the numbers of an answer: its refusal, and how many tiles the next board has, 0 where none is left
-abbrev pub next_numbers : Found → Numbers
-next_numbers (answer.Board n) = done n
-next_numbers answer.NoneLeft = done 0
-next_numbers (answer.Refused c) = refused c
+abbrev pub next_numbers : Result (Option ℕ) Refusal → Numbers
+next_numbers (Ok (Some n)) = done n
+next_numbers (Ok None) = done 0
+next_numbers (Err e) = refused (number_of e)
 
 -- FORMAT 9.8, 9.9, 16.6: what is asked of a given board; it need not be legal
 abbrev pub giving : ℕ → ℕ → Place → List Rule
@@ -74,7 +73,7 @@ stepping w h p room = unless 4 (tiles_most ≤ room) ∷ unless 14 (Tiny w h) �
 
 -- FORMAT 8.28, 10.2: the promise. The next board in front of the buffer, what is past it kept; or none is left, or a refusal, and the buffer as
 -- it was.
-pub record StepsAs (w h : ℕ) (p : Place) (old new : List ℕ) (a : Found) : Type 0 where
+pub record StepsAs (w h : ℕ) (p : Place) (old new : List ℕ) (a : Result (Option ℕ) Refusal) : Type 0 where
   pub code : First (stepping w h p (length old)) (next_numbers a).code
   pub size : 1 ≤ (next_numbers a).value → (next_numbers a).value ≡ w * h
   pub next : 1 ≤ (next_numbers a).value → IsNext w h p (take (w * h) new)
@@ -88,7 +87,7 @@ pub record StepsAs (w h : ℕ) (p : Place) (old new : List ℕ) (a : Found) : Ty
 pub record Gave (w h : ℕ) (p : Place) (b : List ℕ) : Type 0 where
   pub old : List ℕ
   pub new : List ℕ
-  pub answer : Found
+  pub answer : Result (Option ℕ) Refusal
   pub promise : StepsAs w h p old new answer
   pub found : 1 ≤ (next_numbers answer).value
   pub front : b ≡ take (w * h) new
@@ -97,7 +96,7 @@ pub record Gave (w h : ℕ) (p : Place) (b : List ℕ) : Type 0 where
 pub record SaidNone (w h : ℕ) (p : Place) : Type 0 where
   pub old : List ℕ
   pub new : List ℕ
-  pub answer : Found
+  pub answer : Result (Option ℕ) Refusal
   pub promise : StepsAs w h p old new answer
   pub done : (next_numbers answer).code ≡ 0
   pub none : (next_numbers answer).value ≡ 0

@@ -1,24 +1,16 @@
 // Tiny boards: the legal boards of a size of at most six tiles, one after another.
 #![tactic(auto)]
 
-ghost use Rattle.std.specs.Prelude.{◌≡◌, true, ℕ, ◌≤◌, ◌<◌, length, get_or, replicate};
+ghost use Rattle.std.specs.Prelude.{◌≡◌, true, ◌≤◌, length, replicate};
 ghost use Rattle.rules.specs.Says.{Says};
-ghost use Rattle.rules.specs.Refusal.{First};
+ghost use Rattle.rules.specs.Refusal.{First, code_of};
 ghost use Rattle.level.specs.Sizes.{tiles_most};
 ghost use Rattle.level.specs.Level.{AllTiles};
-ghost use Rattle.tiles.specs.Rows.{Packs};
 ghost use Rattle.tiny.specs.Tiny.{tiny_most, Tiny, place_of, after, giving, StepsAs};
 ghost use Rattle.tiny.specs.Parts.{Stepped, Passed, Lost, Stuck, Seeks, GoesOn};
 
 use level::TILES_MOST;
-
-// What a step answers: the tiles of the next board, that none is left, or a refusal's number.
-#[derive(Clone, Copy)]
-pub enum Found {
-    Board(usize),
-    NoneLeft,
-    Refused(u8),
-}
+use rules::Refusal;
 
 // The version of tiny boards.
 const VERSION: usize = 1;
@@ -27,56 +19,35 @@ const VERSION: usize = 1;
 const TINY_MOST: usize = 6;
 
 // A size of at most six tiles. Where neither number is above six, their product has room.
+#[tactic(auto, using(crate::proofs::Given::wide_most, crate::proofs::Given::high_most))]
 fn tiny(w: usize, h: usize) -> bool
     ensures { Says result (Tiny w h) }
 {
-    if w < 1 {
-        return false;
-    }
-    if TINY_MOST < w {
-        return false;
-    }
-    if h < 1 {
-        return false;
-    }
-    if TINY_MOST < h {
-        return false;
-    }
-    if TINY_MOST < w * h {
-        return false;
-    }
-    true
+    1 <= w && w <= TINY_MOST && 1 <= h && h <= TINY_MOST && w * h <= TINY_MOST
 }
 
 // Each tile has a code.
 fn coded(tiles: &[u8]) -> bool
     ensures { Says result (AllTiles 1 tiles.now) }
 {
-    let mut i = 0;
-    while i < tiles.len() {
-        if 6 < tiles[i] {
-            return false;
-        }
-        i += 1;
-    }
-    true
+    tiles.iter().all(|t| *t <= 6)
 }
 
-// Refusals 8 and 9 of a given board, or 0: that it is no level is no refusal here.
-fn given_code(w: usize, h: usize, given: &[u8]) -> u8
+// Refusals 8 and 9 of a given board: that it is no level is no refusal here.
+fn check(w: usize, h: usize, given: &[u8]) -> Result<(), Refusal>
     requires { Tiny w h }
-    ensures { First (giving w h (after given.now)) result }
+    ensures { First (giving w h (after given.now)) (code_of result) }
 {
     if given.len() != w * h {
-        return 8;
+        return Err(Refusal::Shape);
     }
     if !coded(given) {
-        return 9;
+        return Err(Refusal::TileCode);
     }
-    0
+    Ok(())
 }
 
-// The first `at` tiles as one number in base 7, and one more: a 6 becomes 0 and is carried to the place before it. False past the first place.
+// (The recursion over the places is as the project's paper has it.) The first `at` tiles as one number in base 7, and one more: a 6 becomes 0 and is carried to the place before it. False past the first place.
 fn step(board: &mut [u8], at: usize) -> bool
     requires { AllTiles 1 board.old × (at ≤ length board.old) }
     ensures { Stepped at board.old board.new result }
@@ -94,23 +65,12 @@ fn step(board: &mut [u8], at: usize) -> bool
     step(board, i)
 }
 
-// Floor from place k on.
-fn clear(board: &mut [u8], k: usize)
-    ensures { ((i : ℕ) → i < k → get_or board.new i 0 ≡ get_or board.old i 0) × ((i : ℕ) → k ≤ i → get_or board.new i 0 ≡ 0) }
-{
-    let mut i = k;
-    while i < board.len() {
-        board[i] = 0;
-        i += 1;
-    }
-}
-
 // On to the next number that has other first k tiles.
 fn pass(board: &mut [u8], k: usize) -> bool
     requires { AllTiles 1 board.old × (k ≤ length board.old) }
     ensures { Passed k board.old board.new result }
 {
-    clear(board, k);
+    board[k..].fill(0);
     step(board, k)
 }
 
@@ -124,37 +84,26 @@ fn lost(x: u64, left: usize) -> bool
     let crates = x / 1024 % 1024;
     let goals = x / 1048576 % 1024;
     let most = left as u64;
-    if 1 < players {
-        return true;
-    }
-    if goals + most < crates {
-        return true;
-    }
-    if crates + most < goals {
-        return true;
-    }
-    false
+    1 < players || goals + most < crates || crates + most < goals
 }
 
-// 0 for a legal board; else how many of its first tiles no legal board begins with.
-fn stuck(rows: &[u64; 9], board: &[u8]) -> usize
-    requires { Packs rows.now × AllTiles 1 board.now × (1 ≤ length board.now) × (length board.now ≤ tiny_most) }
+// None for a legal board; else how many of its first tiles no legal board begins with.
+fn stuck(board: &[u8]) -> Option<usize>
+    requires { AllTiles 1 board.now × (1 ≤ length board.now) × (length board.now ≤ tiny_most) }
     ensures { Stuck board.now result }
 {
     let n = board.len();
     let mut x: u64 = 0;
-    let mut i: usize = 0;
-    while i < n {
-        x += tiles::tile::weigh(rows, board[i]);
-        i += 1;
-        if lost(x, n - i) {
-            return i;
+    for i in 0..n {
+        x += tiles::tile::weigh(board[i]);
+        if lost(x, n - 1 - i) {
+            return Some(i + 1);
         }
     }
-    if fields::tile::sum_code(VERSION, x) != 0 {
-        return n;
+    match fields::tile::sum_code(VERSION, x) {
+        Ok(()) => None,
+        Err(_) => Some(n),
     }
-    0
 }
 
 // The next legal board, over the one that is lent. What no legal board begins with is passed over in one step.
@@ -162,66 +111,59 @@ fn seek(board: &mut [u8]) -> bool
     requires { AllTiles 1 board.old × (1 ≤ length board.old) × (length board.old ≤ tiny_most) }
     ensures { Seeks board.old board.new result }
 {
-    let rows = tiles::tile::rows();
-    let n = board.len();
-    let mut going = pass(board, n);
-    while going {
-        let k = stuck(&rows, board);
-        if k == 0 {
+    let mut k = board.len();
+    while pass(board, k) {
+        let Some(n) = stuck(board) else {
             return true;
-        }
-        going = pass(board, k);
+        };
+        k = n;
     }
     false
 }
 
-// The next legal board after the one that is lent and searched from, in front of the buffer.
-fn answer(board: &mut [u8], tiles: &mut [u8]) -> Found
-    requires { AllTiles 1 board.old × (1 ≤ length board.old) × (length board.old ≤ tiny_most) × (tiles_most ≤ length tiles.old) }
-    ensures { GoesOn board.old tiles.old tiles.new result }
-{
-    if !seek(board) {
-        return Found::NoneLeft;
-    }
-    rules::copy(board, tiles);
-    Found::Board(board.len())
-}
-
-// The same after tiles that keep their values.
-fn go_on(from: &[u8], tiles: &mut [u8]) -> Found
+// How many tiles the next legal board after the tiles `from` has, in front of the buffer; or none is left.
+fn go_on(from: &[u8], tiles: &mut [u8]) -> Option<usize>
     requires { AllTiles 1 from.now × (1 ≤ length from.now) × (length from.now ≤ tiny_most) × (tiles_most ≤ length tiles.old) }
     ensures { GoesOn from.now tiles.old tiles.new result }
 {
+    let n = from.len();
     let mut board = [0u8; TINY_MOST];
-    rules::copy(from, &mut board);
-    answer(&mut board[0..from.len()], tiles)
+    board[..n].copy_from_slice(from);
+    if !seek(&mut board[..n]) {
+        return None;
+    }
+    tiles[..n].copy_from_slice(&board[..n]);
+    Some(from.len())
 }
 
 // The first legal board of n tiles: all floor is no legal board, and the least of all, so that it is the next after it.
-fn first(n: usize, tiles: &mut [u8]) -> Found
+fn first(n: usize, tiles: &mut [u8]) -> Option<usize>
     requires { (1 ≤ n) × (n ≤ tiny_most) × (tiles_most ≤ length tiles.old) }
     ensures { GoesOn (replicate n 0) tiles.old tiles.new result }
 {
     let floor = [0u8; TINY_MOST];
-    go_on(&floor[0..n], tiles)
+    go_on(&floor[..n], tiles)
 }
 
-// The next legal board of a size: the first, where the start is wished for, or the one after a given board.
-pub fn next(w: usize, h: usize, start: bool, given: &[u8], tiles: &mut [u8]) -> Found
+// How many tiles the next legal board of a size has: the first, where the start is wished for, or the one after a given board; or none is left.
+pub fn next(
+    w: usize,
+    h: usize,
+    start: bool,
+    given: &[u8],
+    tiles: &mut [u8],
+) -> Result<Option<usize>, Refusal>
     ensures { StepsAs w h (place_of start given.now) tiles.old tiles.new result }
 {
     if tiles.len() < TILES_MOST {
-        return Found::Refused(4);
+        return Err(Refusal::Buffer);
     }
     if !tiny(w, h) {
-        return Found::Refused(14);
+        return Err(Refusal::NotTiny);
     }
     if start {
-        return first(w * h, tiles);
+        return Ok(first(w * h, tiles));
     }
-    let code = given_code(w, h, given);
-    if code != 0 {
-        return Found::Refused(code);
-    }
-    go_on(given, tiles)
+    check(w, h, given)?;
+    Ok(go_on(given, tiles))
 }

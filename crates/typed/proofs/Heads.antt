@@ -1,44 +1,41 @@
 -- The first line of a text: its digits read, and its line held against the text.
 use mathlib.Core.Path.{◌≡◌, refl, sym, ap, ap₂, ◌∙◌, subst}
 use mathlib.Core.List.{List, [], ◌∷◌, ◌++◌}
-use mathlib.Core.Bool.{Bool, cond}
+use mathlib.Core.Bool.{Bool, true, false, cond}
 use Prim.Native.Nat.{ℕ, zero, suc, ◌+◌, ◌*◌, ◌-◌, ◌/◌, ◌%◌, ◌^◌, ◌≤◌, ◌<◌}
 use native.Mathlib.Nat.{pow-suc}
-use native.Mathlib.Numerals.{add-one}
 use native.Mathlib.Omega.{arith}
 use borrow.Author.Tests.{lt-ltb, le-ltb}
-use lib.Dec.{ltb}
-use lib.ListN.{length, get_or, take, drop, length-take, take-append-drop}
-use lib.Seq.{take-suc, take-length, get_or-take, get_or-drop, drop-drop, append_snoc}
+use lib.Dec.{ltb, eqb}
+use lib.ListN.{length, get_or, take, drop, take-append-drop}
+use lib.Seq.{get_or-drop, drop-drop, append_snoc, take_at}
 use Rattle.typed.specs.Text.{decimal}
-use Rattle.typed.specs.Parts.{line_of, spelled, Starts, HeadIs}
-use Rattle.typed.specs.declared.head.Head.{Head}
+use Rattle.typed.specs.Parts.{line_of, LineIs, spelled, Starts, Headed, HeadIs}
+use Rattle.typed.specs.declared.line.Line.{Line}
+use Rattle.std.specs.Prelude.{None}
+use Rattle.std.specs.List.{starts_with}
+use Rattle.std.proofs.lemmas.Slice.Eq.{starts_is}
+use Rattle.std.proofs.lemmas.Bool.Decides.{Decides-eqb}
+use Rattle.std.proofs.lemmas.Bool.{false≢true}
 use Rattle.typed.proofs.Lines.{decimal_by, digits_3, digits_4}
 
 -- ---- a line held against a text
 
 module _ (line text : List ℕ) where
-  pub too_short : length text < length line → Starts line text → ⊥
-  too_short h s = omega (arith, h, ap length s, length-take (length line) text)
-
-  pub unlike : (i : ℕ) → i < length line → (get_or text i 0 ≡ get_or line i 0 → ⊥) → Starts line text → ⊥
-  unlike i h n s = n (sym (get_or-take (length line) text i 0 h) ∙ ap (λ (l : List ℕ). get_or l i 0) s)
-
-  pub alike_more : (i : ℕ) → i < length line → length line ≤ length text → get_or text i 0 ≡ get_or line i 0 → take i text ≡ take i line
-      → take (i + 1) text ≡ take (i + 1) line
-  alike_more i h k e p =
-      ap (λ (j : ℕ). take j text) (add-one i)
-      ∙ take-suc text i 0 (omega arith)
-      ∙ ap₂ (λ (a : List ℕ) (b : ℕ). a ++ (b ∷ [])) p e
-      ∙ sym (take-suc line i 0 h)
-      ∙ sym (ap (λ (j : ℕ). take j line) (add-one i))
-
-  pub alike_all : (i : ℕ) → i ≡ length line → take i text ≡ take i line → Starts line text
-  alike_all i e p = sym (ap (λ (j : ℕ). take j text) e) ∙ p ∙ ap (λ (j : ℕ). take j line) e ∙ take-length line
-
   -- a text that starts with a line is that line and the rest
   pub started : Starts line text → text ≡ line ++ drop (length line) text
   started s = sym (take-append-drop (length line) text) ∙ ap (λ (l : List ℕ). l ++ drop (length line) text) s
+
+-- a test for it
+module _ (text line : List ℕ) where
+  cases : (r : Bool) → r ≡ starts_with eqb text line → (r ≡ true → text ≡ line ++ drop (length line) text) × ((rest : List ℕ) → text ≡ line ++ rest → r ≡ true)
+  cases r e = starts_is Decides-eqb text line r e
+
+  pub starts_so : starts_with eqb text line ≡ true → Starts line text
+  starts_so s = ap (take (length line)) ((cases (starts_with eqb text line) refl).0 s) ∙ take_at line (drop (length line) text) (length line) refl
+
+  pub starts_not : starts_with eqb text line ≡ false → Starts line text → ⊥
+  starts_not s t = false≢true (sym s ∙ (cases (starts_with eqb text line) refl).1 (drop (length line) text) (started line text t))
 
 -- ---- digits read
 
@@ -140,21 +137,15 @@ line_spelled par text h s =
 
 -- no par that the digits do not spell has its line here
 module _ (text : List ℕ) (n : ℕ) (told : n ≡ spelled 4 0 (drop 4 text)) where
-  pub head_large : 1023 < n → (r : Head) → r ≡ record { par = 0; from = 0 } → HeadIs text r
-  head_large h r e = rw e record {
-    small = λ k. absurd (k refl);
-    size = λ k. absurd (k refl);
-    starts = λ k. absurd (k refl);
-    none = λ _ par p s. omega (arith, told, line_spelled par text p s, h, p);
-  }
+  pub head_large : 1023 < n → HeadIs text None
+  head_large h = λ par p s. omega (arith, told, line_spelled par text p s, h, p)
 
-  pub head_other : (Starts (line_of n) text → ⊥) → (r : Head) → r ≡ record { par = 0; from = 0 } → HeadIs text r
-  head_other k r e = rw e record {
-    small = λ k. absurd (k refl);
-    size = λ k. absurd (k refl);
-    starts = λ k. absurd (k refl);
-    none = λ _ par p s. k (subst (λ (q : ℕ). Starts (line_of q) text) (sym (line_spelled par text p s) ∙ sym told) s);
-  }
+  pub head_other : (Starts (line_of n) text → ⊥) → HeadIs text None
+  head_other k = λ par p s. k (subst (λ (q : ℕ). Starts (line_of q) text) (sym (line_spelled par text p s) ∙ sym told) s)
 
-pub head_read : (text : List ℕ) (n m : ℕ) → n ≤ 1023 → m ≡ length (line_of n) → Starts (line_of n) text → HeadIs text record { par = n; from = m }
-head_read text n m h e s = record { small = λ _. h; size = λ _. e; starts = λ _. s; none = λ z. absurd (omega (arith, z, e)) }
+  -- the line of that number is held against the text
+  pub head_told : n ≤ 1023 → (r : Line) → LineIs n r → starts_with eqb text (take r.len r.bytes) ≡ true → Headed text (record { par = n; from = r.len })
+  head_told h r L s = record { small = h; size = L.size; starts = subst (λ (l : List ℕ). Starts l text) L.is (starts_so text (take r.len r.bytes) s) }
+
+  pub head_not : (r : Line) → LineIs n r → starts_with eqb text (take r.len r.bytes) ≡ false → HeadIs text None
+  head_not r L s = head_other (λ t. starts_not text (take r.len r.bytes) s (subst (λ (l : List ℕ). Starts l text) (sym L.is) t))

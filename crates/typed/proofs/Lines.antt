@@ -1,14 +1,14 @@
 -- The first line: a number in as many digits as it takes, and a line's bytes.
-use mathlib.Core.Path.{◌≡◌, refl, ap, ◌∙◌}
+use mathlib.Core.Path.{◌≡◌, refl, ◌∙◌}
 use mathlib.Core.Logic.{⊎_elim}
 use mathlib.Core.List.{List, [], ◌∷◌, ◌++◌}
-use Prim.Native.Nat.{ℕ, ◌+◌, ◌-◌, ◌/◌, ◌%◌, ◌≤◌, ◌<◌}
+use Prim.Native.Nat.{ℕ, ◌+◌, ◌/◌, ◌%◌, ◌≤◌, ◌<◌}
 use native.Mathlib.Omega.{arith}
 use borrow.Author.Tests.{lt-ltb, le-ltb}
 use lib.ListN.{length, take}
 use Rattle.rules.proofs.Numbers.{lt_or_ge}
 use Rattle.typed.specs.Text.{digits, decimal}
-use Rattle.typed.specs.Parts.{LineIs, line_of}
+use Rattle.typed.specs.Parts.{LineIs}
 use Rattle.typed.specs.declared.line.Line.{Line}
 
 -- ---- a number
@@ -76,7 +76,3 @@ module _ (n : ℕ) where
   pub line_4 : (a b c d : ℕ) → 1000 ≤ n → a ≡ 48 + n / 1000 % 10 → b ≡ 48 + n / 100 % 10 → c ≡ 48 + n / 10 % 10 → d ≡ 48 + n % 10
       → LineIs n record { bytes = 112 ∷ 97 ∷ 114 ∷ 32 ∷ a ∷ b ∷ c ∷ d ∷ 10 ∷ []; len = 9 }
   line_4 a b c d g ea eb ec ed = line_is _ _ (decimal_4 n g ∙ digits_4 n) refl (omega arith) (rw (ea, eb, ec, ed) refl)
-
-  -- lent as `&bytes[0..len]`, it arrives as len - 0 bytes
-  pub line_part : (r : Line) → LineIs n r → take (r.len - 0) r.bytes ≡ line_of n
-  line_part r L = let z : r.len - 0 ≡ r.len = omega arith in ap (λ (k : ℕ). take k r.bytes) z ∙ L.is

@@ -1,12 +1,14 @@
 -- Letters and tiles.
-use mathlib.Core.Path.{◌≡◌, refl, sym, ap, ◌∙◌, subst}
+use mathlib.Core.Path.{◌≡◌, refl, sym, ap, subst}
 use mathlib.Core.Logic.{⊎_elim}
-use mathlib.Core.Bool.{Bool, cond}
+use mathlib.Core.Bool.{Bool, false, cond, ◌||◌}
+use lib.Dec.{eqb}
+use Rattle.rules.specs.Says.{Says}
 use mathlib.Core.List.{List, [], ◌∷◌}
 use Prim.Native.Nat.{ℕ, zero, suc, ◌+◌, ◌/◌, ◌%◌, ◌≤◌}
 use native.Mathlib.Decide.{ℕ_discrete}
 use native.Mathlib.Omega.{arith}
-use borrow.Author.Tests.{lt-ltb, le-ltb, ne_eqb}
+use borrow.Author.Tests.{lt-ltb, le-ltb, eq-eqb, ne_eqb}
 use lib.ListN.{get_or}
 use Rattle.rules.proofs.Numbers.{lt_or_ge}
 use Rattle.typed.specs.Letters.{Letter, letters, tile_in, tile_of, letter_of}
@@ -19,26 +21,31 @@ All (l ∷ ls) P = P l.letter × All ls P
 
 -- ---- bytes that are no letters
 
--- beside N, the byte is none of the letters: what the last arm of a `match` is told
-abbrev None : List Letter → Type 0 → ℕ → Type 0
-None [] N c = N
-None (l ∷ ls) N c = None ls (N × (c ≡ l.letter → ⊥)) c
+-- a byte is one of the letters of a list
+abbrev pub among : List Letter → ℕ → Bool
+among [] c = false
+among (l ∷ ls) c = eqb l.letter c || among ls c
 
-beside : (ls : List Letter) (N : Type 0) (c : ℕ) → None ls N c → N
-beside [] N c n = n
-beside (l ∷ ls) N c n = (beside ls (N × (c ≡ l.letter → ⊥)) c n).0
+-- which have tile codes
+abbrev Coded : List Letter → Type 0
+Coded [] = Unit {0}
+Coded (l ∷ ls) = (l.tile ≤ 6) × Coded ls
 
-none_in : (ls : List Letter) (N : Type 0) (c : ℕ) → None ls N c → tile_in ls c ≡ 7
-none_in [] N c n = refl
-none_in (l ∷ ls) N c n =
-    rw (ne_eqb l.letter c (λ e. (beside ls (N × (c ≡ l.letter → ⊥)) c n).1 (sym e))) (none_in ls (N × (c ≡ l.letter → ⊥)) c n)
+among_in : (ls : List Letter) → Coded ls → (c : ℕ) → Says (among ls c) (tile_in ls c ≤ 6)
+among_in [] t c = λ h. omega arith
+among_in (l ∷ ls) (t, ts) c = go (ℕ_discrete l.letter c) (among_in ls ts c)
+  where
+    go : Dec (l.letter ≡ c) → Says (among ls c) (tile_in ls c ≤ 6) → Says (among (l ∷ ls) c) (tile_in (l ∷ ls) c ≤ 6)
+    go (yes e) s = rw (eq-eqb l.letter c e) t
+    go (no n) s = rw (ne_eqb l.letter c n) s
 
--- such a byte has tile 7
-pub no_letter : (c : ℕ) → None letters (Unit {0}) c → 7 ≡ tile_of c
+pub among_letters : (c : ℕ) (r : Bool) → r ≡ among letters c → Says r (tile_of c ≤ 6)
 unfolding tile_of
-no_letter c n = sym (none_in letters (Unit {0}) c n)
+among_letters c r e =
+    subst (λ (b : Bool). Says b (tile_of c ≤ 6)) (sym e)
+    (among_in letters (omega arith, (omega arith, (omega arith, (omega arith, (omega arith, (omega arith, (omega arith, (omega arith, tt)))))))) c)
 
--- a line feed is such a byte
+-- a line feed is none
 feed_none : tile_of 10 ≡ 7
 unfolding tile_of
 feed_none = refl
@@ -59,6 +66,18 @@ letter_tile (suc (suc (suc (suc zero)))) h = refl
 letter_tile (suc (suc (suc (suc (suc zero))))) h = refl
 letter_tile (suc (suc (suc (suc (suc (suc zero)))))) h = refl
 letter_tile (suc (suc (suc (suc (suc (suc (suc t))))))) h = absurd (omega arith)
+
+-- by the letters in a row
+pub letter_at : (t : ℕ) → t ≤ 6 → get_or (45 ∷ 35 ∷ 36 ∷ 46 ∷ 42 ∷ 64 ∷ 43 ∷ 32 ∷ []) t 0 ≡ letter_of t
+unfolding letter_of
+letter_at zero h = refl
+letter_at (suc zero) h = refl
+letter_at (suc (suc zero)) h = refl
+letter_at (suc (suc (suc zero))) h = refl
+letter_at (suc (suc (suc (suc zero)))) h = refl
+letter_at (suc (suc (suc (suc (suc zero))))) h = refl
+letter_at (suc (suc (suc (suc (suc (suc zero)))))) h = refl
+letter_at (suc (suc (suc (suc (suc (suc (suc t))))))) h = absurd (omega arith)
 
 -- ---- one letter after the other
 
@@ -82,52 +101,14 @@ key c = (c + c / 64) % 16
 
 -- the tile at each of them
 abbrev tiles : List ℕ
-tiles = 0 ∷ 5 ∷ 7 ∷ 1 ∷ 2 ∷ 7 ∷ 7 ∷ 7 ∷ 7 ∷ 7 ∷ 4 ∷ 6 ∷ 7 ∷ 0 ∷ 3 ∷ []
+tiles = 0 ∷ 5 ∷ 7 ∷ 1 ∷ 2 ∷ 7 ∷ 7 ∷ 7 ∷ 7 ∷ 7 ∷ 4 ∷ 6 ∷ 7 ∷ 0 ∷ 3 ∷ 7 ∷ []
 
-keyed : (c : ℕ) → tile_of c ≤ 6 → get_or tiles (key c) 0 ≡ tile_of c
+pub keyed : (c : ℕ) → tile_of c ≤ 6 → get_or tiles (key c) 0 ≡ tile_of c
 unfolding tile_of
 keyed c h = each_letter (λ x. get_or tiles (key x) 0 ≡ tile_of x) (refl, (refl, (refl, (refl, (refl, (refl, (refl, (refl, tt)))))))) c h
 
 pub letter_low : (c : ℕ) → tile_of c ≤ 6 → c ≤ 64
 letter_low c h = each_letter (λ x. x ≤ 64) (omega arith, (omega arith, (omega arith, (omega arith, (omega arith, (omega arith, (omega arith, (omega arith, tt)))))))) c h
-
-pub tile_at : (k c : ℕ) → tile_of c ≤ 6 → key c ≡ k → get_or tiles k 0 ≡ tile_of c
-tile_at k c h e = ap (λ (i : ℕ). get_or tiles i 0) (sym e) ∙ keyed c h
-
--- and the last of them, where it is none of the others
-abbrev Not : ℕ → ℕ → Type 0
-Not k c = key c ≡ k → ⊥
-
-abbrev Others : ℕ → Type 0
-Others c = ((((((Unit {0} × Not 0 c) × Not 1 c) × Not 3 c) × Not 4 c) × Not 10 c) × Not 11 c) × Not 13 c
-
-pub tile_last : (c : ℕ) → tile_of c ≤ 6 → Others c → 3 ≡ tile_of c
-unfolding tile_of
-tile_last c h o = each_letter (λ x. Others x → 3 ≡ tile_of x) (floor, (wall, (crate', (goal, (stored, (player, (on_goal, (space, tt)))))))) c h o
-  where
-    floor : Others 45 → ◌≡◌ {A = ℕ} 3 0
-    floor o = absurd (o.1 refl)
-
-    wall : Others 35 → ◌≡◌ {A = ℕ} 3 1
-    wall o = absurd (o.0.0.0.0.1 refl)
-
-    crate' : Others 36 → ◌≡◌ {A = ℕ} 3 2
-    crate' o = absurd (o.0.0.0.1 refl)
-
-    goal : Others 46 → ◌≡◌ {A = ℕ} 3 3
-    goal o = refl
-
-    stored : Others 42 → ◌≡◌ {A = ℕ} 3 4
-    stored o = absurd (o.0.0.1 refl)
-
-    player : Others 64 → ◌≡◌ {A = ℕ} 3 5
-    player o = absurd (o.0.0.0.0.0.1 refl)
-
-    on_goal : Others 43 → ◌≡◌ {A = ℕ} 3 6
-    on_goal o = absurd (o.0.1 refl)
-
-    space : Others 32 → ◌≡◌ {A = ℕ} 3 0
-    space o = absurd (o.0.0.0.0.0.0.1 refl)
 
 -- ---- foreign bytes
 

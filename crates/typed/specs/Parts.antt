@@ -1,5 +1,5 @@
 -- Parts: a text seen byte by byte.
-use Rattle.std.specs.Prelude.{◌≡◌, cond, List, [], ◌∷◌, ◌++◌, ℕ, zero, suc, ◌+◌, ◌*◌, ◌-◌, ◌≤◌, max, eqb, ltb, length, get_or, take, set}
+use Rattle.std.specs.Prelude.{◌≡◌, cond, Option, Some, None, List, [], ◌∷◌, ◌++◌, ℕ, zero, suc, ◌+◌, ◌*◌, ◌-◌, ◌≤◌, max, eqb, ltb, length, get_or, take, set}
 use Rattle.level.specs.Sizes.{tiles_most}
 use Rattle.typed.specs.Letters.{tile_of}
 use Rattle.typed.specs.Text.{joined, first_line, Rows, longest, board}
@@ -30,12 +30,16 @@ spelled (suc k) v (c ∷ s) = cond (ltb c 48) v (cond (ltb 57 c) v (spelled k (v
 abbrev pub Starts : List ℕ → List ℕ → Type 0
 Starts line text = take (length line) text ≡ line
 
--- the par of a text, and where its rows begin: 0 where no first line is right
-pub record HeadIs (text : List ℕ) (r : Head) : Type 0 where
-  pub small : (r.from ≡ 0 → ⊥) → r.par ≤ 1023
-  pub size : (r.from ≡ 0 → ⊥) → r.from ≡ length (line_of r.par)
-  pub starts : (r.from ≡ 0 → ⊥) → Starts (line_of r.par) text
-  pub none : r.from ≡ 0 → (par : ℕ) → par ≤ 1023 → Starts (line_of par) text → ⊥
+-- the par of a text, and where its rows begin
+pub record Headed (text : List ℕ) (h : Head) : Type 0 where
+  pub small : h.par ≤ 1023
+  pub size : h.from ≡ length (line_of h.par)
+  pub starts : Starts (line_of h.par) text
+
+-- and none where no first line is right
+abbrev pub HeadIs : List ℕ → Option Head → Type 0
+HeadIs text (Some h) = Headed text h
+HeadIs text None = (par : ℕ) → par ≤ 1023 → Starts (line_of par) text → ⊥
 
 -- ---- rows seen
 

@@ -1,41 +1,27 @@
-// Letters and tiles, by the table of FORMAT 13.3. A `match` is static data, so nothing is copied.
+// Letters and tiles, by the table of FORMAT 13.3.
 ghost use Rattle.std.specs.Prelude.{◌≡◌, ◌≤◌};
+ghost use Rattle.rules.specs.Says.{Says};
 ghost use Rattle.typed.specs.Letters.{tile_of, letter_of};
-ghost use Rattle.typed.specs.Parts.{foreign};
 
-// 1 for a byte that is no letter, else 0.
-pub(crate) fn is_foreign(c: u8) -> usize
-    ensures { result ≡ foreign c }
+// The letters of the tiles, in the order of their codes; and a space, which stands for floor too.
+static LETTERS: [u8; 8] = [b'-', b'#', b'$', b'.', b'*', b'@', b'+', b' '];
+
+// The tiles at the last four bits of their letters, `@` being moved next to the space; 7 where there is no letter.
+static TILES: [u8; 16] = [0, 5, 7, 1, 2, 7, 7, 7, 7, 7, 4, 6, 7, 0, 3, 7];
+
+// A byte that is a letter.
+pub(crate) fn is_letter(c: u8) -> bool
+    ensures { Says result (tile_of c ≤ 6) }
 {
-    match c {
-        45 => 0,
-        35 => 0,
-        36 => 0,
-        46 => 0,
-        42 => 0,
-        64 => 0,
-        43 => 0,
-        32 => 0,
-        _ => 1,
-    }
+    LETTERS.contains(&c)
 }
 
-// The tile of a letter. With 64 moved next to 32 the letters differ in their last four bits, so that the arms lie close enough to become a
-// table, and no jump has to be guessed.
+// The tile of a letter.
 pub(crate) fn tile_of(c: u8) -> u8
     requires { tile_of c ≤ 6 }
     ensures { result ≡ tile_of c }
 {
-    match (c + c / 64) % 16 {
-        0 => 0,
-        1 => 5,
-        3 => 1,
-        4 => 2,
-        10 => 4,
-        11 => 6,
-        13 => 0,
-        _ => 3,
-    }
+    TILES[usize::from((c + c / 64) % 16)]
 }
 
 // The letter of a tile.
@@ -43,13 +29,5 @@ pub fn letter_of(t: u8) -> u8
     requires { t ≤ 6 }
     ensures { result ≡ letter_of t }
 {
-    match t {
-        0 => 45,
-        1 => 35,
-        2 => 36,
-        3 => 46,
-        4 => 42,
-        5 => 64,
-        _ => 43,
-    }
+    LETTERS[usize::from(t)]
 }

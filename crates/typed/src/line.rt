@@ -2,7 +2,7 @@
 ghost use Rattle.std.specs.Prelude.{◌≡◌, ◌+◌, ◌%◌, ◌≤◌};
 ghost use Rattle.typed.specs.Parts.{LineIs};
 
-// A line and its length.
+// A line and its length: an array holds it, since nothing may be allocated.
 #[derive(Clone, Copy)]
 pub struct Line {
     pub bytes: [u8; 9],
@@ -13,7 +13,7 @@ pub struct Line {
 fn digit(n: usize) -> u8
     ensures { result ≡ 48 + n % 10 }
 {
-    (48 + n % 10) as u8
+    b'0' + (n % 10) as u8
 }
 
 // The first line of a par. Readers hold a text against it, and writers put it.
@@ -23,27 +23,37 @@ pub fn line_of(par: usize) -> Line
 {
     if par < 10 {
         return Line {
-            bytes: [112, 97, 114, 32, digit(par), 10, 0, 0, 0],
+            bytes: [b'p', b'a', b'r', b' ', digit(par), b'\n', 0, 0, 0],
             len: 6,
         };
     }
     if par < 100 {
         return Line {
-            bytes: [112, 97, 114, 32, digit(par / 10), digit(par), 10, 0, 0],
+            bytes: [
+                b'p',
+                b'a',
+                b'r',
+                b' ',
+                digit(par / 10),
+                digit(par),
+                b'\n',
+                0,
+                0,
+            ],
             len: 7,
         };
     }
     if par < 1000 {
         return Line {
             bytes: [
-                112,
-                97,
-                114,
-                32,
+                b'p',
+                b'a',
+                b'r',
+                b' ',
                 digit(par / 100),
                 digit(par / 10),
                 digit(par),
-                10,
+                b'\n',
                 0,
             ],
             len: 8,
@@ -51,15 +61,15 @@ pub fn line_of(par: usize) -> Line
     }
     Line {
         bytes: [
-            112,
-            97,
-            114,
-            32,
+            b'p',
+            b'a',
+            b'r',
+            b' ',
             digit(par / 1000),
             digit(par / 100),
             digit(par / 10),
             digit(par),
-            10,
+            b'\n',
         ],
         len: 9,
     }

@@ -1,5 +1,5 @@
 // The rows of a text: seen once for their number and the longest, and laid out once that is known.
-ghost use Rattle.std.specs.Prelude.{◌≡◌, ◌+◌, ◌≤◌, ◌<◌, max, length};
+ghost use Rattle.std.specs.Prelude.{◌≡◌, ◌+◌, ◌≤◌, ◌<◌, length};
 ghost use Rattle.typed.specs.Letters.{tile_of};
 ghost use Rattle.typed.specs.Parts.{seen_next, SeenAs, Layable, LaidOut, PlacedAs};
 
@@ -12,30 +12,21 @@ pub struct Seen {
     pub longest: usize,
 }
 
-fn larger(a: usize, b: usize) -> usize
-    ensures { result ≡ max a b }
-{
-    if a < b {
-        return b;
-    }
-    a
-}
-
 // One byte more.
 fn step(s: Seen, c: u8) -> Seen
     requires { (s.foreign < 9223372036854775808) × (s.rows < 9223372036854775808) × (s.column < 9223372036854775808) }
     ensures { result ≡ seen_next s c }
 {
-    if c == 10 {
+    if c == b'\n' {
         return Seen {
             foreign: s.foreign,
             rows: s.rows + 1,
             column: 0,
-            longest: larger(s.longest, s.column),
+            longest: s.longest.max(s.column),
         };
     }
     Seen {
-        foreign: s.foreign + super::letters::is_foreign(c),
+        foreign: s.foreign + usize::from(!super::letters::is_letter(c)),
         rows: s.rows,
         column: s.column + 1,
         longest: s.longest,
@@ -52,10 +43,8 @@ pub fn see(body: &[u8]) -> Seen
         column: 0,
         longest: 0,
     };
-    let mut i: usize = 0;
-    while i < body.len() {
-        s = step(s, body[i]);
-        i += 1;
+    for c in body {
+        s = step(s, *c);
     }
     s
 }
@@ -72,7 +61,7 @@ fn place(at: Spot, c: u8, w: usize, board: &mut [u8]) -> Spot
     requires { (at.base + at.column + w < 9223372036854775808) × ((c ≡ 10 → ⊥) → (tile_of c ≤ 6) × (at.base + at.column < length board.old)) }
     ensures { PlacedAs c w at board.old board.new result }
 {
-    if c == 10 {
+    if c == b'\n' {
         return Spot {
             base: at.base + w,
             column: 0,
@@ -91,9 +80,7 @@ pub fn put(body: &[u8], w: usize, board: &mut [u8])
     ensures { LaidOut body.now w board.new }
 {
     let mut at = Spot { base: 0, column: 0 };
-    let mut i: usize = 0;
-    while i < body.len() {
-        at = place(at, body[i], w, board);
-        i += 1;
+    for c in body {
+        at = place(at, *c, w, board);
     }
 }

@@ -7,7 +7,7 @@ use native.Mathlib.Numerals.{add-one}
 use native.Mathlib.Omega.{arith}
 use lib.Bits.{bit_xor}
 use lib.ListN.{length, get_or, take, drop, set, length-set}
-use lib.Seq.{slice, slice_empty, slice-cons, length-slice, take-suc-set, take-set-lt, drop-set-lt, drop-append-le, get_or-set_same, get_or-set_other, length-take-le, get_or-take}
+use lib.Seq.{slice, slice_empty, slice-cons, length-slice, take-suc-set, take-set-lt, drop-set-lt, drop-append-le, get_or-set_same, length-take-le, get_or-take}
 use Rattle.account.specs.Errata.{Outside, Distinct, total, divided, solve, unweighed}
 use Rattle.account.proofs.Cells.{below_at}
 use Rattle.account.proofs.Powers as powers
@@ -18,7 +18,8 @@ use Rattle.gf256.specs.Tables.{place_of, inverse_of}
 use Rattle.gf256.proofs.Field256.{field256}
 use Rattle.gf256.proofs.Lookups.{same_quotient}
 use Rattle.rules.proofs.Laws.{either}
-use Rattle.values.specs.Values.{at, Sieved, Listed, Divided, Solved, Unweighed}
+use Rattle.values.specs.declared.Listing.{Listing}
+use Rattle.values.specs.Values.{at, Sieved, Listed, Divided, Solved}
 
 abbrev div : ℕ → List ℕ → List ℕ → List ℕ
 div = divided gf256 inverse_of
@@ -31,6 +32,10 @@ pub cell_below : (n : ℕ) (cells : List ℕ) (k : ℕ) → Listed n cells k →
 cell_below n cells k L i h =
     subst (λ (x : ℕ). x < n) (get_or-take k cells i 0 h)
     (below_at (take k cells) n i L.below (omega (arith, length-take-le k cells (omega (arith, L.few, L.room)))))
+
+-- what a listing says of its cells
+pub listed : (l : Listing) → length l.cells ≡ 5 → Listed l.n l.cells l.count
+listed l e = record { short = l.short; room = e; few = l.few; below = l.below; distinct = l.distinct }
 
 -- ---- parts of a list that is written to
 
@@ -62,38 +67,6 @@ pub record Sieving (x i k : ℕ) (s r : List ℕ) (m : ℕ) : Type 0 where
   pub room : length r ≡ 5
   pub same : (p : ℕ) → p < m → at r p ≡ at s p
   pub done : (p : ℕ) → m ≤ suc p → suc p < k → at r (suc p) ≡ bit_xor (at s (suc p)) (times x (at s p))
-
-pub sieve_starts : (x i k : ℕ) (s : List ℕ) → i < k → length s ≡ 5 → Sieving x i k s s k
-sieve_starts x i k s h e = record {
-  low = h;
-  high = omega arith;
-  room = e;
-  same = λ p l. refl;
-  done = λ p l g. absurd (omega arith);
-}
-
-pub sieve_goes : (x i k : ℕ) (s r : List ℕ) (m a b y : ℕ) → k ≤ 5 → i + 1 < m → a + 1 ≡ m → b + 1 ≡ a → Sieving x i k s r m → y ≡ times x (at r b)
-    → Sieving x i k s (set r a (bit_xor (at r a) y)) a
-sieve_goes x i k s r m a b y few h ha hb S e = record {
-  low = omega arith;
-  high = omega (arith, S.high);
-  room = length-set r a w ∙ S.room;
-  same = λ p l. get_or-set_other r a p w 0 (λ q. omega (arith, q)) ∙ S.same p (omega arith);
-  done = λ p l g. either (at (set r a w) (suc p) ≡ bit_xor (at s (suc p)) (times x (at s p))) (suc p - a) (λ z. here p (omega (arith, z)) (omega (arith, z)))
-      (λ n. get_or-set_other r a (suc p) w 0 (λ q. n (omega (arith, q))) ∙ S.done p (omega (arith, positive (suc p - a) n)) g);
-}
-  where
-    w : ℕ
-    w = bit_xor (at r a) y
-
-    here : (p : ℕ) → suc p ≡ a → p ≡ b → at (set r a w) (suc p) ≡ bit_xor (at s (suc p)) (times x (at s p))
-    here p q q' =
-        ap (at (set r a w)) q ∙ get_or-set_same r a w 0 (omega (arith, S.room, S.high))
-        ∙ ap₂ bit_xor (S.same a (omega arith)) (e ∙ ap (times x) (S.same b (omega arith)))
-        ∙ sym (ap₂ (λ (z z' : ℕ). bit_xor (at s z) (times x (at s z'))) q q')
-
-pub sieve_ends : (x i k : ℕ) (s r : List ℕ) (m : ℕ) → m ≤ i + 1 → Sieving x i k s r m → Sieved x i k s r
-sieve_ends x i k s r m h S = record { room = S.room; sum = λ p l g. S.done p (omega arith) g }
 
 -- ---- two listed cells
 
@@ -152,15 +125,6 @@ module _ (n : ℕ) (cells : List ℕ) (k : ℕ) (L : Listed n cells k) where
 
   ys_cons : (j : ℕ) → j < k → ys n cells k j ≡ P n cells j ∷ ys n cells k (j + 1)
   ys_cons j h = ap (map (place_of n)) (from j k cells h (omega (arith, L.few, L.room)))
-
-  pub divide_starts : (i : ℕ) (v : List ℕ) (s0 : ℕ) → i < k → length v ≡ 5 → Dividing n cells k i v s0 v s0 (i + 1)
-  divide_starts i v s0 h e = record {
-    low = omega arith;
-    high = omega arith;
-    room = e;
-    list = ap (λ (l : List ℕ). l ++ div (P n cells i) (ys n cells k (i + 1)) (slice (i + 1) k v)) (slice_empty (i + 1) v);
-    rest = refl;
-  }
 
   pub divide_goes : (i : ℕ) (v : List ℕ) (s0 : ℕ) (r : List ℕ) (sum j x y iv u : ℕ) → j < k → Dividing n cells k i v s0 r sum j → x ≡ P n cells i
       → y ≡ P n cells j
@@ -265,18 +229,7 @@ module _ (n : ℕ) (cells : List ℕ) (k : ℕ) (L : Listed n cells k) where
           ))
           ∙ ap₂ (λ (a z : ℕ). bit_xor (at s a) (times z (at s (i + m)))) (behind m) ex)
 
-  -- from the first cell on
-  pub solve_all : (s r : List ℕ) → Solved n cells 0 k s r → take k r ≡ solve gf256 inverse_of (map (place_of n) (take k cells)) (at s)
-  solve_all s r S =
-      S ∙ solve_near gf256 field256 inverse_of (map (place_of n) (take k cells)) (λ m. at s (0 + m)) (at s) (λ m l. ap (at s) (zero_plus m))
-    where
-      zero_plus : (m : ℕ) → 0 + m ≡ m
-      zero_plus m = omega arith
-
   -- ---- the weights taken off
-
-  pub unweigh_starts : (u : List ℕ) → length u ≡ 5 → Unweighing n cells k u u 0
-  unweigh_starts u e = record { high = omega arith; room = e; list = refl }
 
   pub unweigh_goes : (u r : List ℕ) (j x q w : ℕ) → j < k → Unweighing n cells k u r j → x ≡ P n cells j → q ≡ times x x → w ≡ times (get_or r j 0) q
       → Unweighing n cells k u (set r j w) (j + 1)
@@ -296,13 +249,3 @@ module _ (n : ℕ) (cells : List ℕ) (k : ℕ) (L : Listed n cells k) where
           ap₂ unw (ys_cons j l) (from j k r l (omega (arith, U.room, L.few)))
           ∙ ap (λ (a : ℕ). a ∷ rest)
           (sym (ew ∙ ap (times (get_or r j 0)) (eq ∙ ap₂ times ex ex) ∙ sym (field256.mul_assoc (get_or r j 0) (P n cells j) (P n cells j))))
-
-  pub unweigh_ends : (u r : List ℕ) (j : ℕ) → k ≤ j → Unweighing n cells k u r j → Unweighed n cells k u r
-  unweigh_ends u r j g U =
-      sym (append-nil (take k r)) ∙ ap₂ (λ (m : ℕ) (b : List ℕ). slice 0 m r ++ b) same (sym none) ∙ U.list
-    where
-      same : k ≡ j
-      same = omega (arith, U.high)
-
-      none : unw (ys n cells k j) (slice j k r) ≡ []
-      none = ap (λ (l : List ℕ). unw (map (place_of n) l) (slice j k r)) (ap (λ (m : ℕ). slice m k cells) (sym same) ∙ slice_empty k cells)

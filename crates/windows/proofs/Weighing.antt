@@ -1,7 +1,5 @@
 -- Windows one after the other: what is blank, and what the tiles add.
-use mathlib.Core.Path.{◌≡◌, refl, sym, ap, ◌∙◌, subst}
-use mathlib.Core.Bool.{Bool, true, false, not}
-use lib.Dec.{T}
+use mathlib.Core.Path.{◌≡◌, refl, sym, ap, ◌∙◌}
 use mathlib.Core.Logic.{⊎_elim}
 use mathlib.Core.List.{List}
 use Prim.Native.Nat.{ℕ, ◌+◌, ◌*◌, ◌-◌, ◌/◌, ◌≤◌, ◌<◌}
@@ -12,6 +10,8 @@ use Rattle.rules.proofs.Numbers.{lt_or_ge}
 use Rattle.account.specs.Lists.{sum_of}
 use Rattle.level.specs.Record.{bit_at, field_at}
 use Rattle.level.proofs.Windows.{field_seen}
+use Rattle.std.specs.Prelude.{Some, None}
+use Rattle.patches.specs.declared.Fixes.{Fixes}
 use Rattle.patches.specs.Patched.{patched}
 use Rattle.patches.proofs.Patching.{length_patched}
 use Rattle.patches.specs.Window.{Shown}
@@ -20,35 +20,27 @@ use Rattle.fields.specs.declared.head.Head.{Head}
 use Rattle.tiles.specs.Sum.{adds_at, Counted}
 use Rattle.tiles.proofs.Part.{part_of, length_part}
 use Rattle.tiles.proofs.Counting.{part_summed}
-use Rattle.windows.specs.Windows.{WeighedAs}
+use Rattle.windows.specs.Windows.{record_in, BlankFrom, WeighedAs}
 use Rattle.windows.proofs.Pieces.{Sees, blank_more, blank_seen, full_sum, last_sum}
 
--- no bit of w is set from bit d on
-abbrev pub BlankFrom : ℕ → List ℕ → Type 0
-BlankFrom d w = (p : ℕ) → d ≤ p → p < 8 * length w → bit_at w p ≡ 0
-
--- the record in the first cells of the mended strip
-abbrev pub record_in : List ℕ → List ℕ → List ℕ → ℕ → ℕ → List ℕ
-record_in s cells bytes count to = take to (patched cells bytes count s)
-
-pub length_record : (s cells bytes : List ℕ) (count to : ℕ) → to ≤ length s → length (record_in s cells bytes count to) ≡ to
-length_record s cells bytes count to h = length-take-le to (patched cells bytes count s) (omega (arith, length_patched cells bytes s count))
+pub length_record : (s : List ℕ) (f : Fixes) (to : ℕ) → to ≤ length s → length (record_in s f to) ≡ to
+length_record s f to h = length-take-le to (patched f.cells f.bytes f.count s) (omega (arith, length_patched f.cells f.bytes s f.count))
 
 -- what a window shows, it shows of the record
-pub sees : (s cells bytes scratch : List ℕ) (count a to n : ℕ) → to ≤ length s → Shown s cells bytes count a to scratch n
-    → Sees (record_in s cells bytes count to) a n (take (n - 0) scratch)
-sees s cells bytes scratch count a to n h O = record {
-  inside = omega (arith, O.before, length_record s cells bytes count to h);
+pub sees : (s scratch : List ℕ) (f : Fixes) (a to n : ℕ) → to ≤ length s → Shown s f.cells f.bytes f.count a to scratch n
+    → Sees (record_in s f to) a n (take n scratch)
+sees s scratch f a to n h O = record {
+  inside = omega (arith, O.before, length_record s f to h);
   same = λ q l.
-      get_or-take (n - 0) scratch q 0 (omega arith) ∙ O.shows q l
-      ∙ sym (get_or-take to (patched cells bytes count s) (a + q) 0 (omega (arith, O.before)));
+      get_or-take n scratch q 0 (omega arith) ∙ O.shows q l
+      ∙ sym (get_or-take to (patched f.cells f.bytes f.count s) (a + q) 0 (omega (arith, O.before)));
 }
 
 -- ---- the head
 
-pub head_seen : (s cells bytes scratch : List ℕ) (count to n : ℕ) → 3 ≤ to → to ≤ length s → Shown s cells bytes count 0 3 scratch n → (f : Head)
-    → Heads scratch f → Heads (record_in s cells bytes count to) f
-head_seen s cells bytes scratch count to n some h O f H = record {
+pub head_seen : (s scratch : List ℕ) (f : Fixes) (to n : ℕ) → 3 ≤ to → to ≤ length s → Shown s f.cells f.bytes f.count 0 3 scratch n → (r : Head)
+    → Heads scratch r → Heads (record_in s f to) r
+head_seen s scratch f to n some h O r H = record {
   version = H.version ∙ at 0 4 (omega arith);
   width = H.width ∙ at 4 5 (omega arith);
   height = H.height ∙ at 9 5 (omega arith);
@@ -58,13 +50,13 @@ head_seen s cells bytes scratch count to n some h O f H = record {
     three : n ≡ 3
     three = ⊎_elim (λ l. absurd (omega (arith, l, O.full (omega arith)))) (λ l. omega (arith, O.before)) (lt_or_ge n 3)
 
-    same : (q : ℕ) → q < 3 → get_or scratch q 0 ≡ get_or (record_in s cells bytes count to) (0 + q) 0
-    same q l = O.shows q (omega (arith, three)) ∙ sym (get_or-take to (patched cells bytes count s) (0 + q) 0 (omega arith))
+    same : (q : ℕ) → q < 3 → get_or scratch q 0 ≡ get_or (record_in s f to) (0 + q) 0
+    same q l = O.shows q (omega (arith, three)) ∙ sym (get_or-take to (patched f.cells f.bytes f.count s) (0 + q) 0 (omega arith))
 
-    at : (p k : ℕ) → p + k ≤ 24 → field_at scratch p k ≡ field_at (record_in s cells bytes count to) p k
+    at : (p k : ℕ) → p + k ≤ 24 → field_at scratch p k ≡ field_at (record_in s f to) p k
     at p k l =
         let z : 8 * 0 + p ≡ p = omega arith in
-        field_seen (record_in s cells bytes count to) scratch 0 3 same p k (omega arith) ∙ ap (λ (q : ℕ). field_at (record_in s cells bytes count to) q k) z
+        field_seen (record_in s f to) scratch 0 3 same p k (omega arith) ∙ ap (λ (q : ℕ). field_at (record_in s f to) q k) z
 
 -- ---- blank, and the sum
 
@@ -135,14 +127,8 @@ module _ (bs : List ℕ) (bits : ℕ) where
           clear = clear;
         }
 
-    pub not_blank : (BlankFrom d w → ⊥) → WeighedAs bs bits (record { blank = false; sum = 0 })
-    not_blank out = record { blank = λ all. out (λ p h. blank_seen bs from n w S bits long all p (omega (arith, left))); sum = λ e. absurd (no_true e) }
-      where
-        no_true : false ≡ true → ⊥
-        no_true e = subst (λ (b : Bool). T (not b)) e tt
+    pub not_blank : (BlankFrom d w → ⊥) → WeighedAs bs bits None
+    not_blank out all = out (λ p h. blank_seen bs from n w S bits long all p (omega (arith, left)))
 
-  pub weighed_all : (from sum : ℕ) → length bs ≤ from → Weighing from sum → WeighedAs bs bits (record { blank = true; sum = sum })
-  weighed_all from sum h W = record {
-    blank = λ p a b. W.clear p a (omega arith);
-    sum = λ _. part_summed (part_of bs) sum W.g (W.all h) W.sum_is;
-  }
+  pub weighed_all : (from sum : ℕ) → length bs ≤ from → Weighing from sum → WeighedAs bs bits (Some sum)
+  weighed_all from sum h W = (λ p a b. W.clear p a (omega arith), part_summed (part_of bs) sum W.g (W.all h) W.sum_is)

@@ -1,20 +1,27 @@
 -- Parts: the record of a strip that was mended, seen through windows.
-use Rattle.std.specs.Prelude.{◌≡◌, true, List, ℕ, ◌*◌, ◌-◌, ◌≤◌, ◌<◌, length, take, drop}
-use Rattle.rules.specs.Says.{Says}
+use Rattle.std.specs.Prelude.{◌≡◌, List, ℕ, ◌*◌, ◌-◌, ◌≤◌, ◌<◌, length, take, drop, Option, Some, None}
 use Rattle.level.specs.Record.{bit_at}
 use Rattle.level.specs.Sizes.{record_least, filled_most}
+use Rattle.patches.specs.declared.Fixes.{Fixes}
+use Rattle.patches.specs.Patched.{patched}
 use Rattle.tiles.specs.Sum.{PartSummed}
-use Rattle.windows.specs.declared.Weighed.{Weighed}
 
--- the record is in the first cells of a strip, up to one of them; what is to be put right and the scratch have their sizes
-pub record Lent (s : List ℕ) (count to scratch : ℕ) : Type 0 where
-  pub few : count ≤ 80
+-- the record is in the first cells of a strip, up to one of them; the scratch has its size
+pub record Lent (s : List ℕ) (to scratch : ℕ) : Type 0 where
   pub some : record_least ≤ to
   pub short : to ≤ filled_most
   pub inside : to ≤ length s
   pub room : 186 ≤ scratch
 
--- no bit is set from a place on, and then what the tiles of the part from byte 3 add
-pub record WeighedAs (bs : List ℕ) (bits : ℕ) (r : Weighed) : Type 0 where
-  pub blank : Says r.blank ((p : ℕ) → bits ≤ p → p < 8 * length bs → bit_at bs p ≡ 0)
-  pub sum : r.blank ≡ true → PartSummed (take (length bs - 3) (drop 3 bs)) r.sum
+-- the record in the first cells of the mended strip
+abbrev pub record_in : List ℕ → Fixes → ℕ → List ℕ
+record_in s f to = take to (patched f.cells f.bytes f.count s)
+
+-- no bit is set from a place on
+abbrev pub BlankFrom : ℕ → List ℕ → Type 0
+BlankFrom d w = (p : ℕ) → d ≤ p → p < 8 * length w → bit_at w p ≡ 0
+
+-- what the tiles of the part from byte 3 add, if no bit is set from a place on
+abbrev pub WeighedAs : List ℕ → ℕ → Option ℕ → Type 0
+WeighedAs bs bits (Some sum) = BlankFrom bits bs × PartSummed (take (length bs - 3) (drop 3 bs)) sum
+WeighedAs bs bits None = BlankFrom bits bs → ⊥

@@ -2,18 +2,17 @@
 // the head; a window from there on has whole groups of eight tiles, but for the last.
 #![tactic(auto)]
 
-ghost use Rattle.std.specs.Prelude.{◌≡◌, ◌++◌, ◌+◌, ◌*◌, ◌-◌, ◌≤◌, ◌<◌, length, take, drop};
+ghost use Rattle.std.specs.Prelude.{◌≡◌, ◌++◌, ◌+◌, ◌*◌, ◌≤◌, length, drop};
 ghost use Rattle.rules.specs.Refusal.{Within};
 ghost use Rattle.level.specs.Sizes.{tiles_most};
 ghost use Rattle.level.specs.Reading.{tiles_in};
-ghost use Rattle.patches.specs.Patched.{patched};
 ghost use Rattle.fields.specs.Head.{Heads};
 ghost use Rattle.fields.specs.Judged.{JudgedAs, AcceptedAs};
-ghost use Rattle.windows.specs.Windows.{Lent, WeighedAs};
+ghost use Rattle.windows.specs.Windows.{Lent, record_in, WeighedAs};
 
 use fields::head::Head;
-use fields::judged::Judged;
-use patches::FIXES;
+use patches::Fixes;
+use rules::Refusal;
 
 // The bytes in front of the tiles.
 const HEAD: usize = 3;
@@ -22,128 +21,71 @@ const HEAD: usize = 3;
 const TILES: usize = 496;
 
 // The fields in front of the tiles.
-fn head(
-    strip: &[u8],
-    cells: &[u16; FIXES],
-    bytes: &[u8; FIXES],
-    count: usize,
-    to: usize,
-    scratch: &mut [u8],
-) -> Head
-    requires { Lent strip.now count to (length scratch.old) }
-    ensures { Heads (take to (patched cells.now bytes.now count strip.now)) result }
+fn head(strip: &[u8], fixes: &Fixes, to: usize, scratch: &mut [u8]) -> Head
+    requires { Lent strip.now to (length scratch.old) }
+    ensures { Heads (record_in strip.now fixes.now to) result }
 {
-    patches::show(strip, cells, bytes, count, 0, HEAD, scratch);
+    patches::show(strip, fixes, 0, HEAD, scratch);
     fields::head::head_of(scratch)
 }
 
-// a - b, and 0 where b is more.
-fn less(a: usize, b: usize) -> usize
-    ensures { result ≡ a - b }
-{
-    if a < b {
-        return 0;
-    }
-    a - b
-}
-
-// Whether no bit is set after the tiles, and what these add, if so.
-#[derive(Clone, Copy)]
-pub struct Weighed {
-    pub blank: bool,
-    pub sum: u64,
-}
-
-// Over all windows: no bit is set from one of the record's bits on, and what the tiles add.
-fn weigh(
-    strip: &[u8],
-    cells: &[u16; FIXES],
-    bytes: &[u8; FIXES],
-    count: usize,
-    to: usize,
-    bits: usize,
-    scratch: &mut [u8],
-) -> Weighed
-    requires { Lent strip.now count to (length scratch.old) × (24 ≤ bits) }
-    ensures { WeighedAs (take to (patched cells.now bytes.now count strip.now)) bits result }
+// Over all windows: what the tiles add, if no bit is set from one of the record's bits on. (No counted loop: it goes on by as many cells as a
+// window has.)
+fn weigh(strip: &[u8], fixes: &Fixes, to: usize, bits: usize, scratch: &mut [u8]) -> Option<u64>
+    requires { Lent strip.now to (length scratch.old) × (24 ≤ bits) }
+    ensures { WeighedAs (record_in strip.now fixes.now to) bits result }
 {
     let mut sum: u64 = 0;
     let mut from = HEAD;
     while from < to {
-        let n = patches::show(strip, cells, bytes, count, from, to, scratch);
-        if !fields::shape::blank(&scratch[0..n], less(bits, 8 * from)) {
-            return Weighed {
-                blank: false,
-                sum: 0,
-            };
+        let n = patches::show(strip, fixes, from, to, scratch);
+        if !fields::shape::blank(&scratch[..n], bits.saturating_sub(8 * from)) {
+            return None;
         }
-        sum += tiles::count::tally(&scratch[0..n]);
+        sum += tiles::count::tally(&scratch[..n]);
         from += n;
     }
-    Weighed { blank: true, sum }
+    Some(sum)
 }
 
-// Refusals 7 to 10 of the record in the first cells of the mended strip, by a reader of versions up to one of them.
+// The record in the first cells of the mended strip judged, by a reader of versions up to one of them.
 fn judge(
     upto: usize,
     strip: &[u8],
-    cells: &[u16; FIXES],
-    bytes: &[u8; FIXES],
-    count: usize,
+    fixes: &Fixes,
     lanes: usize,
     to: usize,
     scratch: &mut [u8],
-) -> Judged
-    requires { Lent strip.now count to (length scratch.old) × Within 1 16 lanes }
-    ensures { JudgedAs upto lanes (take to (patched cells.now bytes.now count strip.now)) result }
+) -> Result<Head, Refusal>
+    requires { Lent strip.now to (length scratch.old) × Within 1 16 lanes }
+    ensures { JudgedAs upto lanes (record_in strip.now fixes.now to) result }
 {
-    let f = head(strip, cells, bytes, count, to, scratch);
+    let f = head(strip, fixes, to, scratch);
     if !fields::head::head_ranged(upto, f.version, f.width, f.height) {
-        return fields::judged::refused(7);
+        return Err(Refusal::Fields);
     }
     let m = f.width * f.height;
     if !fields::shape::fits(to, lanes, m) {
-        return fields::judged::refused(8);
+        return Err(Refusal::Shape);
     }
-    let w = weigh(strip, cells, bytes, count, to, 24 + 3 * m, scratch);
-    let blank = w.blank;
-    if !blank {
-        return fields::judged::refused(8);
-    }
-    let code = fields::tile::sum_code(f.version, w.sum);
-    fields::judged::answer(f, code)
+    let Some(sum) = weigh(strip, fixes, to, 24 + 3 * m, scratch) else {
+        return Err(Refusal::Shape);
+    };
+    fields::tile::sum_code(f.version, sum)?;
+    Ok(f)
 }
 
-// At most b, and b only where a is more.
-fn least(a: usize, b: usize) -> usize
-    ensures { (result ≤ a) × (result ≤ b) × (result < b → result ≡ a) }
-{
-    if a < b {
-        return a;
-    }
-    b
-}
-
-// The first m tiles of the record.
-fn unpack(
-    strip: &[u8],
-    cells: &[u16; FIXES],
-    bytes: &[u8; FIXES],
-    count: usize,
-    to: usize,
-    m: usize,
-    tiles: &mut [u8],
-    scratch: &mut [u8],
-)
-    requires { Lent strip.now count to (length scratch.old) × (m ≤ tiles_most) × (24 + 3 * m ≤ 8 * to) × (m ≤ length tiles.old) }
-    ensures { tiles.new ≡ tiles_in (take to (patched cells.now bytes.now count strip.now)) m ++ drop m tiles.old }
+// The first m tiles of the record. (No counted loop: it goes on by as many tiles as a window has.)
+fn unpack(strip: &[u8], fixes: &Fixes, to: usize, m: usize, tiles: &mut [u8], scratch: &mut [u8])
+    requires { Lent strip.now to (length scratch.old) × (m ≤ tiles_most) × (24 + 3 * m ≤ 8 * to) × (m ≤ length tiles.old) }
+    ensures { tiles.new ≡ tiles_in (record_in strip.now fixes.now to) m ++ drop m tiles.old }
 {
     let mut from = HEAD;
     let mut t: usize = 0;
     while t < m {
-        let n = patches::show(strip, cells, bytes, count, from, to, scratch);
-        let k = least(TILES, m - t);
-        tiles::put::unpack(&scratch[0..n], k, &mut tiles[t..]);
+        let n = patches::show(strip, fixes, from, to, scratch);
+        let k = TILES.min(m - t);
+        tiles::put::unpack(&scratch[..n], k, &mut tiles[t..]);
         from += n;
         t += k;
     }
@@ -153,23 +95,16 @@ fn unpack(
 pub fn accept(
     upto: usize,
     strip: &[u8],
-    cells: &[u16; FIXES],
-    bytes: &[u8; FIXES],
-    count: usize,
+    fixes: &Fixes,
     lanes: usize,
     to: usize,
     tiles: &mut [u8],
     scratch: &mut [u8],
-) -> Judged
-    requires { Lent strip.now count to (length scratch.old) × Within 1 16 lanes × (tiles_most ≤ length tiles.old) }
-    ensures { AcceptedAs upto lanes (take to (patched cells.now bytes.now count strip.now)) tiles.old tiles.new result }
+) -> Result<Head, Refusal>
+    requires { Lent strip.now to (length scratch.old) × Within 1 16 lanes × (tiles_most ≤ length tiles.old) }
+    ensures { AcceptedAs upto lanes (record_in strip.now fixes.now to) tiles.old tiles.new result }
 {
-    let j = judge(upto, strip, cells, bytes, count, lanes, to, scratch);
-    let refusal = j.code;
-    if refusal != 0 {
-        return j;
-    }
-    let m = j.width * j.height;
-    unpack(strip, cells, bytes, count, to, m, tiles, scratch);
-    j
+    let f = judge(upto, strip, fixes, lanes, to, scratch)?;
+    unpack(strip, fixes, to, f.width * f.height, tiles, scratch);
+    Ok(f)
 }

@@ -1,20 +1,20 @@
+use mathlib.Core.Path.{sym, ◌∙◌}
+use Prim.Native.Nat.{◌+◌, ◌*◌, ◌<◌, ◌%◌}
 use native.Mathlib.Omega.{arith}
-use Rattle.level.proofs.Lengths.{legal_is, legal_whole, legal_least, legal_most}
+use borrow.Author.Tests.{ltb-true, leb-true}
+use Rattle.level.specs.Strip.{Legal}
+use Rattle.level.proofs.Lengths.{legal_is, legal_whole}
+use Rattle.entry.proofs.Entering.{says_equal}
 use Rattle.entry.proofs.legal.Goals as goal
+use Rattle.entry.proofs.legal.Goals.{then-lanes-n, else-lanes-n}
 
 pub returns-then-n-lanes : goal.returns-then-n-lanes
-returns-then-n-lanes c l = let a = c.args in omega (arith, c.if-n-lanes.true, legal_least a.lanes (omega (arith, c.requires)) a.n l)
-
-pub returns-then-lanes-n : goal.returns-then-lanes-n
-returns-then-lanes-n c l =
-    let a = c.args in omega (arith, c.if-lanes-n.true, legal_most a.lanes (omega (arith, c.requires)) a.n l)
-
-pub returns-then-n-lanes-ne0 : goal.returns-then-n-lanes-ne0
-returns-then-n-lanes-ne0 c l =
-    let a = c.args in c.if-n-lanes-ne0.true (legal_whole a.lanes (omega (arith, c.requires)) a.n l)
-
-pub returns : goal.returns
-returns c =
+returns-then-n-lanes c =
     let a = c.args in
-    legal_is a.lanes (omega (arith, c.requires)) a.n (omega (arith, c.if-n-lanes-ne0.false)) (omega (arith, c.if-n-lanes.false))
-    (omega (arith, c.if-lanes-n.false))
+    let some : 0 < a.lanes = omega (arith, c.requires.from) in
+    let most : a.n < 6 * a.lanes + 364 =
+    elim c.if-lanes-n.branch [
+      | then-lanes-n w ↦ ltb-true _ _ (sym w.value-is ∙ c.if-n-lanes.true)
+      | else-lanes-n w ↦ absurd (omega (arith, leb-true _ _ (sym w.value-is ∙ c.if-n-lanes.true)))
+    ] in
+    says_equal (Legal a.lanes a.n) (a.n % a.lanes) 0 (λ e. legal_is a.lanes some a.n e (omega arith) most) (legal_whole a.lanes some a.n)

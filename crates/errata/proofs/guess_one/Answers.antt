@@ -1,38 +1,32 @@
-use mathlib.Core.Path.{◌≡◌, subst}
-use Prim.Native.Nat.{ℕ, suc, ◌-◌}
+use mathlib.Core.Path.{◌≡◌, refl, subst}
+use mathlib.Core.List.{List, ◌∷◌, []}
+use Prim.Native.Nat.{ℕ, ◌+◌, ◌-◌, ◌<◌, ◌≤◌}
 use native.Mathlib.Omega.{arith}
-use Rattle.account.specs.Search.{Zeros}
-use Rattle.errata.specs.Errata.{at}
-use Rattle.errata.proofs.Guesses.{guess1}
+use borrow.Author.Rules.{rules}
+use lib.ListN.{length, set}
+use Rattle.account.specs.Search.{Fits}
+use Rattle.gf256.specs.Gf256.{gf256}
+use Rattle.values.specs.declared.Listing.{Listing}
+use Rattle.values.proofs.Values.{listed}
+use Rattle.errata.specs.Errata.{at, Guess, listed_in}
+use Rattle.errata.proofs.Guesses.{guess1, listed_guess}
 use Rattle.errata.proofs.guess_one.Goals as goal
 
-pub one-p-requires : goal.one-p-requires
-one-p-requires c =
-    let e : suc (5 - c.args.f - 1) ≡ 5 - c.args.f = omega arith in
-    (c.requires.0, c.requires.2.short, omega arith, omega arith, omega arith, λ z. c.requires.4 (subst (λ (m : ℕ). Zeros m (at c.args.t)) e z))
+one_more : (m : Listing) (t : List ℕ) (p : ℕ) → length m.cells ≡ 5 → m.count ≤ 3 → p < m.n → Fits gf256 m.n (listed_in m) (at t) (4 - m.count) (p ∷ [])
+    → Guess m.n (listed_in m) t m.count (m.count + 1) (set m.cells m.count p)
+one_more m t p e h l fit =
+    let k : 4 - m.count ≡ 5 - m.count - 1 = omega arith in
+    guess1 m.n m.cells m.count (listed m e) t p (omega arith) l (subst (λ (k : ℕ). Fits gf256 m.n (listed_in m) (at t) k (p ∷ [])) k fit)
 
-pub returns-then-p-n : goal.returns-then-p-n
-returns-then-p-n c =
-    let o = c.one-p in
-    guess1 c.args.n c.args.erased c.args.f c.requires.2 c.args.t o.result (omega arith) c.if-p-n.true
-    (o.ensures.fits c.if-p-n.true)
+pub invariant_of-result : goal.invariant_of-result
+invariant_of-result c =
+    let m = c.args.marked.now in
+    let p = c.in-Some in
+    let N = listed_guess m.n m.cells c.args.t m.count _ _ (listed m (search rules))
+    (one_more m c.args.t p.p (search rules) c.requires.0 p.ensures.0 p.ensures.1) in
+    record { short = N.short; few = N.few; below = N.below; distinct = N.distinct }
 
-pub returns-then-left-lt4 : goal.returns-then-left-lt4
-returns-then-left-lt4 c =
-    let o = c.one-p in
-    record {
-      not_none = c.requires.4;
-      not_one = λ h. o.ensures.none (omega (arith, o.ensures.within, c.if-p-n.false));
-      not_two = λ h. absurd (omega (arith, c.if-left-lt4.true));
-    }
-
-pub guess_two-requires : goal.guess_two-requires
-guess_two-requires c =
-    let o = c.one-p in (
-      c.requires.0,
-      omega (arith, c.if-left-lt4.false),
-      c.requires.2,
-      c.requires.3,
-      c.requires.4,
-      o.ensures.none (omega (arith, o.ensures.within, c.if-p-n.false)),
-    )
+pub returns-in-Some : goal.returns-in-Some
+returns-in-Some c =
+    let p = c.in-Some in
+    (refl, one_more c.args.marked.now c.args.t p.p (search rules) c.requires.0 p.ensures.0 p.ensures.1)

@@ -15,15 +15,14 @@ some b h e = omega arith
 pub returns-then-a-eq0 : goal.returns-then-a-eq0
 returns-then-a-eq0 c =
     let b = c.args.b in (
-      inverse_right b (omega arith) (some b c.requires.1),
+      inverse_right b (omega arith) (some b c.requires),
       sym (zero_mul gf256 field256 (inverse_of b)) ∙ ap (λ (x : ℕ). times x (inverse_of b)) (sym c.if-a-eq0.true),
     )
 
 pub returns : goal.returns
 returns c =
     let b = c.args.b in
-    let nb = some b c.requires.1 in (
+    let nb = some b c.requires in (
       inverse_right b (omega arith) nb,
-      quotient_by c.args.tables.now c.requires.0 c.args.a b c.log.result c.log-2.result (omega arith) nb
-          c.log.ensures c.log-2.ensures,
+      c.power_at.ensures ∙ quotient_by c.args.a b c.log.result c.log-2.result (omega arith) nb c.log.ensures c.log-2.ensures,
     )

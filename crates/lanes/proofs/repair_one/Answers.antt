@@ -1,53 +1,50 @@
+use mathlib.Core.Path.{sym, subst}
 use native.Mathlib.Omega.{arith}
-use Rattle.dealt.proofs.Searching.{remainder_small}
-use Rattle.lanes.proofs.Repairs.{few_columns, full, to_search, corrected, beyond_reach, to_note, mended_one}
+use Rattle.errata.specs.Errata.{SearchedAs}
+use Rattle.account.specs.Lanes.{lane}
+use Rattle.lanes.specs.Lanes.{OneAs}
+use Rattle.lanes.proofs.Repairs.{few_columns, full, to_search, searched, beyond_reach, to_note, mended_one}
 use Rattle.lanes.proofs.repair_one.Goals as goal
 
-pub search-found-requires : goal.search-found-requires
-search-found-requires c =
+pub search-requires : goal.search-requires
+search-requires c =
     let a = c.args in
-    let p = c.requires in (
-      p.0,
-      to_search a.lanes a.strip.now a.marks.now p.1.entered a.l p.1.inside a.marked.cells a.marked.count p.2 (p.3.list p.2),
-      remainder_small a.lanes a.l a.strip.now a.r p.1.remains,
-    )
+    let p = c.requires.0 in
+    let m = c.requires.1 in
+    to_search a.lanes a.strip.now a.marks.now p.entered a.l p.inside a.listed.cells a.listed.count m.few m.list
 
-pub returns-then-not-good : goal.returns-then-not-good
-returns-then-not-good c =
+pub returns-in_err-e : goal.returns-in_err-e
+returns-in_err-e c =
     let a = c.args in
-    let p = c.requires in
-    let x = c.search-found in
-    beyond_reach a.lanes a.strip.now a.marks.now p.1.entered a.l p.1.inside a.r a.marked.count a.marked.cells x.result p.1.remains (p.3.list p.2)
-    (record { cell = λ j h. omega (arith, c.type_inv.strip j) }) x.ensures (c.if-not-good.true)
+    let p = c.requires.0 in
+    let m = c.requires.1 in
+    let x = searched a.lanes a.strip.now a.marks.now p.entered a.l p.inside a.r a.listed.count a.listed.cells c.search.result p.remains m.list
+    (record { cell = λ j h. omega (arith, c.type_inv.strip j) }) c.search.ensures in
+    subst (OneAs a.lanes a.strip.now a.marks.now a.l a.fixes.now a.fixes.now) (sym c.from_residual.ensures)
+    (beyond_reach a.lanes a.strip.now a.marks.now p.entered a.l p.inside
+    (subst (SearchedAs (lane a.lanes a.l a.marks.now) (lane a.lanes a.l a.strip.now)) c.in_err-e.was x))
 
-pub overflow_add-noted : goal.overflow_add-noted
-overflow_add-noted c =
+pub note_lane-requires : goal.note_lane-requires
+note_lane-requires c =
     let a = c.args in
-    let p = c.requires in
-    let x = c.search-found in
-    let K = corrected a.lanes a.strip.now a.marks.now p.1.entered a.l p.1.inside a.r a.marked.count a.marked.cells x.result p.1.remains (p.3.list p.2)
-    (record { cell = λ j h. omega (arith, c.type_inv.strip j) }) x.ensures (c.if-not-good.false) in
-    omega (arith, K.listed.few, p.4.left)
-
-pub note_lane-c-requires : goal.note_lane-c-requires
-note_lane-c-requires c =
-    let a = c.args in
-    let p = c.requires in
-    let x = c.search-found in
-    let K = corrected a.lanes a.strip.now a.marks.now p.1.entered a.l p.1.inside a.r a.marked.count a.marked.cells x.result p.1.remains (p.3.list p.2)
-    (record { cell = λ j h. omega (arith, c.type_inv.strip j) }) x.ensures (c.if-not-good.false) in (
-      record { inside = p.1.inside; short = few_columns a.lanes a.strip.now a.marks.now p.1.entered; full = full a.lanes a.strip.now a.marks.now p.1.entered },
-      p.1.entered.lanes.to,
-      λ w g. to_note a.lanes a.strip.now a.marks.now p.1.entered a.l a.k p.1.inside a.cells.now a.bytes.now w g.0 g.1 x.result.errata K p.4,
+    let p = c.requires.0 in
+    let m = c.requires.1 in
+    let x = searched a.lanes a.strip.now a.marks.now p.entered a.l p.inside a.r a.listed.count a.listed.cells c.search.result p.remains m.list
+    (record { cell = λ j h. omega (arith, c.type_inv.strip j) }) c.search.ensures in
+    let K = subst (SearchedAs (lane a.lanes a.l a.marks.now) (lane a.lanes a.l a.strip.now)) c.in_ok-e.was x in (
+      record { inside = p.inside; short = few_columns a.lanes a.strip.now a.marks.now p.entered; full = full a.lanes a.strip.now a.marks.now p.entered },
+      p.entered.lanes.to,
+      λ w g. to_note a.lanes a.strip.now a.marks.now p.entered a.l p.inside a.fixes.now w g.0 g.1 c.in_ok-e.e K c.requires.2,
     )
 
 pub returns : goal.returns
 returns c =
     let a = c.args in
-    let p = c.requires in
-    let g = c.note_lane-c.ensures in
-    let x = c.search-found in
-    let K = corrected a.lanes a.strip.now a.marks.now p.1.entered a.l p.1.inside a.r a.marked.count a.marked.cells x.result p.1.remains (p.3.list p.2)
-    (record { cell = λ j h. omega (arith, c.type_inv.strip j) }) x.ensures (c.if-not-good.false) in
-    mended_one a.lanes a.strip.now a.marks.now p.1.entered a.l a.k p.1.inside a.cells.now a.bytes.now g.0 g.1.0 g.1.1 x.result.errata K p.4
-    _ _ c.note_lane-c.result g.2
+    let p = c.requires.0 in
+    let m = c.requires.1 in
+    let g = c.note_lane.ensures in
+    let x = searched a.lanes a.strip.now a.marks.now p.entered a.l p.inside a.r a.listed.count a.listed.cells c.search.result p.remains m.list
+    (record { cell = λ j h. omega (arith, c.type_inv.strip j) }) c.search.ensures in
+    let K = subst (SearchedAs (lane a.lanes a.l a.marks.now) (lane a.lanes a.l a.strip.now)) c.in_ok-e.was x in
+    mended_one a.lanes a.strip.now a.marks.now p.entered a.l p.inside a.fixes.now g.0 g.1.0 g.1.1 c.in_ok-e.e K c.requires.2
+    _ c.note_lane.result g.2

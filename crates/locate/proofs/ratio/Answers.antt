@@ -14,8 +14,8 @@ returns-then-a-b c =
       is = log_around gf256 field256 a.result b.result c.args.x c.args.y (omega (arith, b.ensures.small)) a.ensures.is b.ensures.is;
     }
 
-pub returns : goal.returns
-returns c =
+pub returns-else-a-b : goal.returns-else-a-b
+returns-else-a-b c =
     let b = c.log-b in
     let a = c.log-a in
     record {

@@ -1,27 +1,16 @@
-use mathlib.Core.Path.{◌≡◌, refl, subst}
-use Prim.Native.Nat.{ℕ, ◌≤◌}
+use Prim.Native.Nat.{◌≤◌}
 use native.Mathlib.Omega.{arith}
 use lib.ListN.{length, take}
 use lib.Seq.{length-take-le}
-use Rattle.marks.specs.Marks.{CountsAll}
 use Rattle.marks.proofs.Counting.{counts_next, counts_few, erratum_below}
 use Rattle.marks.proofs.count.Goals as goal
-
-pub loop-i-init : goal.loop-i-init
-loop-i-init c = (omega arith, record { mended = refl; repainted = refl })
-
-pub bounds-cells-i : goal.bounds-cells-i
-bounds-cells-i c = omega (arith, c.requires.few)
-
-pub bounds-values-i : goal.bounds-values-i
-bounds-values-i c = omega (arith, c.requires.few)
 
 pub count_one-c-requires : goal.count_one-c-requires
 count_one-c-requires c =
     let a = c.args in
     let p = c.requires in
     let l = c.loop-i in
-    let f = counts_few a.marks.now (take l.i a.e.cells) (take l.i a.e.values) l.c l.invariant.1 in
+    let f = counts_few a.marks.now (take l.i a.e.cells) (take l.i a.e.values) l.c l.invariant in
     let n : length (take l.i a.e.cells) ≤ 5 = omega (arith, length-take-le l.i a.e.cells (omega (arith, p.few, p.room)), p.few) in
     (erratum_below (length a.marks.now) a.e p l.i (omega arith), omega (arith, f.0), omega (arith, f.1))
 
@@ -29,15 +18,6 @@ pub loop-i-preserved : goal.loop-i-preserved
 loop-i-preserved c =
     let a = c.args in
     let p = c.requires in
-    let l = c.loop-i in (
-      omega arith,
-      counts_next a.marks.now a.e.cells a.e.values l.i l.c c.count_one-c.result (omega (arith, p.few, p.room))
-          (omega (arith, p.few, p.values_room)) l.invariant.1 c.count_one-c.ensures,
-    )
-
-pub returns : goal.returns
-returns c =
-    let a = c.args in
     let l = c.loop-i in
-    let z : l.i ≡ a.e.count = omega (arith, l.invariant.0) in
-    subst (λ (j : ℕ). CountsAll a.marks.now (take j a.e.cells) (take j a.e.values) l.c) z l.invariant.1
+    counts_next a.marks.now a.e.cells a.e.values l.i l.c c.count_one-c.result (omega (arith, p.few, p.room))
+    (omega (arith, p.few, p.values_room)) l.invariant c.count_one-c.ensures

@@ -4,6 +4,3 @@ use Rattle.marks.proofs.list.Given as goal
 
 abbrev pub invariant-loop-i : goal.invariant-loop-i
 invariant-loop-i l = Listing (lane l.lanes l.l l.marks) l.cells l.k l.i
-
-abbrev pub decreases-loop-i : goal.decreases-loop-i
-decreases-loop-i l = l.i

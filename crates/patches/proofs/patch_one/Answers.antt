@@ -1,10 +1,18 @@
-use Rattle.patches.proofs.Windows.{patched_one}
+use Rattle.std.proofs.Common.{arith}
+use borrow.Author.Tests.{ltb-true, ltb-false}
+use Rattle.patches.proofs.Windows.{in_window, elsewhere}
 use Rattle.patches.proofs.patch_one.Goals as goal
+use Rattle.patches.proofs.patch_one.Goals.{then-inside, else-inside}
 
 pub returns : goal.returns
 returns c =
-    let d = c.distance-q in
+    let a = c.args in
+    let q = c.distance-q in
     let o = c.offset-o in
-    let v = c.pick in
-    patched_one c.args.from c.args.p c.args.b d.result o.result v.result c.args.window.now c.requires.1 d.ensures
-    o.ensures.0 o.ensures.1 v.ensures.0 v.ensures.1
+    let v = c.if-inside in
+    elim v.branch [
+      | then-inside w ↦ in_window a.from a.p a.b q.result o.result v.window a.window.now c.requires.1 q.ensures o.ensures.0 o.ensures.1
+          (omega (arith, ltb-true, w.if-inside.true)) w.window-is
+      | else-inside w ↦ elsewhere a.from a.p a.b q.result o.result v.window a.window.now c.requires.1 q.ensures o.ensures.0 o.ensures.1
+          (λ h. omega (arith, ltb-false, w.if-inside.false)) w.window-is
+    ]

@@ -2,8 +2,6 @@ use Rattle.patches.proofs.Windows.{window_shown}
 use Rattle.patches.proofs.show.Goals as goal
 
 pub returns : goal.returns
-returns c =
-    let a = c.args in
-    let z = c.size-n in
-    window_shown a.strip.now a.cells.now a.bytes.now a.scratch.now _ _ a.count a.from a.to z.result
-    z.ensures.0 z.ensures.1 z.ensures.2 c.requires.2 c.copy.ensures c.patch.ensures
+returns c = let a = c.args in
+    window_shown a.strip.now a.fixes.now.cells a.fixes.now.bytes c.copy_from_slice.new.self _ _ a.fixes.now.count a.from a.to c.min-n.result
+    c.min-n.ensures c.requires.0 c.requires.1 c.copy_from_slice.ensures.after c.patch.ensures

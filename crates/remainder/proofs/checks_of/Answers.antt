@@ -9,5 +9,5 @@ use Rattle.remainder.proofs.checks_of.Goals as goal
 
 pub returns : goal.returns
 returns c =
-    let d = c.args.«data».now in subst (λ (v : List ℕ). Checks v (get_or c.lane_checks_of-x.result 0 0)) (lane_word d)
-    (c.lane_checks_of-x.ensures 0 (omega arith))
+    let d = c.args.«data».now in subst (λ (v : List ℕ). Checks v (get_or c.lane_checks_of.result 0 0)) (lane_word d)
+    (c.lane_checks_of.ensures 0 (omega arith))

@@ -1,9 +1,6 @@
-use Prim.Native.Nat.{◌+◌, ◌-◌, ◌≤◌}
-use Rattle.remainder.specs.Remainder.{lower, RowTo}
+use Prim.Native.Nat.{◌+◌, min}
+use Rattle.remainder.specs.Remainder.{RowTo}
 use Rattle.remainder.proofs.group.Given as goal
 
 abbrev pub invariant-loop-i : goal.invariant-loop-i
-invariant-loop-i l = (l.i ≤ 4) × RowTo l.lanes l.s l.q l.j l.initial.out l.out (lower (l.j + l.i) l.lanes)
-
-abbrev pub decreases-loop-i : goal.decreases-loop-i
-decreases-loop-i l = 4 - l.i
+invariant-loop-i l = RowTo l.lanes l.s l.q l.j l.initial.out l.out (min (l.j + l.i) l.lanes)

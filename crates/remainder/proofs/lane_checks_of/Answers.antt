@@ -1,4 +1,4 @@
-use Prim.Native.Nat.{◌*◌, ◌-◌}
+use Prim.Native.Nat.{◌*◌}
 use lib.ListN.{take, replicate}
 use mathlib.Core.Path.{refl}
 use native.Mathlib.Omega.{arith}
@@ -20,6 +20,6 @@ returns c =
     let a = c.args in
     let p = c.requires in
     let z = zero_part a.lanes (replicate 80 0) p.1 refl tt in
-    lanes_check a.lanes (omega (arith, p.0)) a.«data».now (take (5 * a.lanes - 0) (replicate 80 0))
+    lanes_check a.lanes (omega (arith, p.0)) a.«data».now (take (5 * a.lanes) (replicate 80 0))
     c.remainders-out.result c.rows.new.out z.0 z.1 c.remainders-out.ensures
     c.rows.ensures.0

@@ -9,5 +9,5 @@ use Rattle.remainder.proofs.remainder_of.Goals as goal
 
 pub returns : goal.returns
 returns c =
-    let w = c.args.w.now in subst (λ (v : List ℕ). Remains v (get_or c.remainders-r.result 0 0)) (lane_word w)
-    (c.remainders-r.ensures 0 (omega arith))
+    let w = c.args.w.now in subst (λ (v : List ℕ). Remains v (get_or c.remainders.result 0 0)) (lane_word w)
+    (c.remainders.ensures 0 (omega arith))

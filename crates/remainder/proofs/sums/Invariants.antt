@@ -1,10 +1,7 @@
 use mathlib.Core.Path.{◌≡◌}
-use Prim.Native.Nat.{◌*◌, ◌/◌, ◌%◌, ◌^◌, ◌-◌, ◌≤◌}
-use Rattle.remainder.proofs.Halves.{SumsOf}
+use Prim.Native.Nat.{◌*◌, ◌/◌, ◌%◌, ◌^◌}
+use Rattle.reductions.specs.Packed.{SumsOf}
 use Rattle.remainder.proofs.sums.Given as goal
 
 abbrev pub invariant-loop-k : goal.invariant-loop-k
-invariant-loop-k l = (l.k ≤ 10) × (l.rest ≡ l.initial.rest / 2 ^ (4 * l.k)) × SumsOf (l.initial.rest % 2 ^ (4 * l.k)) l.x
-
-abbrev pub decreases-loop-k : goal.decreases-loop-k
-decreases-loop-k l = 10 - l.k
+invariant-loop-k l = (l.rest ≡ l.initial.rest / 2 ^ (4 * l.k)) × SumsOf (l.initial.rest % 2 ^ (4 * l.k)) l.x

@@ -1,6 +1,5 @@
 use Rattle.std.proofs.Common.{◌-◌, get_or, refl, arith}
-use lib.ListN.{length-set}
-use Rattle.tiny.proofs.Carry.{codes_set, at_none, at_last, at_carry}
+use Rattle.tiny.proofs.Carry.{at_none, at_last, at_carry}
 use Rattle.tiny.proofs.+step.Goals as goal
 
 pub returns-then-at-eq0 : goal.returns-then-at-eq0
@@ -10,10 +9,6 @@ pub returns-then-t-lt6 : goal.returns-then-t-lt6
 returns-then-t-lt6 t c =
     at_last c.args.board.now c.args.at c.requires.0 (λ z. omega (arith, z, c.if-at-eq0.false)) (omega arith)
     (get_or c.args.board.now (c.args.at - 1) 0) refl (omega arith)
-
-pub step-requires : goal.step-requires
-step-requires t c =
-    (omega arith, (codes_set c.args.board.now (c.args.at - 1) 0 c.requires.0 (omega arith), simp length-set (omega arith)))
 
 pub returns : goal.returns
 returns t c =

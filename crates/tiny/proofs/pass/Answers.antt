@@ -1,13 +1,10 @@
-use native.Mathlib.Omega.{arith}
-use Rattle.tiny.proofs.Carry.{cleared_codes, passed}
+use mathlib.Core.Path.{refl}
+use Rattle.tiny.proofs.Carry.{filled_front, filled_floor, passed}
 use Rattle.tiny.proofs.pass.Goals as goal
-
-pub step-requires : goal.step-requires
-step-requires c =
-    let l = c.clear in
-    (cleared_codes c.args.board.now l.new.board c.args.k c.requires.0 l.ensures.0 l.ensures.1, omega (arith, l.auto.board, c.requires.1))
 
 pub returns : goal.returns
 returns c =
-    let l = c.clear in
-    passed c.args.board.now l.new.board c.args.k c.requires.0 l.ensures.0 l.ensures.1 _ _ c.step.ensures
+    let a = c.args in
+    let is = c.fill.ensures.after (λ y e. e) in
+    passed a.board.now _ a.k c.requires.0 (filled_front a.board.now c.fill.new.self a.k _ _ c.requires.1 refl is)
+    (filled_floor a.board.now c.fill.new.self a.k _ _ c.requires.1 refl is) _ _ c.step.ensures

@@ -3,6 +3,3 @@ use Rattle.values.proofs.sieve.Given as goal
 
 abbrev pub invariant-loop-m : goal.invariant-loop-m
 invariant-loop-m l = Sieving l.x l.i l.k l.initial.v l.v l.m
-
-abbrev pub decreases-loop-m : goal.decreases-loop-m
-decreases-loop-m l = l.m

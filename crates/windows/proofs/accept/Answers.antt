@@ -1,33 +1,33 @@
-use mathlib.Core.Path.{◌≡◌, sym, ap, ◌∙◌}
+use mathlib.Core.Path.{sym, ap, ◌∙◌}
 use mathlib.Core.List.{List, ◌++◌}
 use Prim.Native.Nat.{ℕ, ◌*◌}
 use native.Mathlib.Omega.{arith}
 use lib.ListN.{drop}
+use Rattle.std.proofs.lemmas.Result.{err_from_is_err_and}
 use Rattle.tiles.proofs.Part.{length_part, tiles_from_part}
 use Rattle.fields.proofs.Accepting.{rejected, room_for, accepted}
-use Rattle.windows.proofs.Weighing.{record_in, length_record}
+use Rattle.windows.specs.Windows.{record_in}
+use Rattle.windows.proofs.Weighing.{length_record}
 use Rattle.windows.proofs.accept.Goals as goal
 
-pub returns-then-refusal-ne0 : goal.returns-then-refusal-ne0
-returns-then-refusal-ne0 c =
+pub returns-in_err-f : goal.returns-in_err-f
+returns-in_err-f c =
     let a = c.args in
-    let j = c.judge-j in
-    rejected a.upto a.lanes (record_in a.strip.now a.cells.now a.bytes.now a.count a.to) j.result j.ensures a.tiles.now
-    (λ z. omega (arith, z, c.if-refusal-ne0.true))
+    let p = err_from_is_err_and c.from_residual.result c.from_residual.ensures.1 in
+    rw (p.1, p.2) (rejected a.upto a.lanes (record_in a.strip.now a.fixes.now a.to) a.tiles.now c.in_err-f.field-0.0 c.in_err-f.ensures)
 
-pub overflow_mul-m : goal.overflow_mul-m
-overflow_mul-m c = omega (arith, (c.judge-j.ensures.spells (omega (arith, c.if-refusal-ne0.false))).few)
+pub overflow_mul-f : goal.overflow_mul-f
+overflow_mul-f c = omega (arith, c.in_ok-f.ensures.spells.few)
 
 pub unpack-requires : goal.unpack-requires
 unpack-requires c =
     let a = c.args in
-    let bs = record_in a.strip.now a.cells.now a.bytes.now a.count a.to in
-    let j = c.judge-j in
-    let z : j.result.code ≡ 0 = omega (arith, c.if-refusal-ne0.false) in
-    let e = length_record a.strip.now a.cells.now a.bytes.now a.count a.to c.requires.0.inside in
-    let few = (j.ensures.spells z).few in
-    let room = room_for a.upto a.lanes bs j.result j.ensures a.tiles.now z c.requires.1.from in (
-      record { few = c.requires.0.few; some = c.requires.0.some; short = c.requires.0.short; inside = c.requires.0.inside; room = omega (arith, j.auto.scratch, c.requires.0.room) },
+    let bs = record_in a.strip.now a.fixes.now a.to in
+    let J = c.in_ok-f.ensures in
+    let few = J.spells.few in
+    let e = length_record a.strip.now a.fixes.now a.to c.requires.0.inside in
+    let room = room_for a.upto a.lanes bs a.tiles.now c.in_ok-f.f J c.requires.1.from in (
+      record { some = c.requires.0.some; short = c.requires.0.short; inside = c.requires.0.inside; room = omega (arith, c.judge.auto.scratch, c.requires.0.room) },
       few,
       omega (arith, room, length_part bs, e, c.requires.0.some),
       omega (arith, few, c.requires.2),
@@ -36,9 +36,7 @@ unpack-requires c =
 pub returns : goal.returns
 returns c =
     let a = c.args in
-    let bs = record_in a.strip.now a.cells.now a.bytes.now a.count a.to in
-    let j = c.judge-j in
-    let z : j.result.code ≡ 0 = omega (arith, c.if-refusal-ne0.false) in
-    accepted a.upto a.lanes bs j.result j.ensures a.tiles.now z _
-    (c.unpack.ensures ∙ ap (λ (ts : List ℕ). ts ++ drop (j.result.width * j.result.height) a.tiles.now) (sym (tiles_from_part bs
-    (j.result.width * j.result.height))))
+    let bs = record_in a.strip.now a.fixes.now a.to in
+    let f = c.in_ok-f.f in
+    accepted a.upto a.lanes bs a.tiles.now f c.in_ok-f.ensures _
+    (c.unpack.ensures ∙ ap (λ (ts : List ℕ). ts ++ drop (f.width * f.height) a.tiles.now) (sym (tiles_from_part bs (f.width * f.height))))

@@ -7,5 +7,5 @@ returns c =
     let a = c.args in
     let p = c.requires in
     let o = c.show in
-    head_seen a.strip.now a.cells.now a.bytes.now _ a.count a.to o.result (omega (arith, p.some)) p.inside o.ensures
+    head_seen a.strip.now _ a.fixes.now a.to o.result (omega (arith, p.some)) p.inside o.ensures
     c.head_of.result c.head_of.ensures

@@ -7,21 +7,22 @@ use borrow.Rule.Slice.PartMut.{post_of}
 use lib.ListN.{length, take, drop, length-drop}
 use lib.Seq.{length-take-le}
 use Rattle.rules.proofs.Numbers.{lt_or_ge}
-use Rattle.windows.proofs.Weighing.{record_in, sees}
+use Rattle.windows.specs.Windows.{record_in}
+use Rattle.windows.proofs.Weighing.{sees}
 use Rattle.windows.proofs.Unpacking.{window_holds, unpacking_0, unpacking_more, unpacked_all}
 use Rattle.windows.proofs.unpack.Goals as goal
 
 pub loop-t-init : goal.loop-t-init
 loop-t-init c =
     let a = c.args in
-    (refl, unpacking_0 (record_in a.strip.now a.cells.now a.bytes.now a.count a.to) a.m a.tiles.now)
+    (refl, unpacking_0 (record_in a.strip.now a.fixes.now a.to) a.m a.tiles.now)
 
 pub show-n-requires : goal.show-n-requires
 show-n-requires c =
     let a = c.args in
     let p = c.requires in
     let l = c.loop-t in
-    (p.0.few, omega (arith, l.invariant.1.on (omega arith), p.2), p.0.inside, omega (arith, l.invariant.0, p.0.room))
+    (omega (arith, l.invariant.1.on (omega arith), p.2), p.0.inside, omega (arith, l.invariant.0, p.0.room))
 
 pub unpack-requires : goal.unpack-requires
 unpack-requires c =
@@ -29,9 +30,9 @@ unpack-requires c =
     let p = c.requires in
     let l = c.loop-t in
     let o = c.show-n in
-    let k = c.least-k in
+    let k = c.min-k in
     let x = o.new.scratch in
-    let long : length (take (o.result - 0) x) ≡ o.result = length-take-le (o.result - 0) x (omega (
+    let long : length (take (o.result) x) ≡ o.result = length-take-le (o.result) x (omega (
       arith,
       o.auto.scratch,
       o.ensures.most,
@@ -39,12 +40,12 @@ unpack-requires c =
       l.invariant.0,
     )) ∙ omega arith in
     let h = window_holds a.to l.from a.m l.t o.result k.result (l.invariant.1.on (omega arith)) p.2 o.ensures.most o.ensures.before
-    o.ensures.full (omega arith) (omega (arith, k.ensures.0)) k.ensures.1 k.ensures.2 in (
-      omega (arith, k.ensures.0),
+    o.ensures.full (omega arith) (omega (arith, k.ensures)) (omega (arith, k.ensures)) (λ h. omega (arith, k.ensures, h)) in (
+      omega (arith, k.ensures),
       omega (arith, long, h.0),
       omega (
         arith,
-        k.ensures.1,
+        k.ensures,
         p.3,
         l.invariant.1.long,
         length-drop l.t l.tiles,
@@ -55,8 +56,8 @@ unpack-requires c =
 pub loop-t-smaller : goal.loop-t-smaller
 loop-t-smaller c =
     let l = c.loop-t in
-    let k = c.least-k in
-    ⊎_elim (λ h. omega (arith, k.ensures.2 h)) (λ h. omega arith) (lt_or_ge k.result (c.args.m - l.t))
+    let k = c.min-k in
+    ⊎_elim (λ h. omega (arith, k.ensures, h)) (λ h. omega arith) (lt_or_ge k.result (c.args.m - l.t))
 
 pub loop-t-preserved : goal.loop-t-preserved
 loop-t-preserved c =
@@ -64,17 +65,17 @@ loop-t-preserved c =
     let p = c.requires in
     let l = c.loop-t in
     let o = c.show-n in
-    let k = c.least-k in
+    let k = c.min-k in
     let u = c.unpack in
     let x = o.new.scratch in
-    let bs = record_in a.strip.now a.cells.now a.bytes.now a.count a.to in
+    let bs = record_in a.strip.now a.fixes.now a.to in
     let h = window_holds a.to l.from a.m l.t o.result k.result (l.invariant.1.on (omega arith)) p.2 o.ensures.most o.ensures.before
-    o.ensures.full (omega arith) (omega (arith, k.ensures.0)) k.ensures.1 k.ensures.2 in (
+    o.ensures.full (omega arith) (omega (arith, k.ensures)) (omega (arith, k.ensures)) (λ h. omega (arith, k.ensures, h)) in (
       search rules,
       unpacking_more bs a.m a.tiles.now l.tiles u.new.tiles (post_of l.t (length l.tiles - l.t) l.tiles)
-          (take (o.result - 0) x) l.from l.t o.result k.result l.invariant.1 (omega arith)
-          (sees a.strip.now a.cells.now a.bytes.now x a.count l.from a.to o.result p.0.inside o.ensures)
-          (omega (arith, k.ensures.1)) h.0 h.1 (omega (arith, l.invariant.1.long, p.3)) u.ensures (search rules),
+          (take (o.result) x) l.from l.t o.result k.result l.invariant.1 (omega arith)
+          (sees a.strip.now x a.fixes.now l.from a.to o.result p.0.inside o.ensures)
+          (omega (arith, k.ensures)) h.0 h.1 (omega (arith, l.invariant.1.long, p.3)) u.ensures (search rules),
     )
 
 pub shape_of-tiles : goal.shape_of-tiles
@@ -87,5 +88,5 @@ pub returns : goal.returns
 returns c =
     let a = c.args in
     let l = c.loop-t in
-    unpacked_all (record_in a.strip.now a.cells.now a.bytes.now a.count a.to) a.m a.tiles.now l.tiles l.from l.t
+    unpacked_all (record_in a.strip.now a.fixes.now a.to) a.m a.tiles.now l.tiles l.from l.t
     c.requires.3 (omega arith) l.invariant.1

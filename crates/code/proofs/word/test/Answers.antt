@@ -1,22 +1,15 @@
-use native.Mathlib.Omega.{arith}
+use Rattle.std.proofs.Common.{nat_eq, length, arith}
+use Rattle.rules.specs.Refusal.{Within}
+use Rattle.code.specs.Word.{word_most}
 use Rattle.remainder.proofs.Whole.{clean_none, none_is_clean}
-use Rattle.code.proofs.Writing.{test_refused, test_clean, test_damaged}
-use borrow.Author.Rules.{rules}
+use borrow.Author.Tests.{eqb-true, eqb-false}
+use Rattle.code.proofs.Writing.{tested}
 use Rattle.code.proofs.word.test.Goals as goal
-
-pub returns-then-n-lt6 : goal.returns-then-n-lt6
-returns-then-n-lt6 c = test_refused c.args.word.now (λ w. omega (arith, w.from, c.if-n-lt6.true))
-
-pub returns-then-n-gt-WORD_MOST : goal.returns-then-n-gt-WORD_MOST
-returns-then-n-gt-WORD_MOST c = test_refused c.args.word.now (λ w. omega (arith, w.to, c.if-n-gt-WORD_MOST.true))
-
-pub returns-then-remainder_of-eq0 : goal.returns-then-remainder_of-eq0
-returns-then-remainder_of-eq0 c =
-    let w = c.args.word.now in
-    test_clean w (search rules) (search rules)
-    (none_is_clean w c.remainder_of.result c.remainder_of.ensures (omega (arith, c.if-remainder_of-eq0.true)))
 
 pub returns : goal.returns
 returns c =
     let w = c.args.word.now in
-    test_damaged w (search rules) (search rules) (λ k. c.if-remainder_of-eq0.false (clean_none w c.remainder_of.result c.remainder_of.ensures k))
+    let r = c.remainder_of in
+    let h : Within 6 word_most (length w) = record { from = omega arith; to = omega arith } in
+    tested w h (nat_eq r.result 0) (λ t. none_is_clean w r.result r.ensures (omega (arith, eqb-true, t)))
+    (λ t k. absurd (omega (arith, eqb-false, t, clean_none w r.result r.ensures k)))

@@ -1,41 +1,31 @@
-use mathlib.Core.Path.{◌≡◌}
-use Prim.Native.Nat.{◌*◌, ◌-◌}
-use native.Mathlib.Omega.{arith}
-use lib.ListN.{length, length-take}
-use borrow.Author.Rules.{rules}
-use Rattle.text.proofs.Judging.{few, layable, rows_refused, rows_read}
+use mathlib.Core.Path.{refl}
+use Rattle.std.proofs.lemmas.Result.{err_from_is_err_and}
+use Rattle.rules.proofs.Tests.{said, denied}
+use Rattle.level.specs.Level.{Sized}
+use Rattle.text.proofs.Judging.{rows_12, layable, rows_refused, rows_read}
 use Rattle.text.proofs.read.judge.Goals as goal
 
+pub returns-then-not-sized : goal.returns-then-not-sized
+returns-then-not-sized c =
+    let a = c.args in
+    rows_12 a.body.now a.f c.requires.0 a.tiles.now (denied (Sized a.f.width a.f.height) c.sized.result c.if-not-sized.true c.sized.ensures)
+
 pub put-requires : goal.put-requires
-put-requires c = layable c.args.body.now c.args.w c.args.h c.args.par c.requires.0 c.requires.1
+put-requires c =
+    let a = c.args in
+    layable a.body.now a.f c.requires.0 (said (Sized a.f.width a.f.height) c.sized.result c.if-not-sized.false c.sized.ensures)
 
-pub overflow_mul-m : goal.overflow_mul-m
-overflow_mul-m c = omega (arith, few c.args.body.now c.args.w c.args.h c.args.par c.requires.0 c.requires.1)
-
-pub slice_bounds-check-end : goal.slice_bounds-check-end
-slice_bounds-check-end c =
-    let n : length c.put.new.board ≡ 961 = search rules in
-    omega (arith, n, few c.args.body.now c.args.w c.args.h c.args.par c.requires.0 c.requires.1)
-
-pub returns-then-code-ne0 : goal.returns-then-code-ne0
-returns-then-code-ne0 c =
-    let k = c.check-code in
-    rows_refused c.args.body.now c.args.w c.args.h c.args.par c.requires.0 c.requires.1 c.requires.2 _ c.put.ensures k.result k.ensures c.args.tiles.now
-    c.if-code-ne0.true
-
-pub slice_bounds-copy-end : goal.slice_bounds-copy-end
-slice_bounds-copy-end c =
-    let n : length c.put.new.board ≡ 961 = search rules in
-    omega (arith, n, few c.args.body.now c.args.w c.args.h c.args.par c.requires.0 c.requires.1)
-
-pub copy-requires : goal.copy-requires
-copy-requires c =
-    let b = c.put.new.board in
-    let n : length b ≡ 961 = search rules in
-    omega (arith, n, c.requires.3, length-take (c.args.w * c.args.h - 0) b)
+pub returns-in_err-check : goal.returns-in_err-check
+returns-in_err-check c =
+    let a = c.args in
+    let o = c.requires in
+    let sized = said (Sized a.f.width a.f.height) c.sized.result c.if-not-sized.false c.sized.ensures in
+    let p = err_from_is_err_and c.from_residual.result c.from_residual.ensures.1 in
+    rw (p.1, p.2) (rows_refused a.body.now a.f o.0 sized o.2 o.1 _ c.put.ensures _ c.in_err-check.ensures a.tiles.now c.in_err-check.field-0.0 refl)
 
 pub returns : goal.returns
 returns c =
-    let k = c.check-code in
-    rows_read c.args.body.now c.args.w c.args.h c.args.par c.requires.0 c.requires.1 c.requires.2 _ c.put.ensures k.result k.ensures c.args.tiles.now _
-    c.if-code-ne0.false c.copy.ensures
+    let a = c.args in
+    let o = c.requires in
+    let sized = said (Sized a.f.width a.f.height) c.sized.result c.if-not-sized.false c.sized.ensures in
+    rows_read a.body.now a.f o.0 sized o.2 o.1 _ c.put.ensures _ c.in_ok-check.ensures a.tiles.now _ refl (rw c.copy_from_slice.ensures.after refl)

@@ -1,22 +1,14 @@
-use Prim.Native.Nat.{◌/◌, ◌%◌}
 use native.Mathlib.Omega.{arith}
-use Rattle.tiles.specs.Sum.{weighed}
-use Rattle.tiles.proofs.Rows.{weighed_small}
-use Rattle.tiles.proofs.Counting.{pairs_next, pairs_none}
+use Rattle.tiles.proofs.Counting.{two_three_three}
 use Rattle.tiles.proofs.count.eight.Goals as goal
 
-pub overflow_add-s : goal.overflow_add-s
-overflow_add-s c =
-    let l = c.loop-n in
-    omega (arith, c.pair-s.ensures, weighed_small (l.u % 64 / 8), weighed_small (l.u % 64 % 8))
+pub overflow_add-result : goal.overflow_add-result
+overflow_add-result c = let e = two_three_three c.args.v in omega (arith, e.1, c.three.ensures, c.three-2.ensures)
 
-pub loop-n-preserved : goal.loop-n-preserved
-loop-n-preserved c =
-    let l = c.loop-n in (
-      omega arith,
-      omega (arith, c.pair-s.ensures, weighed_small (l.u % 64 / 8), weighed_small (l.u % 64 % 8)),
-      omega (arith, c.pair-s.ensures, pairs_next weighed l.n l.u (omega arith), l.invariant.2),
-    )
+pub overflow_add-result-2 : goal.overflow_add-result-2
+overflow_add-result-2 c = let e = two_three_three c.args.v in omega (arith, e.1, c.three.ensures, c.three-2.ensures, c.three-3.ensures)
 
 pub returns : goal.returns
-returns c = let l = c.loop-n in (omega (arith, pairs_none weighed l.n l.u (omega arith), l.invariant.2), omega arith)
+returns c =
+    let e = two_three_three c.args.v in
+    (omega (arith, e.0, c.three.ensures, c.three-2.ensures, c.three-3.ensures), omega (arith, e.1, c.three.ensures, c.three-2.ensures, c.three-3.ensures))

@@ -1,10 +1,6 @@
-use Rattle.tiles.proofs.Rows.{weighed_out}
-use native.Mathlib.Omega.{arith}
-use mathlib.Core.Path.{sym, ◌∙◌}
+use mathlib.Core.Path.{◌∙◌}
+use Rattle.tiles.proofs.Rows.{row_at}
 use Rattle.tiles.proofs.tile.weigh.Goals as goal
 
-pub returns-then-t-lt8 : goal.returns-then-t-lt8
-returns-then-t-lt8 c = let a = c.args in c.requires.row_at a.t (omega arith)
-
 pub returns : goal.returns
-returns c = let a = c.args in c.requires.other ∙ sym (weighed_out a.t (omega arith))
+returns c = row_at c.args.t c.from.result (c.from.ensures ∙ c.min.ensures)

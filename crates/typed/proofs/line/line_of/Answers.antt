@@ -6,8 +6,7 @@ pub returns-then-par-lt10 : goal.returns-then-par-lt10
 returns-then-par-lt10 c = line_1 c.args.par _ (omega arith) c.digit.ensures
 
 pub returns-then-par-lt100 : goal.returns-then-par-lt100
-returns-then-par-lt100 c =
-    line_2 c.args.par _ _ (omega arith) (omega arith) c.digit-then-par-lt100.ensures c.digit-then-par-lt100-2.ensures
+returns-then-par-lt100 c = line_2 c.args.par _ _ (omega arith) (omega arith) c.digit-then-par-lt100.ensures c.digit-then-par-lt100-2.ensures
 
 pub returns-then-par-lt1000 : goal.returns-then-par-lt1000
 returns-then-par-lt1000 c =

@@ -1,0 +1,4 @@
+pub mod Packed
+pub mod Rules
+pub mod Halves
+pub mod Tables

@@ -15,16 +15,13 @@ use Rattle.gf256.specs.Gf256.{gf256}
 use Rattle.gf256.proofs.Field256.{field256}
 use Rattle.values.specs.declared.Errata.{Errata}
 use Rattle.errata.specs.Errata.{at, Bytes5, cells_of, values_of, Corrects, Beyond}
-use Rattle.std.specs.Prelude.{Result, Ok, Err, None}
+use Rattle.std.specs.Prelude.{Result, Ok, Err}
 use Rattle.rules.specs.declared.Refusal.{Refusal}
 use Rattle.rules.specs.Refusal.{Rule, unless, First, Hold, number_of}
 use Rattle.rules.proofs.Laws.{some_number, hold_first, after, Alike, first_alike}
 use Rattle.code.specs.Word.{word_most}
 use Rattle.marks.specs.declared.Counts.{Counts}
-use Rattle.marks.specs.declared.Listed.{Listed}
-use Rattle.marks.specs.Marks.{CountsAll, AllOf, ListedIn}
-use Rattle.account.specs.Lanes.{lane}
-use Rattle.remainder.proofs.LanesOf.{lane_word}
+use Rattle.marks.specs.Marks.{CountsAll}
 use Rattle.code.specs.Repair.{repaired_numbers, entering_word, repairing, Repairs, RepairsAs, Searchable}
 use Rattle.marks.proofs.Counting.{counts_are}
 
@@ -63,15 +60,6 @@ as_is marks w f cells values en ef h cw kw lc lv = record {
 -- six marks are beyond reach
 pub too_many : (marks r : List ℕ) (f : ℕ) → Searchable (length r) marks f → 5 < f → Beyond marks r
 too_many marks r f S h w cw kw hw = omega (arith, hw.few, S.count, ap (count_to (is_marked marks)) S.matched)
-
--- ---- a word is the one lane of one
-
-pub whole_list : (marks : List ℕ) (k : Listed) → AllOf (lane 1 0 marks) k → AllOf marks k
-whole_list marks k A = subst (λ (m : List ℕ). AllOf m k) (lane_word marks) A
-
-pub whole_many : (marks r : List ℕ) (f : ℕ) → Searchable (length r) marks f → ListedIn 1 0 marks None → Beyond marks r
-whole_many marks r f S h =
-    too_many marks r f S (omega (arith, S.count, subst (λ (m : List ℕ). 5 < count_to (is_marked m) (length m)) (lane_word marks) h))
 
 -- ---- repair
 

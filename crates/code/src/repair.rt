@@ -43,9 +43,9 @@ fn search(word: &[u8], marks: &[u8], f: usize) -> Option<Errata>
             values: [0; 5],
         });
     }
-    let marked = marks::list(marks, 1, 0)?;
+    let cells = marks::all(marks, f);
     let s = remainder::syndrome_of(r);
-    errata::find(s, marks.len(), marked.cells, marked.count)
+    errata::find(s, marks.len(), cells, f)
 }
 
 // The errata, added to the word.

@@ -24,7 +24,7 @@ pub fn write(data: &[u8], word: &mut [u8]) -> Result<usize, Refusal>
         return Err(Refusal::Buffer);
     }
     let checks = remainder::bytes(remainder::checks_of(data));
-    word[..m].copy_from_slice(data);
+    rules::copy(data, word);
     word[m..].copy_from_slice(&checks);
     Ok(m + 5)
 }

@@ -93,13 +93,13 @@ at_most_each ts = ((counts ts).few.1, (counts ts).few.2)
 
 module _ (ts : List ℕ) (x : ℕ) (short : length ts ≤ 961) (e : x ≡ weight ts) where
   -- each code is one of the version exactly where no more is counted than the four sums, or the pits beside them
-  early_tiles : (v : ℕ) → v < 2 → (x < 1099511627776 → AllTiles v ts) × (AllTiles v ts → x < 1099511627776)
+  pub early_tiles : (v : ℕ) → v < 2 → (x < 1099511627776 → AllTiles v ts) × (AllTiles v ts → x < 1099511627776)
   early_tiles v h = (
     λ z. subst (λ (m : ℕ). UpTo m ts) (sym (code_early v h)) (at_most 6 ts (omega (arith, e, (counts ts).sum, (counts ts).fewer, z))),
     λ f. omega (arith, e, (counts ts).sum, (counts ts).fewer, (counts ts).few, none_above 6 ts (subst (λ (m : ℕ). UpTo m ts) (code_early v h) f)),
   )
 
-  late_tiles : (v : ℕ) → 2 ≤ v → (x < 1125899906842624 → AllTiles v ts) × (AllTiles v ts → x < 1125899906842624)
+  pub late_tiles : (v : ℕ) → 2 ≤ v → (x < 1125899906842624 → AllTiles v ts) × (AllTiles v ts → x < 1125899906842624)
   late_tiles v h = (
     λ z. subst (λ (m : ℕ). UpTo m ts) (sym (code_late v h)) (at_most 7 ts (omega (arith, e, (counts ts).sum, (counts ts).fewer, z))),
     λ f. omega (arith, e, (counts ts).sum, (counts ts).fewer, (counts ts).short, (counts ts).few, none_above 7 ts (subst (λ (m : ℕ). UpTo m ts) (code_late v h) f)),

@@ -139,3 +139,51 @@ none_listed marks p f e z h = record {
   room = h;
   list = ap (λ (k : ℕ). take k p) z ∙ sym (drop_of_length-le (erasures marks) {i = zero} (omega (arith, count_places (is_marked marks) (length marks), e, z)));
 }
+
+-- ---- all f of a word
+
+module _ (marks p : List ℕ) (k i f : ℕ) (L : Listing marks p k i) (is : f ≡ count_to (is_marked marks) (length marks)) where
+  counted : k + length (places (is_marked marks) i) ≡ f
+  counted =
+      omega (
+        arith,
+        is,
+        count_places (is_marked marks) (length marks),
+        ap length L.list,
+        length-append (take k p) (places (is_marked marks) i),
+        length-take-le k p (omega (arith, L.room, L.few)),
+      )
+
+  pub some_left : k < f → 0 < i
+  some_left h = go i counted
+    where
+      go : (j : ℕ) → k + length (places (is_marked marks) j) ≡ f → 0 < j
+      go zero e = absurd (omega arith)
+      go (suc j) e = omega arith
+
+  pub none_to_come : i ≡ 0 → k ≡ f
+  none_to_come z =
+      let e : length (places (is_marked marks) i) ≡ 0 = ap (λ (j : ℕ). length (places (is_marked marks) j)) z in
+      omega (arith, counted, e)
+
+  pub all_gathered : k ≡ f → Gathered marks (five p) f
+  all_gathered e = record { room = refl; list = ap (λ (j : ℕ). take j (five p)) (sym e) ∙ five_front p L.room k L.few ∙ all }
+    where
+      all : take k p ≡ erasures marks
+      all =
+          sym (append-nil (take k p)) ∙ ap (λ (l : List ℕ). take k p ++ l) (sym (drop_of_length-le (places (is_marked marks) i) {i = zero} (omega (arith, counted, e)))) ∙ L.list
+
+  -- one cell more
+  module _ (q : List ℕ) (r : ℕ) (h : 0 < i) (u : Pushed (get_or marks (i - 1) 0) (i - 1) p k q r) where
+    pub one_more : r ≤ k + 1
+    one_more = go (ℕ_discrete (get_or marks (i - 1) 0) 0)
+      where
+        go : Dec (get_or marks (i - 1) 0 ≡ 0) → r ≤ k + 1
+        go (yes z) = omega (arith, u.none z)
+        go (no n) = omega (arith, u.some n)
+
+    pub word_goes : r ≤ 5 → Listing marks q r (i - 1)
+    word_goes = list_goes marks p q k r (i - 1) (subst (Listing marks p k) back L) u
+      where
+        back : i ≡ suc (i - 1)
+        back = omega arith

@@ -2,8 +2,9 @@
 // change, counted by their marks.
 #![tactic(auto)]
 
-ghost use Rattle.std.specs.Prelude.{◌≤◌, ◌<◌, length};
-ghost use Rattle.values.specs.Values.{cells_of, values_of, ErrataFor};
+ghost use Rattle.std.specs.Prelude.{◌≡◌, ◌≤◌, ◌<◌, length};
+ghost use Rattle.account.specs.Reach.{count_to, is_marked};
+ghost use Rattle.values.specs.Values.{Gathered, cells_of, values_of, ErrataFor};
 ghost use Rattle.marks.specs.Marks.{Tallied, AnyOf, SumOf, Pushed, ListedIn, CountsOne, CountsAll};
 
 // All marks or-ed together. One pass with no branch and nothing else in it, so that it runs wide.
@@ -64,7 +65,7 @@ fn push(cells: &mut [usize; 6], k: usize, mark: u8, i: usize) -> usize
     k + usize::from(mark != 0)
 }
 
-// The marked cells of lane l, or nothing where there are more than five. A word is the one lane of one.
+// The marked cells of lane l, or nothing where there are more than five.
 pub fn list(marks: &[u8], lanes: usize, l: usize) -> Option<Listed>
     requires { (l < lanes) × (lanes ≤ 16) × (length marks.now ≤ 4096) }
     ensures { ListedIn lanes l marks.now result }
@@ -81,6 +82,23 @@ pub fn list(marks: &[u8], lanes: usize, l: usize) -> Option<Listed>
         count: k,
         cells: [cells[0], cells[1], cells[2], cells[3], cells[4]],
     })
+}
+
+// The f marked cells of a word, the last first. It ends with the last one that there is, and most words have none at all: with no marks nothing is
+// looked at.
+pub fn all(marks: &[u8], f: usize) -> [usize; 5]
+    requires { (f ≡ count_to (is_marked marks.now) (length marks.now)) × (f ≤ 5) }
+    ensures { Gathered marks.now result f }
+{
+    let mut cells = [0usize; 6];
+    let mut k: usize = 0;
+    for i in (0..marks.len()).rev() {
+        if k == f {
+            break;
+        }
+        k = push(&mut cells, k, marks[i], i);
+    }
+    [cells[0], cells[1], cells[2], cells[3], cells[4]]
 }
 
 // How many cells errata change: of those that were read, which are mended, and of the marked ones, which are repainted.

@@ -54,20 +54,22 @@ module _ (cells bytes : List ℕ) (a : ℕ) (w : List ℕ) where
 -- ---- a window filled
 
 -- a part of the strip, copied to the front
-shown : (s x rest : List ℕ) (a n : ℕ) → a + n ≤ length s → x ≡ take (a + n - a) (drop a s) → Shows s a n (x ++ rest)
-shown s x rest a n h e q l =
-    get_or-append x rest 0 q (omega (arith, long, ap length e))
-    ∙ ap (λ (y : List ℕ). get_or y q 0) e
+pub shown : (s old w : List ℕ) (a n : ℕ) → a + n ≤ length s → w ≡ take (a + n - a) (drop a s) ++ drop (length (take (a + n - a) (drop a s))) old
+    → Shows s a n w
+shown s old w a n h e q l =
+    ap (λ (x : List ℕ). get_or x q 0) e
+    ∙ get_or-append (take (a + n - a) (drop a s)) (drop (length (take (a + n - a) (drop a s))) old) 0 q (omega (arith, long))
     ∙ get_or-take (a + n - a) (drop a s) q 0 (omega arith) ∙ get_or-drop a s q 0
   where
     long : length (take (a + n - a) (drop a s)) ≡ n
     long = length-take-le (a + n - a) (drop a s) (omega (arith, length-drop a s)) ∙ omega arith
 
-pub window_shown : (s cells bytes x rest w' : List ℕ) (count a b n : ℕ) → n ≡ min 186 (b - a) → a ≤ b → b ≤ length s
-    → x ≡ take (a + n - a) (drop a s) → WindowPatched cells bytes count a (x ++ rest) w' → Shown s cells bytes count a b w' n
-window_shown s cells bytes x rest w' count a b n size order inside e P = record {
+pub window_shown : (s cells bytes old w w' : List ℕ) (count a b n : ℕ) → n ≡ min 186 (b - a) → a ≤ b → b ≤ length s
+    → w ≡ take (a + n - a) (drop a s) ++ drop (length (take (a + n - a) (drop a s))) old → WindowPatched cells bytes count a w w'
+    → Shown s cells bytes count a b w' n
+window_shown s cells bytes old w w' count a b n size order inside e P = record {
   most = omega arith;
   before = omega arith;
   full = omega arith;
-  shows = P.shows s n (omega arith) (omega arith) (shown s x rest a n (omega arith) e);
+  shows = P.shows s n (omega arith) (omega arith) (shown s old w a n (omega arith) e);
 }

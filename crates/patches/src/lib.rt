@@ -65,7 +65,7 @@ pub fn show(strip: &[u8], fixes: &Fixes, from: usize, to: usize, scratch: &mut [
     ensures { Shown strip.now fixes.now.cells fixes.now.bytes fixes.now.count from to scratch.new result }
 {
     let n = WINDOW.min(to - from);
-    scratch[..n].copy_from_slice(&strip[from..from + n]);
+    rules::copy(&strip[from..from + n], scratch);
     patch(fixes, from, scratch);
     n
 }

@@ -30,9 +30,9 @@ pub fn accept(upto: usize, bs: &[u8], lanes: usize, tiles: &mut [u8]) -> Result<
     requires { Within record_least filled_most (length bs.now) × Within 1 16 lanes × (tiles_most ≤ length tiles.old) }
     ensures { AcceptedAs upto lanes bs.now tiles.old tiles.new result }
 {
-    let f = judge(upto, bs, lanes)?;
-    tiles::put::unpack(&bs[3..], f.width * f.height, tiles);
-    Ok(f)
+    let judged = judge(upto, bs, lanes)?;
+    tiles::put::unpack(&bs[3..], judged.width * judged.height, tiles);
+    Ok(judged)
 }
 
 // Reads a record of a version up to one of them.

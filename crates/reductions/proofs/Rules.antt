@@ -95,7 +95,7 @@ own_digits : (v : ℕ) → v < 256 → digits v (λ j. 2 ^ j) ≡ v
 unfolding digits bit_times
 own_digits v h = eqb→eq (digits v (λ j. 2 ^ j)) v (upto_at (λ x. eqb (digits x (λ j. 2 ^ j)) x) 256 tt v h)
 
-reduction_right : (k : ℕ) (t : List ℕ) → T (reduces k t) → (v : ℕ) → v < 256 → Reduced k v (get_or t v 0)
+pub reduction_right : (k : ℕ) (t : List ℕ) → T (reduces k t) → (v : ℕ) → v < 256 → Reduced k v (get_or t v 0)
 unfolding reduces sum bit
 reduction_right k t ok v h =
     subst (λ (b : ℕ). Reduced k b (get_or t v 0)) (own_digits v h)

@@ -124,7 +124,7 @@ module _ (R : ℕ) (some : 0 < R) where
       below h =
           ⊎_elim (λ l. l) (λ l. absurd (omega (arith, W.at, all, mul-le-mul_left (5 * R) l))) (lt_or_ge W.m (length s / (5 * R)))
 
-      row_fits : q < length s → q + 5 * R ≤ length s
+      pub row_fits : q < length s → q + 5 * R ≤ length s
       row_fits h = omega (arith, W.at, all, mul-le-mul_left (5 * R) (below h), mul-suc (5 * R) W.m)
 
       pub rows_more : (x' : List ℕ) → q < length s → length x' ≡ length x → RowMoved R s q x x' → Rows R s o x' (q + 5 * R)
@@ -270,7 +270,7 @@ zero_room R l a b e t = record { some = a; few = b; long = e; small = λ j h. om
 -- ---- what the whole asks
 
 module _ (R : ℕ) (some : 0 < R) (s : List ℕ) where
-  all_inside : R * (length s / R) ≤ length s
+  pub all_inside : R * (length s / R) ≤ length s
   all_inside = mul-div-le (length s) R
 
   pub rest_whole : length (take (R * (length s / R) - R * (length s / R % 5)) (drop (R * (length s / R % 5)) s)) % (5 * R) ≡ 0

@@ -1,4 +1,5 @@
 pub mod Laws
 pub mod Tests
+pub mod Copying
 pub mod Numbers
 pub mod Placing

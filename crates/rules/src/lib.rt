@@ -1,7 +1,8 @@
-// What every floor may stand on: the refusals of FORMAT 9. The rules that ask for them, and what a test says, are in specs/.
+// What every floor may stand on: the refusals of FORMAT 9, and a plain copy of bytes. The rules that ask for refusals, and what a test says, are
+// in specs/.
 #![tactic(auto)]
 
-ghost use Rattle.std.specs.Prelude.{◌≡◌};
+ghost use Rattle.std.specs.Prelude.{◌≡◌, ◌++◌, ◌≤◌, length, drop};
 ghost use Rattle.rules.specs.Refusal.{number_of};
 
 // Why an entry refuses, each with its number.
@@ -30,5 +31,16 @@ impl Refusal {
         ensures { result ≡ number_of self }
     {
         self as u8
+    }
+}
+
+// The bytes, in front of a buffer that has room for them. Where both are lent, the library's copy asks C for `memmove`, and an archive for C is to
+// need no name that it can do without.
+pub fn copy(from: &[u8], to: &mut [u8])
+    requires { length from.now ≤ length to.old }
+    ensures { to.new ≡ from.now ++ drop (length from.now) to.old }
+{
+    for i in 0..from.len() {
+        to[i] = from[i];
     }
 }

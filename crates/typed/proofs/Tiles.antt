@@ -45,6 +45,25 @@ among_letters c r e =
     subst (λ (b : Bool). Says b (tile_of c ≤ 6)) (sym e)
     (among_in letters (omega arith, (omega arith, (omega arith, (omega arith, (omega arith, (omega arith, (omega arith, (omega arith, tt)))))))) c)
 
+-- beside N, the byte is none of the letters
+abbrev None : List Letter → Type 0 → ℕ → Type 0
+None [] N c = N
+None (l ∷ ls) N c = None ls (N × (c ≡ l.letter → ⊥)) c
+
+beside : (ls : List Letter) (N : Type 0) (c : ℕ) → None ls N c → N
+beside [] N c n = n
+beside (l ∷ ls) N c n = (beside ls (N × (c ≡ l.letter → ⊥)) c n).0
+
+none_in : (ls : List Letter) (N : Type 0) (c : ℕ) → None ls N c → tile_in ls c ≡ 7
+none_in [] N c n = refl
+none_in (l ∷ ls) N c n =
+    rw (ne_eqb l.letter c (λ e. (beside ls (N × (c ≡ l.letter → ⊥)) c n).1 (sym e))) (none_in ls (N × (c ≡ l.letter → ⊥)) c n)
+
+-- such a byte has tile 7
+pub no_letter : (c : ℕ) → None letters (Unit {0}) c → 7 ≡ tile_of c
+unfolding tile_of
+no_letter c n = sym (none_in letters (Unit {0}) c n)
+
 -- a line feed is none
 feed_none : tile_of 10 ≡ 7
 unfolding tile_of
@@ -68,7 +87,7 @@ letter_tile (suc (suc (suc (suc (suc (suc zero)))))) h = refl
 letter_tile (suc (suc (suc (suc (suc (suc (suc t))))))) h = absurd (omega arith)
 
 -- by the letters in a row
-pub letter_at : (t : ℕ) → t ≤ 6 → get_or (45 ∷ 35 ∷ 36 ∷ 46 ∷ 42 ∷ 64 ∷ 43 ∷ 32 ∷ []) t 0 ≡ letter_of t
+pub letter_at : (t : ℕ) → t ≤ 6 → get_or (45 ∷ 35 ∷ 36 ∷ 46 ∷ 42 ∷ 64 ∷ 43 ∷ []) t 0 ≡ letter_of t
 unfolding letter_of
 letter_at zero h = refl
 letter_at (suc zero) h = refl

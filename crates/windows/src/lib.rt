@@ -104,7 +104,14 @@ pub fn accept(
     requires { Lent strip.now to (length scratch.old) × Within 1 16 lanes × (tiles_most ≤ length tiles.old) }
     ensures { AcceptedAs upto lanes (record_in strip.now fixes.now to) tiles.old tiles.new result }
 {
-    let f = judge(upto, strip, fixes, lanes, to, scratch)?;
-    unpack(strip, fixes, to, f.width * f.height, tiles, scratch);
-    Ok(f)
+    let judged = judge(upto, strip, fixes, lanes, to, scratch)?;
+    unpack(
+        strip,
+        fixes,
+        to,
+        judged.width * judged.height,
+        tiles,
+        scratch,
+    );
+    Ok(judged)
 }

@@ -10,23 +10,23 @@ use Rattle.windows.specs.Windows.{record_in}
 use Rattle.windows.proofs.Weighing.{length_record}
 use Rattle.windows.proofs.accept.Goals as goal
 
-pub returns-in_err-f : goal.returns-in_err-f
-returns-in_err-f c =
+pub returns-in_err-judged : goal.returns-in_err-judged
+returns-in_err-judged c =
     let a = c.args in
     let p = err_from_is_err_and c.from_residual.result c.from_residual.ensures.1 in
-    rw (p.1, p.2) (rejected a.upto a.lanes (record_in a.strip.now a.fixes.now a.to) a.tiles.now c.in_err-f.field-0.0 c.in_err-f.ensures)
+    rw (p.1, p.2) (rejected a.upto a.lanes (record_in a.strip.now a.fixes.now a.to) a.tiles.now c.in_err-judged.field-0.0 c.in_err-judged.ensures)
 
-pub overflow_mul-f : goal.overflow_mul-f
-overflow_mul-f c = omega (arith, c.in_ok-f.ensures.spells.few)
+pub overflow_mul-judged : goal.overflow_mul-judged
+overflow_mul-judged c = omega (arith, c.in_ok-judged.ensures.spells.few)
 
 pub unpack-requires : goal.unpack-requires
 unpack-requires c =
     let a = c.args in
     let bs = record_in a.strip.now a.fixes.now a.to in
-    let J = c.in_ok-f.ensures in
+    let J = c.in_ok-judged.ensures in
     let few = J.spells.few in
     let e = length_record a.strip.now a.fixes.now a.to c.requires.0.inside in
-    let room = room_for a.upto a.lanes bs a.tiles.now c.in_ok-f.f J c.requires.1.from in (
+    let room = room_for a.upto a.lanes bs a.tiles.now c.in_ok-judged.judged J c.requires.1.from in (
       record { some = c.requires.0.some; short = c.requires.0.short; inside = c.requires.0.inside; room = omega (arith, c.judge.auto.scratch, c.requires.0.room) },
       few,
       omega (arith, room, length_part bs, e, c.requires.0.some),
@@ -37,6 +37,6 @@ pub returns : goal.returns
 returns c =
     let a = c.args in
     let bs = record_in a.strip.now a.fixes.now a.to in
-    let f = c.in_ok-f.f in
-    accepted a.upto a.lanes bs a.tiles.now f c.in_ok-f.ensures _
+    let f = c.in_ok-judged.judged in
+    accepted a.upto a.lanes bs a.tiles.now f c.in_ok-judged.ensures _
     (c.unpack.ensures ∙ ap (λ (ts : List ℕ). ts ++ drop (f.width * f.height) a.tiles.now) (sym (tiles_from_part bs (f.width * f.height))))
